@@ -1,0 +1,81 @@
+-- Laws of writing into a lent buffer, for the proofs of writers: the exits of a writer, and one writing after another.
+use mathlib.Core.Path.{_≡_, refl, sym, ap, _∙_}
+use mathlib.Core.List.{List, [], _∷_, _++_, append-assoc, append-nil}
+use mathlib.Core.Bool.{true, false}
+use Prim.Native.Nat.{ℕ, _+_, _-_, _≤_, _<_}
+use native.Mathlib.Omega.{arith}
+use lib.Dec.{leb}
+use borrow.Author.Tests.{le-leb, lt-leb}
+use borrow.Rule.Slice.PartMut.{putMid}
+use lib.ListN.{length, take, drop, set, length-append, length-drop, drop-of-length-le}
+use lib.Seq.{take-all, take-at, drop-at, drop-drop, length-take-le, take-append-add, drop-append-add}
+use Rattle.codec.specs.Answers.{wrote, denied}
+use Rattle.codec.specs.Format.{Format, Verdict, allowed, barred, over, putAnswer, putBuffer, lengthAnswer}
+
+-- ---- the exits of a writer, by the tests 5, 3 and 4
+module _ (d : Verdict) (bs l : List ℕ) where
+  pub put-barred : (k : ℕ) → d ≡ barred k → (denied k ≡ putAnswer d bs (length l)) × (l ≡ putBuffer d bs l)
+  unfolding putAnswer putBuffer
+  put-barred k e = (rw e, rw e)
+
+  module _ (e : d ≡ allowed) (n : ℕ) (long : n ≡ length bs) where
+    pub put-full : length l < n → (denied 4 ≡ putAnswer d bs (length l)) × (l ≡ putBuffer d bs l)
+    unfolding putAnswer putBuffer
+    put-full h =
+        let k : leb (length bs) (length l) ≡ false = lt-leb (length bs) (length l) (omega arith) in
+        (rw (e, k), rw (e, k))
+
+    pub put-fits : n ≤ length l → (wrote n ≡ putAnswer d bs (length l)) × (over bs l ≡ putBuffer d bs l)
+    unfolding putAnswer putBuffer
+    put-fits h =
+        let k : leb (length bs) (length l) ≡ true = le-leb (length bs) (length l) (omega arith) in
+        (rw (e, k) (ap wrote long), rw (e, k))
+
+-- where there is room, putting is writing over
+pub put-over : (bs l : List ℕ) → length bs ≤ length l → putBuffer allowed bs l ≡ over bs l
+put-over bs l h = sym (put-fits allowed bs l refl (length bs) refl h .1)
+
+-- the exits of a written length
+module _ {A : Type 0} (f : Format A) (v : A) where
+  pub length-barred : (k : ℕ) → f .check v ≡ barred k → denied k ≡ lengthAnswer f v
+  unfolding lengthAnswer
+  length-barred k e = rw e
+
+  pub length-allowed : (n : ℕ) → f .check v ≡ allowed → n ≡ length (f .encode v) → wrote n ≡ lengthAnswer f v
+  unfolding lengthAnswer
+  length-allowed n e long = rw e (ap wrote long)
+
+-- ---- a part that goes to the end, lent and come back as ys
+pub to-end : (n : ℕ) (l : List ℕ) → take (length l - n) (drop n l) ≡ drop n l
+to-end n l = take-all (length l - n) (drop n l) (rw length-drop (omega arith))
+
+pub put-end : (n : ℕ) (l ys : List ℕ) → putMid n (length l - n) l ys ≡ take n l ++ ys
+put-end n l ys =
+    let h : length (drop n l) ≤ length l - n = rw length-drop (omega arith) in
+    rw (drop-of-length-le (drop n l) h, append-nil ys)
+
+pub put-end-long : (n : ℕ) (l ys : List ℕ) → n ≤ length l → length ys ≡ length (take (length l - n) (drop n l))
+    → length (putMid n (length l - n) l ys) ≡ length l
+put-end-long n l ys h e =
+    ap length (put-end n l ys) ∙ rw (length-append, length-take-le n l h, e, to-end n l, length-drop) (omega arith)
+
+-- ---- one writing after another
+pub over-then : (l a b : List ℕ) → take (length a) (over a l) ++ over b (drop (length a) (over a l)) ≡ over (a ++ b) l
+over-then l a b =
+    rw (take-at a (drop (length a) l) (length a) refl, drop-at a (drop (length a) l) (length a) refl, drop-drop, length-append) (sym (append-assoc a b (drop (length a + length b) l)))
+
+-- the same from a place on: what is left to write, after a was written from `at` on
+pub over-turn : (l a b : List ℕ) (at : ℕ) → at ≤ length l
+    → take at l ++ over (a ++ b) (drop at l)
+    ≡ take (at + length a) (take at l ++ over a (drop at l)) ++ over b (drop (at + length a) (take at l ++ over a (drop at l)))
+over-turn l a b at h =
+    let p = over a (drop at l) in
+    let k : length (take at l) ≡ at = length-take-le at l h in
+    let t : take (at + length a) (take at l ++ p) ≡ take at l ++ take (length a) p = rw k at (take-append-add (take at l) p (length a)) in
+    let d : drop (at + length a) (take at l ++ p) ≡ drop (length a) p = rw k at (drop-append-add (take at l) p (length a)) in
+    rw (t, d, ← (over-then (drop at l) a b)) (sym (append-assoc (take at l) (take (length a) p) (over b (drop (length a) p))))
+
+-- a byte set at the start, then bytes after it
+pub over-cons : (l bs : List ℕ) (x : ℕ) → 1 ≤ length l → take 1 (set l 0 x) ++ over bs (drop 1 (set l 0 x)) ≡ over (x ∷ bs) l
+over-cons [] bs x h = absurd (omega arith)
+over-cons (y ∷ l) bs x h = refl

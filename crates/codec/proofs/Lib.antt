@@ -1,0 +1,9 @@
+pub mod Bytes
+pub mod Readers
+pub mod Relaxes
+pub mod Bounded
+pub mod Lawful
+pub mod Writings
+pub mod Demand3
+pub mod Header
+pub mod Lending

@@ -1,0 +1,35 @@
+-- What readers and writers answer, with the numbers of docs/FORMAT.md, "Refusals".
+use mathlib.Core.List.{List}
+use Prim.Native.Nat.{ℕ, _<_}
+use lib.ListN.{getD}
+use Rattle.codec.specs.declared.Decoded.{Decoded}
+use Rattle.codec.specs.declared.Decoded.the-variants as decoded
+use Rattle.codec.specs.declared.Encoded.{Encoded}
+use Rattle.codec.specs.declared.Encoded.the-variants as encoded
+
+-- a reading: the value and the bytes consumed, or a refusal's number
+pub data Answer (A : Type 0) : Type 0 where
+  accepted : A → ℕ → Answer A
+  refused : ℕ → Answer A
+
+-- a writing: the length written, or a refusal's number
+pub data Outcome : Type 0 where
+  wrote : ℕ → Outcome
+  denied : ℕ → Outcome
+
+-- every element is a byte: the form in which a slice of u8 gives it
+abbrev pub AllBytes : List ℕ → Type 0
+AllBytes s = (i : ℕ) → getD s i 0 < 256
+
+-- the numbers of the code's answers; `a` is the value that stands beside a reader's
+abbrev pub answerOf : {A : Type 0} → Decoded → A → Answer A
+answerOf (decoded.Consumed n) a = accepted a n
+answerOf decoded.EndOfInput a = refused 1
+answerOf decoded.TheirFault a = refused 2
+answerOf decoded.Malformed a = refused 5
+
+abbrev pub outcomeOf : Encoded → Outcome
+outcomeOf (encoded.Length n) = wrote n
+outcomeOf encoded.Outside = denied 3
+outcomeOf encoded.NoRoom = denied 4
+outcomeOf encoded.Malformed = denied 5

@@ -1,0 +1,72 @@
+-- What writing a value gives: the tests 5 and 3, the bytes, and what stands in the lent buffer afterwards.
+use mathlib.Core.Path.{_≡_}
+use mathlib.Core.List.{List, _++_}
+use mathlib.Core.Bool.{Bool, true, false}
+use Prim.Native.Nat.{ℕ}
+use lib.Dec.{leb}
+use lib.ListN.{length, drop}
+use Rattle.codec.specs.Answers.{Outcome, wrote, denied}
+
+-- what the tests before the length say of a value: 5, then 3
+pub data Verdict : Type 0 where
+  allowed : Verdict
+  barred : ℕ → Verdict
+
+-- well formed, else 5; inside the reference, else 3
+abbrev pub verdictBy : Bool → Bool → Verdict
+verdictBy false inside = barred 5
+verdictBy true false = barred 3
+verdictBy true true = allowed
+
+-- how values of a type are written, against one reference
+pub record Format (A : Type 0) : Type 0 where
+  pub check : A → Verdict
+  pub encode : A → List ℕ
+
+-- what the language says of every value of a type, and no test of the program does (an array's length, an element's size), is `Typed`;
+-- a value that writing does not refuse, room aside
+pub record Valid {A : Type 0} (Typed : A → Type 0) (f : Format A) (v : A) : Type 0 where
+  pub typed : Typed v
+  pub allows : f .check v ≡ allowed
+
+-- the bytes e are what writing the value gives
+pub record Writes {A : Type 0} (Typed : A → Type 0) (f : Format A) (v : A) (e : List ℕ) : Type 0 where
+  pub valid : Valid Typed f v
+  pub bytes : e ≡ f .encode v
+
+-- bytes over the start of a buffer that is long enough
+abbrev pub over : List ℕ → List ℕ → List ℕ
+over bs lent = bs ++ drop (length bs) lent
+
+-- the tests of a writing in their order: the verdict, then the room (4)
+abbrev pub outcomeBy : Verdict → Bool → ℕ → Outcome
+outcomeBy (barred k) fits n = denied k
+outcomeBy allowed true n = wrote n
+outcomeBy allowed false n = denied 4
+
+abbrev pub bufferBy : Outcome → List ℕ → List ℕ → List ℕ
+bufferBy (wrote n) bs lent = over bs lent
+bufferBy (denied k) bs lent = lent
+
+-- writing the bytes bs into a lent buffer, after the verdict on their value: the answer, and the buffer afterwards
+unfoldable pub putAnswer : Verdict → List ℕ → ℕ → Outcome
+putAnswer d bs room = outcomeBy d (leb (length bs) room) (length bs)
+
+unfoldable pub putBuffer : Verdict → List ℕ → List ℕ → List ℕ
+putBuffer d bs lent = bufferBy (putAnswer d bs (length lent)) bs lent
+
+-- writing a value
+module _ {A : Type 0} (f : Format A) where
+  abbrev pub writeAnswer : A → ℕ → Outcome
+  writeAnswer v room = putAnswer (f .check v) (f .encode v) room
+
+  abbrev pub writeBuffer : A → List ℕ → List ℕ
+  writeBuffer v lent = putBuffer (f .check v) (f .encode v) lent
+
+  -- written length refuses as writing does, 4 aside
+  unfoldable pub lengthAnswer : A → Outcome
+  lengthAnswer v = outcomeBy (f .check v) true (length (f .encode v))
+
+-- the values of a format in another shape: apart takes a value to the format's own
+abbrev pub reshaped : {A B : Type 0} → Format A → (B → A) → (B → Verdict) → Format B
+reshaped f apart check = record { check = check; encode = λ b. f .encode (apart b) }

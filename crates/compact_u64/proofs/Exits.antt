@@ -1,0 +1,100 @@
+-- What the readers' and writers' definitions answer at each exit of the code.
+use mathlib.Core.Path.{_≡_, refl, ap, _∙_, sym}
+use mathlib.Core.List.{List, [], _∷_, _++_}
+use mathlib.Core.Bool.{Bool, true, false, cond}
+use mathlib.Core.Logic.{⊎-elim}
+use Prim.Native.Nat.{_-_, ℕ, _+_, _^_, _≤_, _<_}
+use native.Mathlib.Numerals.{add-one}
+use native.Mathlib.Omega.{arith}
+use denote.Enum.Declared as declared
+use types.Run.{OneOf}
+use lib.Dec.{eqb}
+use lib.ListN.{length, take, drop, set, getD, drop-of-length-le}
+use lib.Seq.{drop-cons}
+use borrow.Author.Tests.{lt-ltb, le-ltb, le-leb, lt-leb, eq-eqb}
+use Rattle.codec.specs.Answers.{accepted, refused}
+use Rattle.codec.specs.Format.{allowed, over, putBuffer}
+use Rattle.codec.specs.Reader.{shift, passed}
+use Rattle.codec.proofs.Lending.{put-over}
+use Rattle.compact_u64.specs.BigEndian.{bigEndian, valueOf}
+use Rattle.compact_u64.specs.Number.{inlineLimit, widthExponent, minTag, encodingWidth, numberBytes, numberSaid, standaloneBytes, readNumber, readStandalone}
+use Rattle.compact_u64.specs.Answers.{bits, numberAnswer}
+use Rattle.compact_u64.specs.declared.TagWidth.{TagWidth}
+use Rattle.compact_u64.specs.declared.TagWidth.the-variants as width
+use Rattle.compact_u64.specs.declared.DecodedU64.{DecodedU64}
+use Rattle.compact_u64.specs.declared.DecodedU64.the-variants as decoded
+use Rattle.compact_u64.proofs.BigEndian.{length-bigEndian}
+use Rattle.compact_u64.proofs.Tags.{width-inline, width-sized, length-numberBytes}
+
+-- the four tags after which bytes follow
+pub four-tags : (w : TagWidth) → 2 ^ bits w ≡ inlineLimit (bits w) + 4
+four-tags width.Two = refl
+four-tags width.Three = refl
+four-tags width.Four = refl
+four-tags width.Eight = refl
+
+-- ---- reading after a tag
+module _ (canonic : Bool) (w tag : ℕ) (s : List ℕ) where
+  pub read-misfit : 2 ^ w ≤ tag → readNumber canonic w tag s ≡ refused 2
+  unfolding readNumber
+  read-misfit h = rw (le-ltb tag (2 ^ w) h)
+
+  pub read-inline : tag < inlineLimit w → readNumber canonic w tag s ≡ accepted tag 0
+  unfolding readNumber encodingWidth numberSaid minTag
+  read-inline h =
+      let t : tag < 2 ^ w = omega arith in
+      rw (lt-ltb tag (2 ^ w) t, lt-ltb tag (inlineLimit w) h, le-leb 0 (length s) (omega arith), lt-ltb tag (inlineLimit w) h) (go canonic)
+    where
+      go : (b : Bool) → passed (cond b (eqb (minTag w tag) tag) true) (accepted tag 0) ≡ accepted tag 0
+      go true = rw (lt-ltb tag (inlineLimit w) h, eq-eqb tag tag refl)
+      go false = refl
+
+  module _ (h : inlineLimit w ≤ tag) (t : tag < 2 ^ w) (n : ℕ) (e : n ≡ 2 ^ (tag - inlineLimit w)) where
+    pub read-short : length s < n → readNumber canonic w tag s ≡ refused 1
+    unfolding readNumber encodingWidth
+    read-short l = rw (lt-ltb tag (2 ^ w) t, le-ltb tag (inlineLimit w) h, ← e, lt-leb n (length s) l)
+
+    -- the bytes are there: strict asks for the tag
+    pub read-bytes : n ≤ length s → readNumber canonic w tag s
+        ≡ passed (cond canonic (eqb (minTag w (valueOf (take n s))) tag) true) (accepted (valueOf (take n s)) n)
+    unfolding readNumber encodingWidth numberSaid
+    read-bytes l = rw (lt-ltb tag (2 ^ w) t, le-ltb tag (inlineLimit w) h, ← e, le-leb n (length s) l, le-ltb tag (inlineLimit w) h)
+
+-- ---- reading a standalone number
+pub standalone-none : (canonic : Bool) (s : List ℕ) (i : ℕ) → length s ≤ i → readStandalone canonic (drop i s) ≡ refused 1
+standalone-none canonic s i h = rw (drop-of-length-le s h)
+
+pub standalone-some : (canonic : Bool) (s : List ℕ) (i : ℕ) → i < length s
+    → readStandalone canonic (drop i s) ≡ shift 1 (readNumber canonic 8 (getD s i 0) (drop (i + 1) s))
+standalone-some canonic s i h = rw (drop-cons s i 0 h, add-one i)
+
+-- a refusal is the same, one byte later
+pub no-value : (x : DecodedU64) (k : ℕ) → OneOf (1 ∷ 2 ∷ []) (declared.tagOf Rattle.compact_u64.proofs.DecodedU64.the-type x) → shift k (numberAnswer x) ≡ numberAnswer x
+no-value (decoded.Value n u) k h = absurd (⊎-elim (λ e. omega arith) (λ e. omega arith) h)
+no-value decoded.EndOfInput k h = refl
+no-value decoded.TheirFault k h = refl
+
+-- ---- written lengths
+pub inline-length : (w v : ℕ) → v < inlineLimit w → (0 ≡ length (numberBytes w v)) × (0 ≤ 8)
+unfolding minTag
+inline-length w v h = (sym (length-numberBytes w v ∙ rw (lt-ltb v (inlineLimit w) h) (width-inline w v h)), omega arith)
+
+pub sized-length : (w v n : ℕ) → inlineLimit w ≤ v → (k : ℕ) → (n ≡ 2 ^ k) × (1 ≤ n) × (n ≤ 8) → (k ≡ widthExponent v) × (k < 4) → (n ≡ length (numberBytes w v)) × (n ≤ 8)
+unfolding minTag
+sized-length w v n h k f s =
+    let b : inlineLimit w ≤ inlineLimit w + widthExponent v = omega arith in
+    let d : inlineLimit w + widthExponent v - inlineLimit w ≡ k = omega (arith, s .0) in
+    (f .0 ∙ sym (length-numberBytes w v ∙ rw (le-ltb v (inlineLimit w) h) (width-sized w (inlineLimit w + widthExponent v) b ∙ ap (λ (j : ℕ). 2 ^ j) d)), f .2)
+
+-- ---- writing
+pub number-put : (w v n : ℕ) (l : List ℕ) → n ≡ length (numberBytes w v) → bigEndian n v ++ drop n l ≡ over (numberBytes w v) l
+unfolding numberBytes
+number-put w v n l e =
+    let width : encodingWidth w (minTag w v) ≡ n = sym (e ∙ length-numberBytes w v) in
+    rw (width, length-bigEndian n v)
+
+-- the tag's byte, then the bytes after it
+pub standalone-put : (l : List ℕ) (v t n : ℕ) → t ≡ minTag 8 v → n ≡ length (standaloneBytes v) → n ≤ length l
+    → take 1 (set l 0 t) ++ putBuffer allowed (numberBytes 8 v) (drop 1 (set l 0 t)) ≡ over (standaloneBytes v) l
+standalone-put [] v t n et en h = absurd (omega arith)
+standalone-put (x ∷ l) v t n et en h = rw (put-over (numberBytes 8 v) l (omega arith), et)

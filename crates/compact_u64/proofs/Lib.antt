@@ -1,0 +1,5 @@
+pub mod BigEndian
+pub mod Tags
+pub mod Number
+pub mod Standalone
+pub mod Exits

@@ -1,0 +1,57 @@
+use Rattle.compact_u64.proofs.Number.{number-bounded}
+use Prim.Native.Nat.{_+_}
+use mathlib.Core.Path.{_≡_, ap, _∙_, sym}
+use denote.Ref.{now}
+use native.Mathlib.Omega.{arith}
+use lib.ListN.{drop, length-drop}
+use Rattle.codec.specs.Reader.{shift}
+use Rattle.compact_u64.specs.Number.{readStandalone}
+use Rattle.compact_u64.specs.Answers.{numberAnswer}
+use Rattle.compact_u64.proofs.Exits.{standalone-none, standalone-some, no-value}
+use borrow.Author.Needs.{needs}
+use Rattle.compact_u64.proofs.decode.Statement.{statement}
+use Rattle.compact_u64.proofs.decode.Tie as tie
+
+told : (c : tie.After-relative-decode) → readStandalone (c .before .before .before .before .args .canonic) (drop (c .before .before .before .before .args .start) (now (c .before .before .before .before .args .message))) ≡ shift 1 (numberAnswer (c .relative-decode .result))
+told c = let a = c .before .before .before .before .args in standalone-some (a .canonic) (now (a .message)) (a .start) (c .before .before .if1 .left) ∙ ap (shift 1) (sym (c .relative-decode .ensures))
+
+returns : tie.Need-returns
+returns c = sym (standalone-none _ (now (c .before .before .args .message)) _ (c .if1 .taken))
+
+shared-slice-read-tag : tie.Need-shared-slice-read-tag
+shared-slice-read-tag c = search needs
+
+add-relative-decode : tie.Need-add-relative-decode
+add-relative-decode c = search needs
+
+relative-decode-requires : tie.Need-relative-decode-requires
+relative-decode-requires c κs = search needs
+
+enum-known-number : tie.Need-enum-known-number
+enum-known-number c = search needs
+
+returns-2 : tie.Need-returns-2
+returns-2 c = sym (told (c .before) ∙ no-value (c .before .relative-decode .result) 1 (c .match .keys2))
+
+add-t8 : tie.Need-add-t8
+add-t8 c =
+    let a = c .before .before .before .before .before .before .before .args in
+    let m = now (a .message) in
+    let e = sym (c .before .before .before .relative-decode .ensures) ∙ ap numberAnswer (c .before .number .given .1) in
+    omega (arith, number-bounded 8 _ (a .canonic) .bound (drop (a .start + 1) m) _ _ e, length-drop (a .start + 1) m)
+
+returns-3 : tie.Need-returns-3
+returns-3 c = sym (told (c .before .before .before) ∙ ap (λ x. shift 1 (numberAnswer x)) (c .before .number .given .1))
+
+pub decode-spec : {M : Type 1} → statement M
+decode-spec =
+    tie.close
+    (tie.spec
+    returns
+    shared-slice-read-tag
+    add-relative-decode
+    relative-decode-requires
+    enum-known-number
+    returns-2
+    add-t8
+    returns-3)

@@ -1,0 +1,68 @@
+use mathlib.Core.Path.{refl, _∙_}
+use denote.Ref.{now}
+use native.Mathlib.Omega.{arith}
+use lib.ListN.{length-set, set}
+use Rattle.compact_u64.specs.Number.{standaloneBytes}
+use Rattle.codec.specs.Format.{allowed}
+use Rattle.codec.proofs.Lending.{put-full, put-fits, to-end, put-end, put-end-long}
+use Rattle.compact_u64.proofs.Exits.{standalone-put}
+use borrow.Author.Needs.{needs}
+use Rattle.compact_u64.proofs.encode.Statement.{statement}
+use Rattle.compact_u64.proofs.encode.Tie as tie
+
+len-of-encoding-requires : tie.Need-len-of-encoding-requires
+len-of-encoding-requires c κs = search needs
+
+returns : tie.Need-returns
+returns c = put-full allowed (standaloneBytes (c .before .before .before .args .value)) (now (c .before .before .before .args .buffer)) refl _ (c .before .len-of-encoding .ensures .0) (c .if1 .taken)
+
+min-tag-requires : tie.Need-min-tag-requires
+min-tag-requires c κs = search needs
+
+slice-write-buffer : tie.Need-slice-write-buffer
+slice-write-buffer c = search needs
+
+sub-relative-encode : tie.Need-sub-relative-encode
+sub-relative-encode c = simp length-set (omega arith)
+
+part-relative-encode-start : tie.Need-part-relative-encode-start
+part-relative-encode-start c = simp length-set (omega arith)
+
+part-relative-encode-end : tie.Need-part-relative-encode-end
+part-relative-encode-end c = search needs
+
+relative-encode-requires : tie.Need-relative-encode-requires
+relative-encode-requires c κs = search needs
+
+same-length : tie.Need-same-length
+same-length c =
+    let l = set (now (c .before .before .before .before .before .before .before .before .args .buffer)) 0 (c .before .before .before .before .min-tag .result) in
+    put-end-long 1 l (c .before .before .relative-encode .last .0) (simp length-set (omega arith)) (c .before .before .relative-encode .kept .0) ∙ simp length-set
+
+returns-2 : tie.Need-returns-2
+returns-2 c =
+    let a = c .before .before .before .before .before .before .before .before .args in
+    let n = c .before .before .before .before .before .before .len-of-encoding in
+    let tag = c .before .before .before .before .min-tag in
+    let room = c .before .before .before .before .before .if1 .left in
+    let l = set (now (a .buffer)) 0 (tag .result) in
+    let p = rw (to-end 1 l) at (c .before .before .relative-encode .ensures .1) in
+    let f = put-fits allowed (standaloneBytes (a .value)) (now (a .buffer)) refl (n .result) (n .ensures .0) room in (
+      f .0,
+      put-end 1 l (c .before .before .relative-encode .last .0) ∙ rw p (standalone-put (now (a .buffer)) (a .value) (tag .result) (n .result) (tag .ensures) (n .ensures .0) room ∙ f .1),
+    )
+
+pub encode-spec : {M : Type 1} → statement M
+encode-spec =
+    tie.close
+    (tie.spec
+    len-of-encoding-requires
+    returns
+    min-tag-requires
+    slice-write-buffer
+    sub-relative-encode
+    part-relative-encode-start
+    part-relative-encode-end
+    relative-encode-requires
+    same-length
+    returns-2)

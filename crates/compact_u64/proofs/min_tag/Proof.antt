@@ -1,0 +1,40 @@
+use borrow.Author.Tests.{lt-ltb, le-ltb}
+use Rattle.compact_u64.specs.Number.{minTag}
+use borrow.Author.Needs.{needs}
+use Rattle.compact_u64.proofs.min_tag.Statement.{statement}
+use Rattle.compact_u64.proofs.min_tag.Tie as tie
+
+inline-limit-requires : tie.Need-inline-limit-requires
+inline-limit-requires c κs = search needs
+
+cast-result : tie.Need-cast-result
+cast-result c = search needs
+
+returns : tie.Need-returns
+unfolding minTag
+returns c = rw (← (c .before .inline-limit .ensures .0), lt-ltb _ _ (c .if1 .taken))
+
+width-exponent-requires : tie.Need-width-exponent-requires
+width-exponent-requires c κs = search needs
+
+add-result : tie.Need-add-result
+add-result c = search needs
+
+cast-result-2 : tie.Need-cast-result-2
+cast-result-2 c = search needs
+
+returns-2 : tie.Need-returns-2
+unfolding minTag
+returns-2 c = rw (← (c .before .before .inline-limit .ensures .0), le-ltb _ _ (c .before .if1 .left), c .width-exponent .ensures .0)
+
+pub min-tag-spec : {M : Type 1} → statement M
+min-tag-spec =
+    tie.close
+    (tie.spec
+    inline-limit-requires
+    cast-result
+    returns
+    width-exponent-requires
+    add-result
+    cast-result-2
+    returns-2)

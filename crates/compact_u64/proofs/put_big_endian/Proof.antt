@@ -1,0 +1,69 @@
+use Prim.Native.Nat.{_-_, _+_, _≤_, _^_, _/_}
+use mathlib.Core.Path.{_≡_, refl}
+use mathlib.Core.List.{_++_}
+use native.Mathlib.Omega.{arith}
+use lib.ListN.{length, drop, length-set}
+use Rattle.compact_u64.specs.BigEndian.{bigEndian}
+use Rattle.compact_u64.proofs.BigEndian.{next-digit, put-one}
+use Rattle.compact_u64.proofs.put_big_endian.Statement.{statement}
+use Rattle.compact_u64.proofs.put_big_endian.Tie as tie
+
+abbrev Inv-loop : tie.InvT-loop
+Inv-loop buffer₀ n v i₀ x₀ buffer i x = (i ≤ n) × (length buffer ≡ length buffer₀) × (x ≡ v / 256 ^ (n - i)) × (drop i buffer ≡ bigEndian (n - i) v ++ drop n buffer₀)
+
+abbrev μ-loop : tie.MeasureT-loop
+μ-loop buffer₀ n v i₀ x₀ buffer i x = i
+
+loop-holds : tie.Need-loop-holds Inv-loop μ-loop
+loop-holds c =
+    let z : c .args .n - c .args .n ≡ 0 = omega arith in
+    (omega arith, refl, rw z (omega arith), rw z)
+
+sub-i : tie.Need-sub-i Inv-loop μ-loop
+sub-i c = omega arith
+
+cast-buffer : tie.Need-cast-buffer Inv-loop μ-loop
+cast-buffer c = omega arith
+
+slice-write-buffer : tie.Need-slice-write-buffer Inv-loop μ-loop
+slice-write-buffer c = omega arith
+
+loop-less : tie.Need-loop-less Inv-loop μ-loop
+loop-less c = omega arith
+
+loop-again : tie.Need-loop-again Inv-loop μ-loop
+loop-again c =
+    let l = c .before .loop in
+    let n = c .before .before .args .n in
+    let v = c .before .before .args .value in
+    let e : n - (l .i - 1) ≡ (n - l .i) + 1 = omega arith in
+    let i' : (l .i - 1) + 1 ≡ l .i = omega arith in (
+      omega arith,
+      (simp length-set (l .inv .1)),
+      rw (e, l .inv .2) (next-digit v (n - l .i)),
+      rw e (put-one (l .buffer) _ (l .i - 1) (n - l .i) v (l .x) (omega arith) (rw i' (l .inv .3)) (l .inv .2)),
+    )
+
+same-length : tie.Need-same-length Inv-loop μ-loop
+same-length c = omega arith
+
+returns : tie.Need-returns Inv-loop μ-loop
+returns c =
+    let z : c .before .loop .i ≡ 0 = omega arith in
+    let m : c .before .before .args .n - 0 ≡ c .before .before .args .n = omega arith in
+    rw (z, m) at (c .before .loop .inv .3)
+
+pub put-big-endian-spec : {M : Type 1} → statement M
+put-big-endian-spec =
+    tie.close
+    (tie.spec
+    Inv-loop
+    μ-loop
+    loop-holds
+    sub-i
+    cast-buffer
+    slice-write-buffer
+    loop-less
+    loop-again
+    same-length
+    returns)

@@ -1,0 +1,93 @@
+use Prim.Native.Nat.{_-_, _^_}
+use mathlib.Core.Path.{_≡_, _∙_, sym}
+use mathlib.Core.Bool.{true, cond}
+use denote.Ref.{now}
+use native.Mathlib.Omega.{arith}
+use lib.Dec.{eqb}
+use lib.ListN.{drop, length-drop}
+use borrow.Author.Tests.{eq-eqb, ne-eqb}
+use Rattle.codec.specs.Answers.{accepted}
+use Rattle.codec.specs.Reader.{passed}
+use Rattle.compact_u64.specs.Number.{inlineLimit, minTag, readNumber}
+use Rattle.compact_u64.specs.Answers.{bits}
+use Rattle.compact_u64.proofs.Exits.{read-misfit, read-inline, read-short, read-bytes, four-tags}
+use borrow.Author.Needs.{needs}
+use Rattle.compact_u64.proofs.relative_decode.Statement.{statement}
+use Rattle.compact_u64.proofs.relative_decode.Tie as tie
+
+-- how many bytes follow the tag
+follows : (c : tie.After-two-to) → c .two-to .result ≡ 2 ^ (c .before .before .before .before .before .before .args .tag - inlineLimit (bits (c .before .before .before .before .before .before .args .width)))
+follows c = rw (← (c .before .before .before .before .inline-limit .ensures .0), ← (c .before .before .before .wide .ensures .0)) (c .two-to .ensures .0)
+
+-- they are there: what strict reading asks of them
+judged : (c : tie.After-big-endian) → readNumber (c .before .before .before .before .before .before .before .before .before .args .canonic) (bits (c .before .before .before .before .before .before .before .before .before .args .width)) (c .before .before .before .before .before .before .before .before .before .args .tag) (drop (c .before .before .before .before .before .before .before .before .before .args .start) (now (c .before .before .before .before .before .before .before .before .before .args .message)))
+    ≡ passed (cond (c .before .before .before .before .before .before .before .before .before .args .canonic) (eqb (minTag (bits (c .before .before .before .before .before .before .before .before .before .args .width)) (c .big-endian .result)) (c .before .before .before .before .before .before .before .before .before .args .tag)) true) (accepted (c .big-endian .result) (c .before .before .before .two-to .result))
+judged c =
+    let a = c .before .before .before .before .before .before .before .before .before .args in
+    rw (c .big-endian .ensures) (read-bytes _ _ _ (drop (a .start) (now (a .message))) (omega arith) (omega (arith, four-tags (a .width))) (c .before .before .before .two-to .result) (follows (c .before .before .before)) (simp length-drop (omega arith)))
+
+inline-limit-requires : tie.Need-inline-limit-requires
+inline-limit-requires c κs = search needs
+
+wide-requires : tie.Need-wide-requires
+wide-requires c κs = search needs
+
+returns : tie.Need-returns
+returns c = rw (c .before .wide .ensures .0) (sym (read-inline _ _ _ _ (omega arith)))
+
+add-if2 : tie.Need-add-if2
+add-if2 c = search needs
+
+returns-2 : tie.Need-returns-2
+returns-2 c = sym (read-misfit _ _ _ _ (omega (arith, four-tags (c .before .before .before .before .before .args .width))))
+
+two-to-requires : tie.Need-two-to-requires
+two-to-requires c κs = search needs
+
+returns-3 : tie.Need-returns-3
+returns-3 c =
+    let a = c .before .before .before .before .before .before .before .args in
+    let f = follows (c .before) in
+    sym (read-short _ _ _ (drop (a .start) (now (a .message))) (omega arith) (omega (arith, four-tags (a .width))) (c .before .two-to .result) f (simp length-drop (omega arith)))
+
+sub-if4 : tie.Need-sub-if4
+sub-if4 c = search needs
+
+returns-4 : tie.Need-returns-4
+returns-4 c =
+    let a = c .before .before .before .before .before .before .before .before .args in
+    sym (read-short _ _ _ (drop (a .start) (now (a .message))) (omega arith) (omega (arith, four-tags (a .width))) (c .before .before .two-to .result) (follows (c .before .before)) (simp length-drop (omega arith)))
+
+big-endian-requires : tie.Need-big-endian-requires
+big-endian-requires c κs = search needs
+
+min-tag-requires : tie.Need-min-tag-requires
+min-tag-requires c κs = search needs
+
+returns-5 : tie.Need-returns-5
+returns-5 c = sym (judged (c .before .before .before) ∙ rw (c .before .before .if5 .taken, ← (c .before .min-tag .ensures), ne-eqb _ _ (c .if6 .taken)))
+
+returns-6 : tie.Need-returns-6
+returns-6 c = sym (judged (c .before .before .before) ∙ rw (c .before .before .if5 .taken, ← (c .before .min-tag .ensures), eq-eqb _ _ (c .if6 .left)))
+
+returns-7 : tie.Need-returns-7
+returns-7 c = sym (judged (c .before) ∙ rw (c .if5 .left))
+
+pub relative-decode-spec : {M : Type 1} → statement M
+relative-decode-spec =
+    tie.close
+    (tie.spec
+    inline-limit-requires
+    wide-requires
+    returns
+    add-if2
+    returns-2
+    two-to-requires
+    returns-3
+    sub-if4
+    returns-4
+    big-endian-requires
+    min-tag-requires
+    returns-5
+    returns-6
+    returns-7)

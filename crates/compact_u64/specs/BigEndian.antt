@@ -1,0 +1,14 @@
+-- A number as bytes, the highest first.
+use mathlib.Core.List.{List, [], _∷_}
+use Prim.Native.Nat.{ℕ, zero, suc, _+_, _*_, _/_, _%_, _^_}
+use lib.ListN.{length}
+
+-- the lowest n bytes of a number
+abbrev pub bigEndian : ℕ → ℕ → List ℕ
+bigEndian zero v = []
+bigEndian (suc n) v = v / 256 ^ n % 256 ∷ bigEndian n v
+
+-- the number that bytes make
+abbrev pub valueOf : List ℕ → ℕ
+valueOf [] = 0
+valueOf (b ∷ s) = b * 256 ^ length s + valueOf s

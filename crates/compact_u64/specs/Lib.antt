@@ -1,0 +1,4 @@
+pub mod BigEndian
+pub mod Number
+pub mod Laws
+pub mod Answers
