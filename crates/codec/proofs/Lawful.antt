@@ -1,17 +1,24 @@
 -- What follows from the four laws for single values, and how a record comes to have them.
 use mathlib.Core.Path.{_≡_, refl, sym, ap, _∙_}
 use mathlib.Core.Logic.{_↔_}
+use mathlib.Core.Bool.{Bool, true, false}
 use mathlib.Core.List.{List, [], _++_, append-assoc}
 use Prim.Native.Nat.{ℕ}
 use native.Mathlib.Omega.{arith}
 use lib.ListN.{length, drop, length-take, take-append-drop}
 use lib.Seq.{length-take-le}
 use Rattle.codec.specs.Answers.{accepted, refused, AllBytes}
-use Rattle.codec.specs.Format.{Format, Verdict, Valid, Writes, reshaped}
+use Rattle.codec.specs.Format.{Format, Verdict, allowed, verdictBy, Valid, Writes, reshaped}
 use Rattle.codec.specs.Reader.{Reader, mapped}
 use Rattle.codec.specs.Reads.{Reads, Mapped}
 use Rattle.codec.specs.Lawful.{Begins, Lawful}
 use Rattle.codec.proofs.Readers.{mapped-reads, reads-as}
+
+-- both tests passed
+pub verdict-allowed : (formed inside : Bool) → verdictBy formed inside ≡ allowed → (formed ≡ true) × (inside ≡ true)
+verdict-allowed true true e = (refl, refl)
+verdict-allowed true false e = let z : _≡_ {A = ℕ} 0 1 = cc in absurd (omega arith)
+verdict-allowed false inside e = let z : _≡_ {A = ℕ} 0 1 = cc in absurd (omega arith)
 
 module _ {A : Type 0} (Typed : A → Type 0) (f : Format A) (strict : Reader A) (L : Lawful Typed f strict) where
   -- what begins with v's bytes reads as v

@@ -1,4 +1,5 @@
 -- What readers and writers answer, with the numbers of docs/FORMAT.md, "Refusals".
+use mathlib.Core.Path.{_≡_}
 use mathlib.Core.List.{List}
 use Prim.Native.Nat.{ℕ, _<_}
 use lib.ListN.{getD}
@@ -27,6 +28,16 @@ answerOf (decoded.Consumed n) a = accepted a n
 answerOf decoded.EndOfInput a = refused 1
 answerOf decoded.TheirFault a = refused 2
 answerOf decoded.Malformed a = refused 5
+
+-- what stands beside a reader's answer: the value, and `blank` beside a refusal
+abbrev pub valueIn : {A : Type 0} → A → Answer A → A
+valueIn blank (accepted a n) = a
+valueIn blank (refused k) = blank
+
+-- an answer d with a beside it is the answer x
+pub record Gives {A : Type 0} (blank : A) (d : Decoded) (a : A) (x : Answer A) : Type 0 where
+  pub answer : answerOf d a ≡ x
+  pub value : a ≡ valueIn blank x
 
 abbrev pub outcomeOf : Encoded → Outcome
 outcomeOf (encoded.Length n) = wrote n

@@ -72,3 +72,8 @@ mapped f r s = named f (r s)
 -- one of two readers, by a flag
 abbrev pub choose : {A : Type 0} → Bool → Reader A → Reader A → Reader A
 choose b p q s = cond b (p s) (q s)
+
+-- 5 unless the reference is well formed, before r reads
+abbrev pub onFormed : {A : Type 0} → Bool → Reader A → Reader A
+onFormed true r s = r s
+onFormed false r s = refused 5

@@ -1,0 +1,75 @@
+use Prim.Native.Nat.{_-_, _≤_}
+use mathlib.Core.Path.{_≡_, refl, _∙_, sym}
+use denote.Ref.{now}
+use native.Mathlib.Omega.{arith}
+use lib.ListN.{length, take, drop, length-set}
+use Rattle.codec.specs.Format.{over}
+use Rattle.text.specs.Buffer.{overAt}
+use Rattle.text.proofs.Buffer.{overAt-start}
+use Rattle.lines.proofs.Keeping.{moved-rest, moved-next, moved-all}
+use Rattle.lines.proofs.move_down.Statement.{statement}
+use Rattle.lines.proofs.move_down.Tie as tie
+
+abbrev Inv-loop : tie.InvT-loop
+Inv-loop buf₀ at n i₀ buf i =
+    (i ≤ n)
+    × (length buf ≡ length buf₀)
+    × (drop i buf ≡ drop i buf₀)
+    × (over (take n (drop at buf₀)) buf₀ ≡ overAt i (drop i (take n (drop at buf₀))) buf)
+
+abbrev μ-loop : tie.MeasureT-loop
+μ-loop buf₀ at n i₀ buf i = n - i
+
+loop-holds : tie.Need-loop-holds Inv-loop μ-loop
+loop-holds c = (omega arith, refl, refl, sym (overAt-start _ _))
+
+add-j : tie.Need-add-j Inv-loop μ-loop
+add-j c = omega arith
+
+slice-read-buf : tie.Need-slice-read-buf Inv-loop μ-loop
+slice-read-buf c = omega arith
+
+slice-write-buf : tie.Need-slice-write-buf Inv-loop μ-loop
+slice-write-buf c = omega arith
+
+add-i : tie.Need-add-i Inv-loop μ-loop
+add-i c = omega arith
+
+loop-less : tie.Need-loop-less Inv-loop μ-loop
+loop-less c = omega arith
+
+loop-again : tie.Need-loop-again Inv-loop μ-loop
+loop-again c =
+    let l = c .before .before .loop in
+    let a = c .before .before .before .args in
+    let b = now (a .buf) in (
+      omega arith,
+      rw length-set (l .inv .1),
+      moved-rest b (l .buf) (a .at) (a .n) (l .i) (omega arith) (omega arith) (l .inv .1) (l .inv .2),
+      l .inv .3 ∙ moved-next b (l .buf) (a .at) (a .n) (l .i) (omega arith) (omega arith) (l .inv .1) (l .inv .2),
+    )
+
+same-length : tie.Need-same-length Inv-loop μ-loop
+same-length c = c .before .loop .inv .1
+
+returns : tie.Need-returns Inv-loop μ-loop
+returns c =
+    let l = c .before .loop in
+    let a = c .before .before .args in
+    sym (l .inv .3 ∙ moved-all (now (a .buf)) (l .buf) (a .at) (a .n) (l .i) (omega arith) (c .before .before .pre))
+
+pub move-down-spec : {M : Type 1} → statement M
+move-down-spec =
+    tie.close
+    (tie.spec
+    Inv-loop
+    μ-loop
+    loop-holds
+    add-j
+    slice-read-buf
+    slice-write-buf
+    add-i
+    loop-less
+    loop-again
+    same-length
+    returns)

@@ -1,0 +1,126 @@
+-- Laws of lists of lengths, and of bytes cut by them.
+use mathlib.Core.Path.{_≡_, refl, sym, ap, _∙_}
+use mathlib.Core.List.{List, [], _∷_, _++_, map, append-assoc}
+use mathlib.Core.Bool.{true, _&&_}
+use Prim.Native.Nat.{ℕ, zero, suc, _+_, _-_, _*_, _≤_, _<_}
+use native.Mathlib.Nat.{suc-mul, sub-zero, zero-sub}
+use native.Mathlib.Numerals.{add-one}
+use native.Mathlib.Omega.{arith}
+use lib.Dec.{leb}
+use borrow.Author.Tests.{leb-true}
+use lib.ListN.{length, take, drop, getD, set, replicate, length-append, length-drop, drop-of-length-le, take-append-drop}
+use lib.Seq.{take-append-seam, drop-append-seam, length-take-le, take-add, take-suc, take-all, drop-cons, drop-drop, set-at, paste}
+use Rattle.path.specs.Limits.{totalOf}
+use Rattle.path.specs.Record.{sumOf, joined, cutUp, allAtMost}
+use Rattle.path.proofs.Tests.{and-left, and-right}
+
+-- ---- sums
+pub sum-snoc : (ls : List ℕ) (n : ℕ) → sumOf (ls ++ (n ∷ [])) ≡ sumOf ls + n
+sum-snoc [] n = omega arith
+sum-snoc (k ∷ ls) n = omega (arith, sum-snoc ls n)
+
+pub sum-take : (i : ℕ) (ls : List ℕ) → sumOf (take i ls) + sumOf (drop i ls) ≡ sumOf ls
+sum-take zero ls = omega arith
+sum-take (suc i) [] = omega arith
+sum-take (suc i) (l ∷ ls) = omega (arith, sum-take i ls)
+
+pub sum-next : (s : List ℕ) (i : ℕ) → i < length s → sumOf (drop i s) ≡ getD s i 0 + sumOf (drop (i + 1) s)
+sum-next s i h = rw (add-one, drop-cons s i 0)
+
+pub sum-end : (s : List ℕ) (i : ℕ) → length s ≤ i → sumOf (drop i s) ≡ 0
+sum-end s i h = rw drop-of-length-le
+
+pub bounded-sum : (m : ℕ) (l : List ℕ) → allAtMost m l ≡ true → sumOf l ≤ length l * m
+bounded-sum m [] h = omega arith
+bounded-sum m (x ∷ l) h =
+    let e : (suc (length l)) * m ≡ length l * m + m = suc-mul (length l) m in
+    omega (arith, bounded-sum m l (and-right (leb x m) _ h), leb-true x m (and-left _ _ h))
+
+-- ---- every element at most m
+pub at-most-next : (m : ℕ) (s : List ℕ) (i : ℕ) → i < length s → allAtMost m (drop i s) ≡ (leb (getD s i 0) m && allAtMost m (drop (i + 1) s))
+at-most-next m s i h = rw (add-one, drop-cons s i 0)
+
+pub at-most-end : (m : ℕ) (s : List ℕ) (i : ℕ) → length s ≤ i → allAtMost m (drop i s) ≡ true
+at-most-end m s i h = rw drop-of-length-le
+
+pub at-most-at : (m : ℕ) (ls : List ℕ) (i : ℕ) → allAtMost m ls ≡ true → getD ls i 0 ≤ m
+at-most-at m [] i e = omega arith
+at-most-at m (l ∷ ls) zero e = leb-true l m (and-left _ _ e)
+at-most-at m (l ∷ ls) (suc i) e = at-most-at m ls i (and-right (leb l m) _ e)
+
+-- ---- zeros
+at-most-zero : (b : ℕ) → leb b 0 ≡ true → b ≡ 0
+at-most-zero b e = omega (arith, leb-true b 0 e)
+
+zeros : (s : List ℕ) → allAtMost 0 s ≡ true → s ≡ replicate (length s) 0
+zeros [] e = refl
+zeros (b ∷ s) e = cc (at-most-zero b (and-left _ _ e), zeros s (and-right (leb b 0) _ e))
+
+pub all-zeros : (n : ℕ) → allAtMost 0 (replicate n 0) ≡ true
+all-zeros zero = refl
+all-zeros (suc n) = all-zeros n
+
+pub drop-zeros : (k n : ℕ) → drop k (replicate {A = ℕ} n 0) ≡ replicate (n - k) 0
+drop-zeros zero n = rw (sub-zero n)
+drop-zeros (suc k) zero = rw (zero-sub (suc k))
+drop-zeros (suc k) (suc n) = let e : suc n - suc k ≡ n - k = omega arith in rw e (drop-zeros k n)
+
+-- a list whose elements from n on are zero
+pub zero-rest : (n : ℕ) (s : List ℕ) → allAtMost 0 (drop n s) ≡ true → take n s ++ replicate (length s - n) 0 ≡ s
+zero-rest n s e =
+    let z : drop n s ≡ replicate (length s - n) 0 = zeros (drop n s) e ∙ simp length-drop in
+    rw (← z) (take-append-drop n s)
+
+-- ---- bytes cut up, and put together
+pub record Cut (ls bs : List ℕ) : Type 0 where
+  pub total : totalOf (cutUp ls bs) ≡ sumOf ls
+  pub bytes : joined (cutUp ls bs) ≡ take (sumOf ls) bs
+  pub lengths : map length (cutUp ls bs) ≡ ls
+  pub count : length (cutUp ls bs) ≡ length ls
+
+pub cut : (ls bs : List ℕ) → sumOf ls ≤ length bs → Cut ls bs
+cut [] bs h = record { total = refl; bytes = refl; lengths = refl; count = refl }
+cut (l ∷ ls) bs h =
+    let r = cut ls (drop l bs) (simp length-drop (omega arith)) in
+    let k : length (take l bs) ≡ l = length-take-le l bs (omega arith) in
+    record { total = rw (k, r .total); bytes = rw (r .bytes) (sym (take-add l (sumOf ls) bs)); lengths = rw (k, r .lengths); count = ap suc (r .count) }
+
+pub cut-joined : (cs : List (List ℕ)) (t : List ℕ) → cutUp (map length cs) (joined cs ++ t) ≡ cs
+cut-joined [] t = refl
+cut-joined (c ∷ cs) t = rw (append-assoc, take-append-seam, drop-append-seam) (ap (λ (x : List (List ℕ)). c ∷ x) (cut-joined cs t))
+
+pub length-joined : (cs : List (List ℕ)) → length (joined cs) ≡ totalOf cs
+length-joined [] = refl
+length-joined (c ∷ cs) = simp (length-append, length-joined cs)
+
+pub sum-lengths : (cs : List (List ℕ)) → sumOf (map length cs) ≡ totalOf cs
+sum-lengths [] = refl
+sum-lengths (c ∷ cs) = rw (sum-lengths cs)
+
+pub drop-cut : (i : ℕ) (ls bs : List ℕ) → drop i (cutUp ls bs) ≡ cutUp (drop i ls) (drop (sumOf (take i ls)) bs)
+drop-cut zero ls bs = refl
+drop-cut (suc i) [] bs = refl
+drop-cut (suc i) (l ∷ ls) bs = drop-cut i ls (drop l bs) ∙ rw drop-drop
+
+pub take-more : (i : ℕ) (cs : List (List ℕ)) (x : List ℕ) (rest : List (List ℕ)) → drop i cs ≡ x ∷ rest → take (suc i) cs ≡ take i cs ++ (x ∷ [])
+take-more zero [] x rest e = let z : _≡_ {A = ℕ} 0 1 = cc in absurd (omega arith)
+take-more zero (c ∷ cs) x rest e = let f : c ≡ x = cc in rw f
+take-more (suc i) [] x rest e = let z : _≡_ {A = ℕ} 0 1 = cc in absurd (omega arith)
+take-more (suc i) (c ∷ cs) x rest e = ap (λ (l : List (List ℕ)). c ∷ l) (take-more i cs x rest e)
+
+-- ---- parts of arrays, as the code takes them
+
+-- a part of an array of k elements that goes to its end
+pub rest-part : (n k : ℕ) (l : List ℕ) → length l ≡ k → take (k - n) (drop n l) ≡ drop n l
+rest-part n k l h = take-all (k - n) (drop n l) (rw length-drop (omega arith))
+
+-- a copy of s over the start of d, one element more
+pub copy-next : (d s : List ℕ) (j : ℕ) → j < length d → j < length s → set (take j s ++ drop j d) j (getD s j 0) ≡ take (j + 1) s ++ drop (j + 1) d
+copy-next d s j hd hs =
+    let l : length (take j s) ≡ j = length-take-le j s (omega arith) in
+    rw (drop-cons d j 0 hd, set-at (take j s) (getD d j 0) (drop (suc j) d) (getD s j 0) j l, add-one j, take-suc s j 0 hs)
+    (sym (append-assoc (take j s) (getD s j 0 ∷ []) (drop (suc j) d)))
+
+-- a copy of the whole of s into d
+pub paste-whole : (d s : List ℕ) (at n : ℕ) → n ≡ length s → paste d at s n ≡ take at d ++ (s ++ drop (at + length s) d)
+paste-whole d s at n e = rw (e, take-all (length s) s (omega arith)) (append-assoc (take at d) s (drop (at + length s) d))

@@ -1,0 +1,51 @@
+use mathlib.Core.Path.{_≡_, sym, _∙_}
+use mathlib.Core.Bool.{_&&_}
+use lib.Dec.{eqb}
+use borrow.Author.Tests.{eq-eqb, ne-eqb}
+use Rattle.path.specs.Answers.{equalTo, verdict}
+use Rattle.path.proofs.Typed.{typed}
+use Rattle.path.proofs.Compare.{equal-malformed, equal-verdict}
+use borrow.Author.Needs.{needs}
+use Rattle.path.proofs.Path.equals.Statement.{statement}
+use Rattle.path.proofs.Path.equals.Tie as tie
+
+abbrev start : tie.After-common → tie.Start
+start c = c .before .before .before
+
+told : (c : tie.After-common) → equalTo (start c .args .self) (start c .args .other) ≡ verdict (eqb (c .common .given .0 .0) (start c .args .self .count) && eqb (c .common .given .0 .0) (start c .args .other .count))
+told c =
+    let s = start c in
+    equal-verdict (s .args .self) (s .args .other) (typed (s .args .self) (s .good .0)) (typed (s .args .other) (s .good .1 .0)) _ (sym (c .before .before .longest-common-prefix .ensures) ∙ c .common .given .1)
+
+longest-common-prefix-requires : tie.Need-longest-common-prefix-requires
+longest-common-prefix-requires c κs = search needs
+
+enum-known-common : tie.Need-enum-known-common
+enum-known-common c = search needs
+
+enum-told : tie.Need-enum-told
+enum-told c = search needs
+
+returns : tie.Need-returns
+returns c = sym (equal-malformed _ _ (sym (c .before .before .longest-common-prefix .ensures) ∙ c .enum-told .given .1))
+
+returns-2 : tie.Need-returns-2
+returns-2 c = sym (told (c .before .before .before) ∙ rw (ne-eqb _ _ (c .if1 .taken)))
+
+returns-3 : tie.Need-returns-3
+returns-3 c = sym (told (c .before .before .before .before .before) ∙ rw (eq-eqb _ _ (c .before .before .if1 .left), ne-eqb _ _ (c .if2 .taken)))
+
+returns-4 : tie.Need-returns-4
+returns-4 c = sym (told (c .before .before .before .before .before) ∙ rw (eq-eqb _ _ (c .before .before .if1 .left), eq-eqb _ _ (c .if2 .left)))
+
+pub equals-spec : {M : Type 1} → statement M
+equals-spec =
+    tie.close
+    (tie.spec
+    longest-common-prefix-requires
+    enum-known-common
+    enum-told
+    returns
+    returns-2
+    returns-3
+    returns-4)

@@ -1,0 +1,61 @@
+use mathlib.Core.Path.{_≡_, sym, _∙_}
+use mathlib.Core.List.{[]}
+use mathlib.Core.Bool.{true}
+use Prim.Native.Nat.{ℕ}
+use borrow.Author.Needs.{length-unmapped, needs}
+use borrow.Author.Tests.{not-true, not-false, le-leb, lt-leb}
+use Rattle.path.specs.Record.{wellFormed}
+use Rattle.path.specs.Builder.{prefixBuilder}
+use Rattle.path.proofs.Record.{well-formed}
+use Rattle.path.proofs.Components.{Formed}
+use Rattle.path.proofs.Builder.{built-components, extendable-empty}
+use Rattle.path.proofs.PathBuilder.new_from_prefix.Statement.{statement}
+use Rattle.path.proofs.PathBuilder.new_from_prefix.Tie as tie
+
+-- the path is well formed where the test did not turn it away
+well : (c : tie.Else1) → wellFormed (c .before .before .before .args .path) ≡ true
+well c = sym (c .before .well-formed .ensures) ∙ not-false (c .before .well-formed .result) (c .if1 .left)
+
+-- and what owning it tells of its arrays
+formed : (c : tie.Else1) → Formed (c .before .before .before .args .path)
+formed c =
+    let s = c .before .before .before in
+    record {
+      bytes = length-unmapped ℕ (s .args .path .bytes) 600 (s .good .0 .1 .1 .0 .1 .0 .1);
+      lengths = length-unmapped ℕ (s .args .path .lengths) 20 (s .good .0 .1 .1 .1 .0 .1 .0 .1);
+      well = well-formed _ (well c);
+    }
+
+new-requires : tie.Need-new-requires
+new-requires c κs = search needs
+
+well-formed-requires : tie.Need-well-formed-requires
+well-formed-requires c κs = search needs
+
+returns : tie.Need-returns
+unfolding prefixBuilder
+returns c =
+    let w = c .before .well-formed in
+    rw (← (w .ensures), not-true (w .result) (c .if1 .taken), c .before .before .new .ensures)
+
+returns-2 : tie.Need-returns-2
+unfolding prefixBuilder
+returns-2 c = rw (well (c .before), lt-leb _ _ (c .if2 .taken), c .before .before .before .new .ensures)
+
+extended-requires : tie.Need-extended-requires
+extended-requires c κs =
+    let a = c .before .before .before .before .args in
+    let n = c .before .before .before .new in
+    extendable-empty (n .result) (a .path) (a .k) (n .ensures) (formed (c .before)) (c .if2 .left)
+
+returns-3 : tie.Need-returns-3
+unfolding prefixBuilder
+returns-3 c =
+    let n = c .before .before .before .before .new in
+    let grown = rw (built-components (n .result) [] (n .ensures)) at (c .extended .ensures) in
+    rw (well (c .before .before), le-leb _ _ (c .before .if2 .left), grown)
+
+pub new-from-prefix-spec : {M : Type 1} → statement M
+new-from-prefix-spec =
+    tie.close
+    (tie.spec new-requires well-formed-requires returns returns-2 extended-requires returns-3)

@@ -1,0 +1,63 @@
+use Prim.Native.Nat.{_≤_, _-_}
+use mathlib.Core.Path.{_≡_, refl, _∙_, sym}
+use denote.Ref.{now}
+use native.Mathlib.Omega.{arith}
+use borrow.Author.Tests.{lt-leb, le-leb}
+use lib.ListN.{length, drop}
+use Rattle.path.specs.Record.{allAtMost}
+use Rattle.path.proofs.Lists.{at-most-next, at-most-end}
+use Rattle.path.proofs.all_at_most.Statement.{statement}
+use Rattle.path.proofs.all_at_most.Tie as tie
+
+abbrev Inv-loop : tie.InvT-loop
+Inv-loop s m i₀ i = (i ≤ length s) × (allAtMost m s ≡ allAtMost m (drop i s))
+
+abbrev μ-loop : tie.MeasureT-loop
+μ-loop s m i₀ i = length s - i
+
+loop-holds : tie.Need-loop-holds Inv-loop μ-loop
+loop-holds c = (omega arith, refl)
+
+mul-if1 : tie.Need-mul-if1 Inv-loop μ-loop
+mul-if1 c = omega arith
+
+shared-slice-read-if1 : tie.Need-shared-slice-read-if1 Inv-loop μ-loop
+shared-slice-read-if1 c = omega arith
+
+returns : tie.Need-returns Inv-loop μ-loop
+returns c =
+    let l = c .before .before .before .loop in
+    let a = c .before .before .before .before .args in
+    sym (l .inv .1 ∙ at-most-next (a .m) (now (a .s)) (l .i) (omega arith) ∙ rw (lt-leb _ _ (c .if1 .taken)))
+
+add-i : tie.Need-add-i Inv-loop μ-loop
+add-i c = omega arith
+
+loop-less : tie.Need-loop-less Inv-loop μ-loop
+loop-less c = omega arith
+
+loop-again : tie.Need-loop-again Inv-loop μ-loop
+loop-again c =
+    let l = c .before .before .before .loop in
+    let a = c .before .before .before .before .args in
+    (omega arith, l .inv .1 ∙ at-most-next (a .m) (now (a .s)) (l .i) (omega arith) ∙ rw (le-leb _ _ (c .if1 .left)))
+
+returns-2 : tie.Need-returns-2 Inv-loop μ-loop
+returns-2 c =
+    let a = c .before .before .args in
+    sym (c .before .loop .inv .1 ∙ at-most-end (a .m) (now (a .s)) (c .before .loop .i) (omega arith))
+
+pub all-at-most-spec : {M : Type 1} → statement M
+all-at-most-spec =
+    tie.close
+    (tie.spec
+    Inv-loop
+    μ-loop
+    loop-holds
+    mul-if1
+    shared-slice-read-if1
+    returns
+    add-i
+    loop-less
+    loop-again
+    returns-2)

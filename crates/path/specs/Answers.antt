@@ -1,0 +1,53 @@
+-- What the public functions on paths answer, with the numbers of docs/FORMAT.md, "Refusals".
+use mathlib.Core.Bool.{Bool, true, false, cond, _&&_}
+use Prim.Native.Nat.{ℕ}
+use lib.Dec.{ltb}
+use Rattle.path.specs.declared.Path.{Path}
+use Rattle.path.specs.declared.Appended.{Appended}
+use Rattle.path.specs.declared.Appended.the-variants as appended
+use Rattle.path.specs.declared.ComponentCount.{ComponentCount}
+use Rattle.path.specs.declared.ComponentCount.the-variants as count
+use Rattle.path.specs.declared.ComponentBytes.{ComponentBytes}
+use Rattle.path.specs.declared.ComponentBytes.the-variants as component
+use Rattle.path.specs.declared.Compared.{Compared}
+use Rattle.path.specs.declared.Compared.the-variants as compared
+use Rattle.path.specs.Record.{componentsOf, wellFormed, lengthAt, startAt}
+use Rattle.path.specs.Prefix.{shared, isPrefix, samePath}
+
+-- the refusals' numbers; 0 is none
+abbrev pub appendedNumber : Appended → ℕ
+appendedNumber appended.Grown = 0
+appendedNumber appended.Outside = 3
+appendedNumber appended.Malformed = 5
+
+abbrev pub countNumber : ComponentCount → ℕ
+countNumber (count.Components n) = 0
+countNumber count.Malformed = 5
+
+abbrev pub componentNumber : ComponentBytes → ℕ
+componentNumber (component.At i n) = 0
+componentNumber component.Outside = 3
+componentNumber component.Malformed = 5
+
+abbrev pub comparedNumber : Compared → ℕ
+comparedNumber compared.Yes = 0
+comparedNumber compared.No = 0
+comparedNumber compared.Malformed = 5
+
+-- the i-th component: 5, then 3 where there is none
+unfoldable pub componentAt : Path → ℕ → ComponentBytes
+componentAt p i = cond (wellFormed p) (cond (ltb i (p .count)) (component.At (startAt p i) (lengthAt p i)) component.Outside) component.Malformed
+
+-- comparing two records: 5 unless both are well formed
+unfoldable pub commonPrefix : Path → Path → ComponentCount
+commonPrefix p q = cond (wellFormed p && wellFormed q) (count.Components (shared (componentsOf p) (componentsOf q))) count.Malformed
+
+abbrev pub verdict : Bool → Compared
+verdict true = compared.Yes
+verdict false = compared.No
+
+unfoldable pub prefixOf : Path → Path → Compared
+prefixOf p q = cond (wellFormed p && wellFormed q) (verdict (isPrefix (componentsOf p) (componentsOf q))) compared.Malformed
+
+unfoldable pub equalTo : Path → Path → Compared
+equalTo p q = cond (wellFormed p && wellFormed q) (verdict (samePath (componentsOf p) (componentsOf q))) compared.Malformed

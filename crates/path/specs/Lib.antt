@@ -1,0 +1,5 @@
+pub mod Limits
+pub mod Record
+pub mod Prefix
+pub mod Builder
+pub mod Answers

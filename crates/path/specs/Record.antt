@@ -1,0 +1,64 @@
+-- A path as the code holds it: the bytes of its components one after the other, their lengths, and their count, unused parts zero.
+-- Only this file and the functions of this crate know the layout; all others speak of `componentsOf`, `pathFrom` and `wellFormed`.
+use mathlib.Core.Path.{_≡_}
+use mathlib.Core.List.{List, [], _∷_, _++_, map}
+use mathlib.Core.Bool.{Bool, true, _&&_}
+use Prim.Native.Nat.{ℕ, _+_, _-_}
+use lib.Dec.{leb}
+use lib.ListN.{length, take, drop, getD, replicate}
+use Rattle.codec.specs.Answers.{AllBytes}
+use Rattle.path.specs.declared.Path.{Path}
+use Rattle.path.specs.Limits.{maxComponentLength, maxComponentCount, maxPathLength, totalOf}
+
+abbrev pub sumOf : List ℕ → ℕ
+sumOf [] = 0
+sumOf (l ∷ ls) = l + sumOf ls
+
+abbrev pub joined : List (List ℕ) → List ℕ
+joined [] = []
+joined (c ∷ cs) = c ++ joined cs
+
+-- bytes cut into parts of these lengths
+abbrev pub cutUp : List ℕ → List ℕ → List (List ℕ)
+cutUp [] bs = []
+cutUp (l ∷ ls) bs = take l bs ∷ cutUp ls (drop l bs)
+
+-- the lengths in use
+abbrev pub used : Path → List ℕ
+used p = take (p .count) (p .lengths)
+
+-- ---- the components of a record, and the record of components
+abbrev pub componentsOf : Path → List (List ℕ)
+componentsOf p = cutUp (used p) (p .bytes)
+
+unfoldable pub pathFrom : List (List ℕ) → Path
+pathFrom cs = record {
+  bytes = joined cs ++ replicate (maxPathLength - totalOf cs) 0;
+  lengths = map length cs ++ replicate (maxComponentCount - length cs) 0;
+  count = length cs;
+}
+
+-- ---- well formed: what 5 tests
+abbrev pub allAtMost : ℕ → List ℕ → Bool
+allAtMost n [] = true
+allAtMost n (l ∷ ls) = leb l n && allAtMost n ls
+
+unfoldable pub wellFormed : Path → Bool
+wellFormed p =
+    leb (p .count) maxComponentCount
+    && (allAtMost maxComponentLength (used p)
+    && (leb (sumOf (used p)) maxPathLength
+    && (allAtMost 0 (drop (p .count) (p .lengths)) && allAtMost 0 (drop (sumOf (used p)) (p .bytes)))))
+
+-- what the language says of a record
+pub record TypedPath (p : Path) : Type 0 where
+  pub bytes : length (p .bytes) ≡ maxPathLength
+  pub lengths : length (p .lengths) ≡ maxComponentCount
+  pub small : AllBytes (p .bytes)
+
+-- ---- one component: its length, also of one that is not there, and where its bytes start
+unfoldable pub lengthAt : Path → ℕ → ℕ
+lengthAt p i = getD (p .lengths) i 0
+
+abbrev pub startAt : Path → ℕ → ℕ
+startAt p i = totalOf (take i (componentsOf p))

@@ -1,0 +1,66 @@
+-- What an answer of reading bytes in hex says, for its callers.
+use mathlib.Core.Path.{_≡_, refl, sym, _∙_}
+use mathlib.Core.List.{List, [], _∷_, append-nil}
+use mathlib.Core.Bool.{Bool, true, false, cond}
+use mathlib.Core.Logic.{⊎-elim}
+use Prim.Native.Nat.{ℕ, _≤_}
+use types.Run.{OneOf}
+use denote.Enum.Declared.{tagOf}
+use native.Mathlib.Omega.{arith}
+use lib.Dec.{ltb}
+use borrow.Author.Tests.{ltb-false, le-ltb}
+use lib.ListN.{length, take, drop-of-length-le}
+use lib.Seq.{take-at}
+use Rattle.codec.specs.Format.{over}
+use Rattle.text.specs.Hex.{isHex, unhex}
+use Rattle.text.specs.Fields.{readHex, hexBuffer}
+use Rattle.text.specs.declared.Hex.{Hex}
+use Rattle.text.specs.declared.Hex.the-variants.{Bytes, NoHex, NoRoom}
+
+-- an answer other than bytes: no hex, or no room
+pub hex-refused : (a : List ℕ) (room : ℕ) (x : Hex) → x ≡ readHex a room → OneOf (1 ∷ 2 ∷ []) (tagOf Rattle.text.proofs.Hex.the-type x)
+    → cond (isHex a) (ltb room (length (unhex a))) true ≡ true
+unfolding readHex
+hex-refused a room x e k = by-cases (isHex a) (ltb room (length (unhex a))) e
+  where
+    by-cases : (t d : Bool) → x ≡ cond t (cond d NoRoom (Bytes (length (unhex a)))) NoHex → cond t d true ≡ true
+    by-cases true true e = refl
+    by-cases true false e = let g = rw e at k in absurd (⊎-elim (λ q. omega arith) (λ q. omega arith) g)
+    by-cases false d e = refl
+
+-- no hex, where there is room
+pub no-hex : (a : List ℕ) (room : ℕ) → length (unhex a) ≤ room → cond (isHex a) (ltb room (length (unhex a))) true ≡ true → isHex a ≡ false
+no-hex a room fit h = by-cases (isHex a) (rw (le-ltb room (length (unhex a)) fit) at h)
+  where
+    by-cases : (t : Bool) → cond t false true ≡ true → t ≡ false
+    by-cases true h = sym h
+    by-cases false h = refl
+
+module _ (a : List ℕ) (n : ℕ) where
+  pub some-bytes : (room : ℕ) → Bytes n ≡ readHex a room → (isHex a ≡ true) × (n ≡ length (unhex a)) × (n ≤ room)
+  unfolding readHex
+  some-bytes room e = outer (isHex a) e
+    where
+      inner : (t : Bool) → ltb room (length (unhex a)) ≡ t → Bytes n ≡ cond t NoRoom (Bytes (length (unhex a))) → (n ≡ length (unhex a)) × (n ≤ room)
+      inner true h e = let z : _≡_ {A = ℕ} 0 1 = cc in absurd (omega arith)
+      inner false h e = let q : n ≡ length (unhex a) = cc in (q, omega (arith, q, ltb-false room (length (unhex a)) h))
+
+      outer : (t : Bool) → Bytes n ≡ cond t (cond (ltb room (length (unhex a))) NoRoom (Bytes (length (unhex a)))) NoHex → (t ≡ true) × (n ≡ length (unhex a)) × (n ≤ room)
+      outer true e = let i = inner (ltb room (length (unhex a))) refl e in (refl, i .0, i .1)
+      outer false e = let z : _≡_ {A = ℕ} 0 1 = cc in absurd (omega arith)
+
+  module _ (buf : List ℕ) (e : Bytes n ≡ readHex a (length buf)) where
+    filled : hexBuffer a buf ≡ over (unhex a) buf
+    unfolding hexBuffer
+    filled =
+        let s = some-bytes (length buf) e in
+        rw (s .0, le-ltb (length buf) (length (unhex a)) (omega (arith, s .1, s .2)))
+
+    pub bytes-are : take n (hexBuffer a buf) ≡ unhex a
+    bytes-are = rw filled (take-at (unhex a) _ n (sym (some-bytes (length buf) e .1)))
+
+    -- as many as the buffer has, an id or a digest: they are all of it
+    pub whole-buffer : n ≡ length buf → hexBuffer a buf ≡ unhex a
+    whole-buffer k =
+        let h : length buf ≤ length (unhex a) = omega (arith, some-bytes (length buf) e .1) in
+        filled ∙ rw (drop-of-length-le buf h) (append-nil (unhex a))

@@ -1,0 +1,8 @@
+pub mod Tests
+pub mod Buffer
+pub mod Parts
+pub mod HexSteps
+pub mod HexAnswers
+pub mod DecimalSteps
+pub mod DecimalPrinted
+pub mod Back

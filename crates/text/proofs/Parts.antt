@@ -1,0 +1,64 @@
+-- Laws of finding a byte, and of the parts that it makes.
+use mathlib.Core.Path.{_≡_, refl}
+use mathlib.Core.List.{List, [], _∷_}
+use mathlib.Core.Bool.{Bool, true, false, cond}
+use Prim.Native.Nat.{ℕ, suc, _+_, _≤_, _<_}
+use native.Mathlib.Numerals.{add-one}
+use native.Mathlib.Omega.{arith}
+use lib.Dec.{eqb}
+use borrow.Author.Tests.{eq-eqb, ne-eqb}
+use lib.ListN.{length, take, drop, getD, drop-of-length-le}
+use lib.Seq.{drop-cons}
+use Rattle.text.specs.Parts.{before, onFirst, parts}
+
+module _ (x : ℕ) where
+  -- ---- at one place of a text
+  pub before-here : (s : List ℕ) (i : ℕ) → i < length s → getD s i 0 ≡ x → length (before x (drop i s)) ≡ 0
+  unfolding before
+  before-here s i h e = rw (drop-cons s i 0 h, eq-eqb (getD s i 0) x e)
+
+  pub before-next : (s : List ℕ) (i : ℕ) → i < length s → (getD s i 0 ≡ x → ⊥) → length (before x (drop i s)) ≡ suc (length (before x (drop (i + 1) s)))
+  unfolding before
+  before-next s i h e = rw (drop-cons s i 0 h, ne-eqb (getD s i 0) x e, add-one i)
+
+  pub before-end : (s : List ℕ) (i : ℕ) → length s ≤ i → length (before x (drop i s)) ≡ 0
+  unfolding before
+  before-end s i h = rw (drop-of-length-le s h)
+
+  -- ---- no x is left: one part
+  pub parts-last : (s : List ℕ) → length s ≤ length (before x s) → parts x s ≡ s ∷ []
+  unfolding before parts
+  parts-last [] h = refl
+  parts-last (b ∷ s) h = by-cases (λ k. parts-last s k) (eqb b x) h
+    where
+      by-cases : (length s ≤ length (before x s) → parts x s ≡ s ∷ []) → (t : Bool) → suc (length s) ≤ length (cond t [] (b ∷ before x s))
+          → cond t ([] ∷ parts x s) (onFirst b (parts x s)) ≡ (b ∷ s) ∷ []
+      by-cases ih true h = absurd (omega arith)
+      by-cases ih false h = rw (ih (omega arith))
+
+  -- an x is left: the part before it, and the parts after it
+  pub parts-more : (s : List ℕ) → length (before x s) < length s
+      → parts x s ≡ take (length (before x s)) s ∷ parts x (drop (length (before x s) + 1) s)
+  unfolding before parts
+  parts-more [] h = absurd (omega arith)
+  parts-more (b ∷ s) h = by-cases (λ k. parts-more s k) (eqb b x) h
+    where
+      by-cases : (length (before x s) < length s → parts x s ≡ take (length (before x s)) s ∷ parts x (drop (length (before x s) + 1) s))
+          → (t : Bool) → length (cond t [] (b ∷ before x s)) < suc (length s)
+          → cond t ([] ∷ parts x s) (onFirst b (parts x s))
+          ≡ take (length (cond t [] (b ∷ before x s))) (b ∷ s) ∷ parts x (drop (length (cond t [] (b ∷ before x s)) + 1) (b ∷ s))
+      by-cases ih true h = refl
+      by-cases ih false h =
+          let e : suc (length (before x s)) + 1 ≡ suc (length (before x s) + 1) = omega arith in
+          rw (ih (omega arith), e)
+
+  -- there is a part, also of no bytes
+  pub parts-some : (s : List ℕ) → parts x s ≡ [] → ⊥
+  unfolding parts
+  parts-some [] h = let z : _≡_ {A = ℕ} 0 1 = cc in omega arith
+  parts-some (b ∷ s) h = by-cases (eqb b x) (parts x s) h
+    where
+      by-cases : (t : Bool) (ps : List (List ℕ)) → cond t ([] ∷ ps) (onFirst b ps) ≡ [] → ⊥
+      by-cases true ps h = let z : _≡_ {A = ℕ} 0 1 = cc in omega arith
+      by-cases false [] h = let z : _≡_ {A = ℕ} 0 1 = cc in omega arith
+      by-cases false (p ∷ ps) h = let z : _≡_ {A = ℕ} 0 1 = cc in omega arith

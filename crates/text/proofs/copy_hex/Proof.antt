@@ -1,0 +1,88 @@
+use Prim.Native.Nat.{_+_, _-_, _*_, _≤_}
+use mathlib.Core.Path.{_≡_, refl, _∙_, sym}
+use denote.Ref.{now}
+use native.Mathlib.Omega.{arith}
+use lib.ListN.{length, drop, set, length-set}
+use Rattle.text.specs.Hex.{hexText}
+use Rattle.text.specs.Buffer.{overAt}
+use Rattle.text.proofs.Buffer.{overAt-none, overAt-next}
+use Rattle.text.proofs.HexSteps.{hexText-next, hexText-end}
+use Rattle.text.proofs.copy_hex.Statement.{statement}
+use Rattle.text.proofs.copy_hex.Tie as tie
+
+abbrev Inv-loop : tie.InvT-loop
+Inv-loop out₀ at s p₀ i₀ out p i = (i ≤ length s) × (length out ≡ length out₀) × (p ≡ at + 2 * i) × (overAt at (hexText s) out₀ ≡ overAt p (hexText (drop i s)) out)
+
+abbrev μ-loop : tie.MeasureT-loop
+μ-loop out₀ at s p₀ i₀ out p i = length s - i
+
+loop-holds : tie.Need-loop-holds Inv-loop μ-loop
+loop-holds c = (omega arith, refl, omega arith, refl)
+
+shared-slice-read-b : tie.Need-shared-slice-read-b Inv-loop μ-loop
+shared-slice-read-b c = omega arith
+
+hex-digit-requires : tie.Need-hex-digit-requires Inv-loop μ-loop
+hex-digit-requires c κs = omega (arith, c .shared-slice-known2 .given (c .before .before .loop .i))
+
+slice-write-out : tie.Need-slice-write-out Inv-loop μ-loop
+slice-write-out c = omega arith
+
+add-p : tie.Need-add-p Inv-loop μ-loop
+add-p c = omega arith
+
+hex-digit-requires-2 : tie.Need-hex-digit-requires-2 Inv-loop μ-loop
+hex-digit-requires-2 c κs = omega arith
+
+slice-write-out-2 : tie.Need-slice-write-out-2 Inv-loop μ-loop
+slice-write-out-2 c = rw length-set (omega arith)
+
+add-p-2 : tie.Need-add-p-2 Inv-loop μ-loop
+add-p-2 c = omega arith
+
+add-i : tie.Need-add-i Inv-loop μ-loop
+add-i c = omega arith
+
+loop-less : tie.Need-loop-less Inv-loop μ-loop
+loop-less c = omega arith
+
+loop-again : tie.Need-loop-again Inv-loop μ-loop
+loop-again c =
+    let s = now (c .before .before .before .before .before .before .before .args .s) in
+    let l = c .before .before .before .before .loop in
+    let a = c .before .hex-digit .ensures in
+    let b = c .hex-digit2 .ensures in (
+      omega arith,
+      rw (length-set, length-set) (l .inv .1),
+      omega arith,
+      rw (a, b) (l .inv .3 ∙ rw (hexText-next s (l .i) (omega arith)) (overAt-next (l .p) _ _ (l .out) (omega arith) ∙ overAt-next (l .p + 1) _ (hexText (drop (l .i + 1) s)) (set (l .out) (l .p) _) (rw length-set (omega arith)))),
+    )
+
+same-length : tie.Need-same-length Inv-loop μ-loop
+same-length c = c .before .loop .inv .1
+
+returns : tie.Need-returns Inv-loop μ-loop
+returns c =
+    let s = now (c .before .before .before .before .args .s) in
+    let l = c .before .loop in
+    sym (l .inv .3 ∙ rw (hexText-end s (l .i) (omega arith)) (overAt-none (l .p) (l .out)))
+
+pub copy-hex-spec : {M : Type 1} → statement M
+copy-hex-spec =
+    tie.close
+    (tie.spec
+    Inv-loop
+    μ-loop
+    loop-holds
+    shared-slice-read-b
+    hex-digit-requires
+    slice-write-out
+    add-p
+    hex-digit-requires-2
+    slice-write-out-2
+    add-p-2
+    add-i
+    loop-less
+    loop-again
+    same-length
+    returns)

@@ -1,0 +1,113 @@
+use Prim.Native.Nat.{_+_, _-_, _≤_, _<_}
+use mathlib.Core.Path.{_≡_, refl, ap, _∙_, sym}
+use mathlib.Core.Bool.{true}
+use denote.Ref.{now}
+use native.Mathlib.Omega.{arith}
+use borrow.Author.Needs.{needs}
+use lib.ListN.{length, drop, length-set}
+use Rattle.codec.specs.Format.{over}
+use Rattle.text.specs.Hex.{isHex, unhex}
+use Rattle.text.specs.Buffer.{overAt}
+use Rattle.text.proofs.Buffer.{overAt-start, overAt-none, overAt-next}
+use Rattle.text.proofs.HexSteps.{TwoDigits, two-digits, unhex-next, unhex-end}
+use Rattle.text.proofs.fill_hex.Statement.{statement}
+use Rattle.text.proofs.fill_hex.Tie as tie
+
+abbrev Inv-loop : tie.InvT-loop
+Inv-loop s out₀ i₀ k₀ out i k =
+    (i ≤ length s)
+    × (length out ≡ length out₀)
+    × (isHex (drop i s) ≡ true)
+    × (k + length (unhex (drop i s)) ≤ length out)
+    × (over (unhex s) out₀ ≡ overAt k (unhex (drop i s)) out)
+
+abbrev μ-loop : tie.MeasureT-loop
+μ-loop s out₀ i₀ k₀ out i k = length s - i
+
+-- the two digits of a turn, and the place of its byte
+here : (c : tie.In-loop Inv-loop μ-loop) → TwoDigits (now (c .before .before .before .before .args .s)) (c .before .loop .i)
+here c = two-digits (now (c .before .before .before .before .args .s)) (c .before .loop .i) (c .loop-test .taken) (c .before .loop .inv .2)
+
+room : (c : tie.In-loop Inv-loop μ-loop) → c .before .loop .k < length (c .before .loop .out)
+room c =
+    let s = now (c .before .before .before .before .args .s) in
+    omega (arith, c .before .loop .inv .3, ap length (unhex-next s (c .before .loop .i) (here c .more)))
+
+loop-holds : tie.Need-loop-holds Inv-loop μ-loop
+loop-holds c = (omega arith, refl, c .before .before .pre .0, omega (arith, c .before .before .pre .1), sym (overAt-start _ _))
+
+shared-slice-read-hex-value : tie.Need-shared-slice-read-hex-value Inv-loop μ-loop
+shared-slice-read-hex-value c = omega arith
+
+hex-value-requires : tie.Need-hex-value-requires Inv-loop μ-loop
+hex-value-requires c κs = search needs
+
+add-j : tie.Need-add-j Inv-loop μ-loop
+add-j c = omega (arith, here (c .before .before) .more)
+
+shared-slice-read-hex-value-2 : tie.Need-shared-slice-read-hex-value-2 Inv-loop μ-loop
+shared-slice-read-hex-value-2 c = omega (arith, here (c .before .before .before) .more)
+
+hex-value-requires-2 : tie.Need-hex-value-requires-2 Inv-loop μ-loop
+hex-value-requires-2 c κs = search needs
+
+mul-out : tie.Need-mul-out Inv-loop μ-loop
+mul-out c = let p = here (c .before .before .before .before) in omega (arith, p .high, c .before .before .hex-value .ensures .0)
+
+add-out : tie.Need-add-out Inv-loop μ-loop
+add-out c = let p = here (c .before .before .before .before) in omega (arith, p .high, p .low, c .before .before .hex-value .ensures .0, c .hex-value2 .ensures .0)
+
+slice-write-out : tie.Need-slice-write-out Inv-loop μ-loop
+slice-write-out c = room (c .before .before .before .before)
+
+add-k : tie.Need-add-k Inv-loop μ-loop
+add-k c = omega (arith, room (c .before .before .before .before))
+
+add-i : tie.Need-add-i Inv-loop μ-loop
+add-i c = omega (arith, here (c .before .before .before .before) .more)
+
+loop-less : tie.Need-loop-less Inv-loop μ-loop
+loop-less c = omega (arith, here (c .before .before .before .before) .more)
+
+loop-again : tie.Need-loop-again Inv-loop μ-loop
+loop-again c =
+    let p = here (c .before .before .before .before) in
+    let l = c .before .before .before .before .before .loop in
+    let s = now (c .before .before .before .before .before .before .before .before .args .s) in
+    let next = unhex-next s (l .i) (p .more) in (
+      omega (arith, p .more),
+      rw length-set (l .inv .1),
+      p .rest,
+      rw length-set (omega (arith, l .inv .3, ap length next)),
+      rw (c .before .before .hex-value .ensures .0, c .hex-value2 .ensures .0) (l .inv .4 ∙ rw next (overAt-next (l .k) _ (unhex (drop (l .i + 2) s)) (l .out) (room (c .before .before .before .before)))),
+    )
+
+same-length : tie.Need-same-length Inv-loop μ-loop
+same-length c = c .before .loop .inv .1
+
+returns : tie.Need-returns Inv-loop μ-loop
+returns c =
+    let l = c .before .loop in
+    sym (l .inv .4 ∙ rw (unhex-end (now (c .before .before .before .before .args .s)) (l .i) (omega arith)) (overAt-none (l .k) (l .out)))
+
+pub fill-hex-spec : {M : Type 1} → statement M
+fill-hex-spec =
+    tie.close
+    (tie.spec
+    Inv-loop
+    μ-loop
+    loop-holds
+    shared-slice-read-hex-value
+    hex-value-requires
+    add-j
+    shared-slice-read-hex-value-2
+    hex-value-requires-2
+    mul-out
+    add-out
+    slice-write-out
+    add-k
+    add-i
+    loop-less
+    loop-again
+    same-length
+    returns)

@@ -1,0 +1,50 @@
+use Prim.Native.Nat.{_+_, _-_, _≤_}
+use mathlib.Core.Path.{_≡_}
+use denote.Ref.{now}
+use native.Mathlib.Omega.{arith}
+use lib.ListN.{length, drop}
+use Rattle.text.specs.Parts.{before}
+use Rattle.text.proofs.Parts.{before-here, before-next, before-end}
+use Rattle.text.proofs.find.Statement.{statement}
+use Rattle.text.proofs.find.Tie as tie
+
+abbrev Inv-loop : tie.InvT-loop
+Inv-loop s x i₀ i = (i ≤ length s) × (length (before x s) ≡ i + length (before x (drop i s)))
+
+abbrev μ-loop : tie.MeasureT-loop
+μ-loop s x i₀ i = length s - i
+
+loop-holds : tie.Need-loop-holds Inv-loop μ-loop
+loop-holds c = omega arith
+
+shared-slice-read-if1 : tie.Need-shared-slice-read-if1 Inv-loop μ-loop
+shared-slice-read-if1 c = omega arith
+
+returns : tie.Need-returns Inv-loop μ-loop
+returns c = (omega (arith, c .before .before .before .loop .inv .1, before-here (c .before .before .before .before .args .x) (now (c .before .before .before .before .args .s)) (c .before .before .before .loop .i) (omega arith) (c .if1 .taken)), omega arith)
+
+add-i : tie.Need-add-i Inv-loop μ-loop
+add-i c = omega arith
+
+loop-less : tie.Need-loop-less Inv-loop μ-loop
+loop-less c = omega arith
+
+loop-again : tie.Need-loop-again Inv-loop μ-loop
+loop-again c = (omega arith, omega (arith, c .before .before .before .loop .inv .1, before-next (c .before .before .before .before .args .x) (now (c .before .before .before .before .args .s)) (c .before .before .before .loop .i) (omega arith) (c .if1 .left)))
+
+returns-2 : tie.Need-returns-2 Inv-loop μ-loop
+returns-2 c = (omega (arith, c .before .loop .inv .1, before-end (c .before .before .args .x) (now (c .before .before .args .s)) (c .before .loop .i) (omega arith)), omega arith)
+
+pub find-spec : {M : Type 1} → statement M
+find-spec =
+    tie.close
+    (tie.spec
+    Inv-loop
+    μ-loop
+    loop-holds
+    shared-slice-read-if1
+    returns
+    add-i
+    loop-less
+    loop-again
+    returns-2)

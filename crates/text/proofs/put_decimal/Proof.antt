@@ -1,0 +1,43 @@
+use mathlib.Core.Path.{_≡_, _∙_}
+use native.Mathlib.Omega.{arith}
+use borrow.Author.Needs.{needs}
+use lib.ListN.{take}
+use Rattle.text.specs.Decimal.{decimalText}
+use Rattle.text.proofs.DecimalPrinted.{decimal-is}
+use Rattle.text.proofs.put_decimal.Statement.{statement}
+use Rattle.text.proofs.put_decimal.Tie as tie
+
+-- what was written is the number's text
+text-is : (c : tie.After-decimal) → take (c .decimal .result) (c .decimal .last .1 .0) ≡ decimalText (c .before .before .before .args .n)
+text-is c = c .decimal .ensures .1 .1 ∙ decimal-is _ _ (omega arith) (c .decimal .ensures .1 .0)
+
+decimal-requires : tie.Need-decimal-requires
+decimal-requires c κs = search needs
+
+array-share-prefix-digits : tie.Need-array-share-prefix-digits
+array-share-prefix-digits c = search needs
+
+slice-aggregate-put-bytes : tie.Need-slice-aggregate-put-bytes
+slice-aggregate-put-bytes c = search needs
+
+put-bytes-requires : tie.Need-put-bytes-requires
+put-bytes-requires c κs = search needs
+
+same-length : tie.Need-same-length
+same-length c = search needs
+
+returns : tie.Need-returns
+returns c =
+    let e = text-is (c .before .before .before .before .before) in
+    (rw (← e) (c .before .before .put-bytes .ensures .0), rw (← e) (c .before .before .put-bytes .ensures .1))
+
+pub put-decimal-spec : {M : Type 1} → statement M
+put-decimal-spec =
+    tie.close
+    (tie.spec
+    decimal-requires
+    array-share-prefix-digits
+    slice-aggregate-put-bytes
+    put-bytes-requires
+    same-length
+    returns)

@@ -1,0 +1,50 @@
+use Prim.Native.Nat.{_≤_, _<_}
+use mathlib.Core.Path.{_≡_, _∙_, sym}
+use mathlib.Core.Bool.{true, false}
+use denote.Ref.{now}
+use native.Mathlib.Omega.{arith}
+use borrow.Author.Needs.{needs}
+use borrow.Author.Tests.{lt-ltb, le-ltb, not-true, not-false}
+use lib.ListN.{length}
+use Rattle.text.specs.Hex.{isHex, unhex}
+use Rattle.text.specs.Fields.{readHex, hexBuffer}
+use Rattle.text.proofs.HexSteps.{unhex-long}
+use Rattle.text.proofs.read_hex.Statement.{statement}
+use Rattle.text.proofs.read_hex.Tie as tie
+
+is-hex-requires : tie.Need-is-hex-requires
+is-hex-requires c κs = search needs
+
+returns : tie.Need-returns
+unfolding readHex hexBuffer
+returns c =
+    let e : isHex (now (c .before .before .before .before .args .s)) ≡ false = sym (c .before .is-hex .ensures) ∙ not-true (c .before .is-hex .result) (c .if1 .taken) in
+    (rw e, rw e)
+
+returns-2 : tie.Need-returns-2
+unfolding readHex hexBuffer
+returns-2 c =
+    let s = now (c .before .before .before .before .before .args .s) in
+    let e : isHex s ≡ true = sym (c .before .before .is-hex .ensures) ∙ not-false (c .before .before .is-hex .result) (c .before .if1 .left) in
+    let k : length (now (c .before .before .before .before .before .args .out)) < length (unhex s) = omega (arith, unhex-long s) in
+    (rw (e, lt-ltb _ _ k), rw (e, lt-ltb _ _ k))
+
+fill-hex-requires : tie.Need-fill-hex-requires
+fill-hex-requires c κs =
+    let s = now (c .before .before .before .before .before .before .args .s) in
+    (sym (c .before .before .before .is-hex .ensures) ∙ not-false (c .before .before .before .is-hex .result) (c .before .before .if1 .left), omega (arith, unhex-long s))
+
+same-length : tie.Need-same-length
+same-length c = search needs
+
+returns-3 : tie.Need-returns-3
+unfolding readHex hexBuffer
+returns-3 c =
+    let s = now (c .before .before .before .before .before .before .before .before .before .args .s) in
+    let e : isHex s ≡ true = sym (c .before .before .before .before .before .before .is-hex .ensures) ∙ not-false (c .before .before .before .before .before .before .is-hex .result) (c .before .before .before .before .before .if1 .left) in
+    let k : length (unhex s) ≤ length (now (c .before .before .before .before .before .before .before .before .before .args .out)) = omega (arith, unhex-long s) in
+    (rw (e, le-ltb _ _ k, unhex-long s), rw (e, le-ltb _ _ k) (c .before .before .fill-hex .ensures))
+
+pub read-hex-spec : {M : Type 1} → statement M
+read-hex-spec =
+    tie.close (tie.spec is-hex-requires returns returns-2 fill-hex-requires same-length returns-3)

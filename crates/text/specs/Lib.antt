@@ -1,0 +1,6 @@
+pub mod Parts
+pub mod Hex
+pub mod Decimal
+pub mod Buffer
+pub mod Fields
+pub mod Laws
