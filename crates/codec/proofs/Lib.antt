@@ -1,7 +1,9 @@
+pub mod Answers
 pub mod Bytes
 pub mod Readers
 pub mod Relaxes
 pub mod Bounded
+pub mod Yields
 pub mod Lawful
 pub mod Writings
 pub mod Demand3

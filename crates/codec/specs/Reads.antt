@@ -26,6 +26,10 @@ pub record Relaxes {A : Type 0} (p q : Reader A) : Type 0 where
 pub record Bounded {A : Type 0} (r : Reader A) : Type 0 where
   pub bound : (s : List ℕ) (a : A) (n : ℕ) → r s ≡ accepted a n → n ≤ length s
 
+-- every value read has the fact P, in whatever form it was written
+pub record Yields {A : Type 0} (r : Reader A) (P : A → Type 0) : Type 0 where
+  pub holds : (s : List ℕ) (a : A) (n : ℕ) → AllBytes s → r s ≡ accepted a n → P a
+
 -- ---- the relations of the readers of specs/Reader.antt
 
 -- `give a`

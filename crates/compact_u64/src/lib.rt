@@ -7,7 +7,8 @@ ghost use Rattle.codec.specs.Answers.{outcomeOf};
 ghost use Rattle.codec.specs.Format.{allowed, over, putAnswer, putBuffer, writeAnswer, writeBuffer};
 ghost use Rattle.compact_u64.specs.BigEndian.{valueOf, bigEndian};
 ghost use Rattle.compact_u64.specs.Number.{inlineLimit, widthExponent, minTag, numberBytes, standaloneBytes, readNumber, readStandalone, standalone};
-ghost use Rattle.compact_u64.specs.Answers.{bits, numberAnswer};
+ghost use Rattle.compact_u64.specs.Answers.{bits, numberAnswer, refusalOf};
+use codec::Decoded;
 use codec::Encoded;
 
 // How many bits a tag has.
@@ -130,6 +131,17 @@ pub fn relative_decode(
         }
     }
     DecodedU64::Value(v, n)
+}
+
+// A number's refusal as a record's; a value, which is none, counts as a fault.
+pub fn refusal(number: DecodedU64) -> Decoded
+    ensures { λ r. ⌜ r ≡ refusalOf number ⌝ }
+{
+    match number {
+        DecodedU64::EndOfInput => Decoded::EndOfInput,
+        DecodedU64::Value(_, _) => Decoded::TheirFault,
+        DecodedU64::TheirFault => Decoded::TheirFault,
+    }
 }
 
 // Reads a standalone number.

@@ -115,6 +115,13 @@ rebuilt b long lengths e =
     let total : b .total ≡ totalOf (componentsOf (b .path)) = eqb-true (b .total) _ (and-right (wellFormed (b .path)) _ e) ∙ ap (λ (p : Path). sumOf (used p)) (sym path) ∙ sum-of (componentsOf (b .path)) in
     λ i. record { path = sym path i; total = total i }
 
+-- and it is within the limits
+pub builder-limits : (b : PathBuilder) → isBuilder b ≡ true → (b .total ≤ 600) × (b .path .count ≤ 20)
+unfolding isBuilder
+builder-limits b e =
+    let w = well-formed (b .path) (and-left _ _ e) in
+    (omega (arith, eqb-true (b .total) _ (and-right (wellFormed (b .path)) _ e), w .total), w .count)
+
 pub record Builds (b : PathBuilder) : Type 0 where
   pub ok : PathOk (componentsOf (b .path))
   pub made : b ≡ builderFrom (componentsOf (b .path))

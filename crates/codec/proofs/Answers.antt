@@ -1,0 +1,35 @@
+-- What stands beside a reader's answer, at its exits, and after bytes that were read before.
+use mathlib.Core.Path.{_≡_, sym, _∙_}
+use mathlib.Core.List.{[], _∷_}
+use mathlib.Core.Logic.{⊎-elim}
+use Prim.Native.Nat.{ℕ, _+_}
+use native.Mathlib.Omega.{arith}
+use denote.Enum.Declared as declared
+use types.Run.{OneOf}
+use Rattle.codec.specs.declared.Decoded.{Decoded}
+use Rattle.codec.specs.declared.Decoded.the-variants as decoded
+use Rattle.codec.specs.Answers.{Answer, accepted, refused, answerOf, Gives}
+use Rattle.codec.specs.Reader.{shift}
+
+pub gives-refused : {A : Type 0} {blank : A} {d : Decoded} {x : Answer A} (k : ℕ) → answerOf d blank ≡ refused k → x ≡ refused k → Gives blank d blank x
+gives-refused k e f = record { answer = e ∙ sym f; value = rw f }
+
+pub gives-accepted : {A : Type 0} {blank a : A} {n : ℕ} {x : Answer A} → x ≡ accepted a n → Gives blank (decoded.Consumed n) a x
+gives-accepted f = record { answer = sym f; value = rw f }
+
+-- a refusal is the same, whatever was read before it
+unmoved : {A : Type 0} {x : Answer A} (n k : ℕ) → refused k ≡ x → shift n x ≡ x
+unmoved n k e = rw (← e)
+
+-- an answer handed on, n bytes before it
+module _ {A : Type 0} {blank a : A} {x : Answer A} (n : ℕ) where
+  pub later-accepted : (d : Decoded) (m : ℕ) → d ≡ decoded.Consumed m → Gives blank d a x → Gives blank (decoded.Consumed (n + m)) a (shift n x)
+  later-accepted d m told g =
+      let e : accepted a m ≡ x = rw told at (g .answer) in
+      gives-accepted (rw (← e))
+
+  pub later-refused : (d : Decoded) → OneOf (1 ∷ 2 ∷ 3 ∷ []) (declared.tagOf Rattle.codec.proofs.Decoded.the-type d) → Gives blank d a x → Gives blank d a (shift n x)
+  later-refused (decoded.Consumed m) h g = absurd (⊎-elim (λ e. omega arith) (⊎-elim (λ e. omega arith) (λ e. omega arith)) h)
+  later-refused decoded.EndOfInput h g = rw (unmoved n 1 (g .answer)) g
+  later-refused decoded.TheirFault h g = rw (unmoved n 2 (g .answer)) g
+  later-refused decoded.Malformed h g = rw (unmoved n 5 (g .answer)) g

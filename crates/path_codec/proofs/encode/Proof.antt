@@ -1,0 +1,26 @@
+use mathlib.Core.Path.{ap, _∙_}
+use denote.Ref.{now}
+use lib.ListN.{length}
+use Rattle.codec.specs.Format.{Format, writeAnswer, writeBuffer}
+use Rattle.path.specs.declared.Path.{Path}
+use Rattle.path_codec.proofs.Writing.{plain-suffix}
+use borrow.Author.Needs.{needs}
+use Rattle.path_codec.proofs.encode.Statement.{statement}
+use Rattle.path_codec.proofs.encode.Tie as tie
+
+encode-suffix-requires : tie.Need-encode-suffix-requires
+encode-suffix-requires c κs = search needs
+
+same-length : tie.Need-same-length
+same-length c = search needs
+
+returns : tie.Need-returns
+returns c =
+    let a = c .before .before .before .before .before .args in
+    let e = c .before .before .encode-suffix .ensures in (
+      e .0 ∙ ap (λ (f : Format Path). writeAnswer f (a .path) (length (now (a .buffer)))) plain-suffix,
+      e .1 ∙ ap (λ (f : Format Path). writeBuffer f (a .path) (now (a .buffer))) plain-suffix,
+    )
+
+pub encode-spec : {M : Type 1} → statement M
+encode-spec = tie.close (tie.spec encode-suffix-requires same-length returns)

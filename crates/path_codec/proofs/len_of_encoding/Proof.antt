@@ -1,0 +1,16 @@
+use mathlib.Core.Path.{ap, _∙_}
+use Rattle.codec.specs.Format.{Format, lengthAnswer}
+use Rattle.path.specs.declared.Path.{Path}
+use Rattle.path_codec.proofs.Writing.{plain-suffix}
+use borrow.Author.Needs.{needs}
+use Rattle.path_codec.proofs.len_of_encoding.Statement.{statement}
+use Rattle.path_codec.proofs.len_of_encoding.Tie as tie
+
+suffix-len-requires : tie.Need-suffix-len-requires
+suffix-len-requires c κs = search needs
+
+returns : tie.Need-returns
+returns c = c .suffix-len .ensures ∙ ap (λ (f : Format Path). lengthAnswer f (c .before .args .path)) plain-suffix
+
+pub len-of-encoding-spec : {M : Type 1} → statement M
+len-of-encoding-spec = tie.close (tie.spec suffix-len-requires returns)

@@ -1,0 +1,116 @@
+use mathlib.Core.Path.{_≡_, ap, _∙_, sym}
+use Prim.Native.Nat.{_+_, _≤_}
+use denote.Ref.{now}
+use native.Mathlib.Omega.{arith}
+use lib.ListN.{length, drop, getD, length-drop}
+use Rattle.codec.specs.Answers.{accepted}
+use Rattle.compact_u64.specs.Number.{readNumber}
+use Rattle.compact_u64.specs.Answers.{numberAnswer}
+use Rattle.compact_u64.proofs.Number.{number-bounded}
+use Rattle.path_codec.specs.Header.{unpackTags}
+use Rattle.path_codec.proofs.Exits.{no-number, sizes-none, sizes-first, sizes-second, sizes-both}
+use borrow.Author.Needs.{needs}
+use Rattle.path_codec.proofs.suffix_decode.decode_sizes.Statement.{statement}
+use Rattle.path_codec.proofs.suffix_decode.decode_sizes.Tie as tie
+
+-- the first number, of the message's own bytes
+first-is : (c : tie.After-relative-decode) → let a = c .before .before .before .before .before .args in readNumber (a .canonic) 4 (unpackTags (getD (now (a .message)) (a .start) 0) .total) (drop (a .start + 1) (now (a .message))) ≡ numberAnswer (c .relative-decode .result)
+first-is c = sym (rw (c .before .unpack-tags .ensures) at (c .relative-decode .ensures))
+
+first-value : (c : tie.After-known-told) → let a = c .before .before .before .before .before .before .before .before .args in readNumber (a .canonic) 4 (unpackTags (getD (now (a .message)) (a .start) 0) .total) (drop (a .start + 1) (now (a .message))) ≡ accepted (c .before .number .given .0 .0) (c .before .number .given .0 .1 .0)
+first-value c = first-is (c .before .before .before) ∙ ap numberAnswer (c .before .number .given .1)
+
+first-inside : (c : tie.After-known-told) → c .before .before .before .before .before .before .before .before .args .start + 1 + c .before .number .given .0 .1 .0 ≤ length (now (c .before .before .before .before .before .before .before .before .args .message))
+first-inside c =
+    let a = c .before .before .before .before .before .before .before .before .args in
+    omega (arith, number-bounded 4 _ (a .canonic) .bound (drop (a .start + 1) (now (a .message))) _ _ (first-value c), length-drop (a .start + 1) (now (a .message)), c .before .before .before .before .before .before .if1 .left)
+
+-- the second, after it
+second-is : (c : tie.After-relative-decode2) → let a = c .before .before .before .before .before .before .before .before .before .args in readNumber (a .canonic) 4 (unpackTags (getD (now (a .message)) (a .start) 0) .count) (drop (a .start + 1 + c .before .before .number .given .0 .1 .0) (now (a .message))) ≡ numberAnswer (c .relative-decode2 .result)
+second-is c = sym (rw (c .before .before .before .before .before .unpack-tags .ensures) at (c .relative-decode2 .ensures))
+
+second-value : (c : tie.After-known-told2) → let a = c .before .before .before .before .before .before .before .before .before .before .before .before .args in readNumber (a .canonic) 4 (unpackTags (getD (now (a .message)) (a .start) 0) .count) (drop (a .start + 1 + c .before .before .before .before .before .number .given .0 .1 .0) (now (a .message))) ≡ accepted (c .before .number2 .given .0 .0) (c .before .number2 .given .0 .1 .0)
+second-value c = second-is (c .before .before .before) ∙ ap numberAnswer (c .before .number2 .given .1)
+
+second-inside : (c : tie.After-known-told2) → c .before .before .before .before .before .before .before .before .before .before .before .before .args .start + 1 + c .before .before .before .before .before .number .given .0 .1 .0 + c .before .number2 .given .0 .1 .0 ≤ length (now (c .before .before .before .before .before .before .before .before .before .before .before .before .args .message))
+second-inside c =
+    let a = c .before .before .before .before .before .before .before .before .before .before .before .before .args in
+    let at = a .start + 1 + c .before .before .before .before .before .number .given .0 .1 .0 in
+    omega (arith, first-inside (c .before .before .before .before), number-bounded 4 _ (a .canonic) .bound (drop at (now (a .message))) _ _ (second-value c), length-drop at (now (a .message)))
+
+returns : tie.Need-returns
+returns c = sym (sizes-none _ (now (c .before .before .args .message)) _ (c .if1 .taken))
+
+shared-slice-read-unpack-tags : tie.Need-shared-slice-read-unpack-tags
+shared-slice-read-unpack-tags c = search needs
+
+unpack-tags-requires : tie.Need-unpack-tags-requires
+unpack-tags-requires c κs = search needs
+
+add-first : tie.Need-add-first
+add-first c = search needs
+
+relative-decode-requires : tie.Need-relative-decode-requires
+relative-decode-requires c κs = search needs
+
+enum-known-number : tie.Need-enum-known-number
+enum-known-number c = search needs
+
+number-refusal-requires : tie.Need-number-refusal-requires
+number-refusal-requires c κs = search needs
+
+returns-2 : tie.Need-returns-2
+returns-2 c =
+    let a = c .before .before .before .before .before .before .before .args in
+    let x = no-number (c .before .before .relative-decode .result) (c .before .match .keys2) in
+    rw (c .number-refusal .ensures) (x .sizes ∙ sym (sizes-first (a .canonic) (now (a .message)) (a .start) (c .before .before .before .before .before .if1 .left) (x .why) (first-is (c .before .before) ∙ x .number)))
+
+add-relative-decode : tie.Need-add-relative-decode
+add-relative-decode c = omega (arith, first-inside c)
+
+relative-decode-requires-2 : tie.Need-relative-decode-requires-2
+relative-decode-requires-2 c κs = search needs
+
+enum-known-number2 : tie.Need-enum-known-number2
+enum-known-number2 c = search needs
+
+number-refusal-requires-2 : tie.Need-number-refusal-requires-2
+number-refusal-requires-2 c κs = search needs
+
+returns-3 : tie.Need-returns-3
+returns-3 c =
+    let a = c .before .before .before .before .before .before .before .before .before .before .before .args in
+    let x = no-number (c .before .before .relative-decode2 .result) (c .before .match2 .keys2) in
+    rw (c .number-refusal2 .ensures) (x .sizes ∙ sym (sizes-second (a .canonic) (now (a .message)) (a .start) (c .before .before .before .before .before .before .before .before .before .if1 .left) _ _ (first-value (c .before .before .before)) (x .why) (second-is (c .before .before) ∙ x .number)))
+
+add-t12 : tie.Need-add-t12
+add-t12 c = omega (arith, first-inside (c .before .before .before .before), second-inside c)
+
+add-t17 : tie.Need-add-t17
+add-t17 c = omega (arith, first-inside (c .before .before .before .before), second-inside c)
+
+returns-4 : tie.Need-returns-4
+returns-4 c =
+    let a = c .before .before .before .before .before .before .before .before .before .before .before .before .args in
+    sym (sizes-both (a .canonic) (now (a .message)) (a .start) (c .before .before .before .before .before .before .before .before .before .before .if1 .left) _ _ (first-value (c .before .before .before .before)) _ _ (second-value c))
+
+pub decode-sizes-spec : {M : Type 1} → statement M
+decode-sizes-spec =
+    tie.close
+    (tie.spec
+    returns
+    shared-slice-read-unpack-tags
+    unpack-tags-requires
+    add-first
+    relative-decode-requires
+    enum-known-number
+    number-refusal-requires
+    returns-2
+    add-relative-decode
+    relative-decode-requires-2
+    enum-known-number2
+    number-refusal-requires-2
+    returns-3
+    add-t12
+    add-t17
+    returns-4)

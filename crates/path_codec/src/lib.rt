@@ -1,0 +1,109 @@
+// Plain paths as bytes: docs/FORMAT.md, "Paths". A port of path/codec.rs.
+ghost use mathlib.Core.Path.{_≡_};
+ghost use lib.ListN.{length, drop};
+ghost use Rattle.codec.specs.Answers.{outcomeOf};
+ghost use Rattle.codec.specs.Format.{writeAnswer, writeBuffer, lengthAnswer};
+ghost use Rattle.path_codec.specs.Header.{unpackTags, packTags, TagsFit};
+ghost use Rattle.path_codec.specs.Plain.{plainPath, readPath};
+ghost use Rattle.path_codec.specs.Answers.{GivesPath, refusal};
+use codec::Decoded;
+use codec::Encoded;
+use path::Path;
+use path::PathBuilder;
+
+pub mod suffix_decode;
+pub mod suffix_encode;
+
+// A path beside the answer; beside a refusal it is the empty one.
+pub struct DecodedPath {
+    pub answer: Decoded,
+    pub path: Path,
+}
+
+// Total length, component count and the bytes consumed.
+pub enum DecodedSizes {
+    Sizes(u64, u64, usize),
+    EndOfInput,
+    TheirFault,
+}
+
+// Where a component's bytes start and end in the message.
+pub enum DecodedComponent {
+    Bytes(usize, usize),
+    EndOfInput,
+    TheirFault,
+}
+
+// The tags in a suffix's header byte.
+pub struct Tags {
+    pub total: u8,
+    pub count: u8,
+}
+
+// What one of each tag adds to the header byte.
+const TOTAL: u8 = 16;
+
+const COUNT: u8 = 1;
+
+fn unpack_tags(b: u8) -> Tags
+    ensures { λ r. ⌜ r ≡ unpackTags b ⌝ }
+{
+    Tags {
+        total: b / TOTAL % 16,
+        count: b / COUNT % 16,
+    }
+}
+
+fn pack_tags(tags: Tags) -> u8
+    requires { ⌜ TagsFit tags ⌝ }
+    ensures { λ r. ⌜ r ≡ packTags tags ⌝ }
+{
+    tags.total * TOTAL + tags.count * COUNT
+}
+
+// A refusal beside the empty path.
+pub fn refuse(answer: Decoded) -> DecodedPath
+    ensures { λ r. ⌜ r ≡ refusal answer ⌝ }
+{
+    let path = Path::new_empty();
+    DecodedPath {
+        answer: answer,
+        path: path,
+    }
+}
+
+// Reads a plain path.
+pub fn decode(message: &[u8], start: usize, canonic: bool) -> DecodedPath
+    ensures { λ r. ⌜ GivesPath r (readPath canonic (drop start (now (message .entry)))) ⌝ }
+{
+    let sizes = suffix_decode::decode_sizes(message, start, canonic);
+    let DecodedSizes::Sizes(total, count, n) = sizes else {
+        return refuse(suffix_decode::sizes_refusal(sizes));
+    };
+    let at = start + n;
+    let empty = PathBuilder::new();
+    let read = suffix_decode::decode_components(&message[at..], canonic, total, count, empty);
+    let answer = read.answer;
+    let Decoded::Consumed(m) = answer else {
+        return read;
+    };
+    let path = read.path;
+    DecodedPath {
+        answer: Decoded::Consumed(n + m),
+        path: path,
+    }
+}
+
+// How many bytes a plain path takes.
+pub fn len_of_encoding(path: Path) -> Encoded
+    ensures { λ r. ⌜ outcomeOf r ≡ lengthAnswer plainPath path ⌝ }
+{
+    suffix_encode::suffix_len(path, 0)
+}
+
+// Writes a plain path.
+pub fn encode(buffer: &mut [u8], path: Path) -> Encoded
+    ensures { λ r. ⌜ (outcomeOf r ≡ writeAnswer plainPath path (length (now (buffer .entry)))) × (now (buffer .exit) ≡ writeBuffer plainPath path (now (buffer .entry))) ⌝ }
+{
+    suffix_encode::encode_suffix(buffer, path, 0)
+}
