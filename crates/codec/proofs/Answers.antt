@@ -9,7 +9,7 @@ use types.Run.{OneOf}
 use Rattle.codec.specs.declared.Decoded.{Decoded}
 use Rattle.codec.specs.declared.Decoded.the-variants as decoded
 use Rattle.codec.specs.Answers.{Answer, accepted, refused, answerOf, Gives}
-use Rattle.codec.specs.Reader.{shift}
+use Rattle.codec.specs.Reader.{bind, shift}
 
 pub gives-refused : {A : Type 0} {blank : A} {d : Decoded} {x : Answer A} (k : ℕ) → answerOf d blank ≡ refused k → x ≡ refused k → Gives blank d blank x
 gives-refused k e f = record { answer = e ∙ sym f; value = rw f }
@@ -20,6 +20,9 @@ gives-accepted f = record { answer = sym f; value = rw f }
 -- a refusal is the same, whatever was read before it
 unmoved : {A : Type 0} {x : Answer A} (n k : ℕ) → refused k ≡ x → shift n x ≡ x
 unmoved n k e = rw (← e)
+
+stays : {A : Type 0} {x : Answer A} (f : A → ℕ → Answer A) (k : ℕ) → refused k ≡ x → bind x f ≡ x
+stays f k e = rw (← e)
 
 -- an answer handed on, n bytes before it
 module _ {A : Type 0} {blank a : A} {x : Answer A} (n : ℕ) where
@@ -33,3 +36,11 @@ module _ {A : Type 0} {blank a : A} {x : Answer A} (n : ℕ) where
   later-refused decoded.EndOfInput h g = rw (unmoved n 1 (g .answer)) g
   later-refused decoded.TheirFault h g = rw (unmoved n 2 (g .answer)) g
   later-refused decoded.Malformed h g = rw (unmoved n 5 (g .answer)) g
+
+-- a refusal is the same, whatever was to come after a value
+pub bind-refused : {A : Type 0} {blank a : A} {x : Answer A} (f : A → ℕ → Answer A) (d : Decoded) → OneOf (1 ∷ 2 ∷ 3 ∷ []) (declared.tagOf Rattle.codec.proofs.Decoded.the-type d)
+    → Gives blank d a x → Gives blank d a (bind x f)
+bind-refused f (decoded.Consumed m) h g = absurd (⊎-elim (λ e. omega arith) (⊎-elim (λ e. omega arith) (λ e. omega arith)) h)
+bind-refused f decoded.EndOfInput h g = rw (stays f 1 (g .answer)) g
+bind-refused f decoded.TheirFault h g = rw (stays f 2 (g .answer)) g
+bind-refused f decoded.Malformed h g = rw (stays f 5 (g .answer)) g

@@ -9,8 +9,13 @@ use borrow.Author.Tests.{le-leb, lt-leb}
 use borrow.Rule.Slice.PartMut.{putMid}
 use lib.ListN.{length, take, drop, set, length-append, length-drop, drop-of-length-le}
 use lib.Seq.{take-all, take-at, drop-at, drop-drop, length-take-le, take-append-add, drop-append-add}
-use Rattle.codec.specs.Answers.{wrote, denied}
-use Rattle.codec.specs.Format.{Format, Verdict, allowed, barred, over, putAnswer, putBuffer, lengthAnswer}
+use mathlib.Core.Logic.{⊎-elim}
+use denote.Enum.Declared as declared
+use types.Run.{OneOf}
+use Rattle.codec.specs.declared.Encoded.{Encoded}
+use Rattle.codec.specs.declared.Encoded.the-variants as encoded
+use Rattle.codec.specs.Answers.{wrote, denied, outcomeOf}
+use Rattle.codec.specs.Format.{Format, Verdict, allowed, barred, over, outcomeBy, putAnswer, putBuffer, writeAnswer, writeBuffer, lengthAnswer}
 
 -- ---- the exits of a writer, by the tests 5, 3 and 4
 module _ (d : Verdict) (bs l : List ℕ) where
@@ -35,6 +40,10 @@ module _ (d : Verdict) (bs l : List ℕ) where
 pub put-over : (bs l : List ℕ) → length bs ≤ length l → putBuffer allowed bs l ≡ over bs l
 put-over bs l h = sym (put-fits allowed bs l refl (length bs) refl h .1)
 
+pub record NoLength (x : Encoded) : Type 0 where
+  pub why : ℕ
+  pub is : outcomeOf x ≡ denied why
+
 -- the exits of a written length
 module _ {A : Type 0} (f : Format A) (v : A) where
   pub length-barred : (k : ℕ) → f .check v ≡ barred k → denied k ≡ lengthAnswer f v
@@ -44,6 +53,45 @@ module _ {A : Type 0} (f : Format A) (v : A) where
   pub length-allowed : (n : ℕ) → f .check v ≡ allowed → n ≡ length (f .encode v) → wrote n ≡ lengthAnswer f v
   unfolding lengthAnswer
   length-allowed n e long = rw e (ap wrote long)
+
+  -- and what a length that was answered tells
+  pub length-wrote : (n : ℕ) → lengthAnswer f v ≡ wrote n → (f .check v ≡ allowed) × (n ≡ length (f .encode v))
+  unfolding lengthAnswer
+  length-wrote n e = go (f .check v) refl e
+    where
+      go : (d : Verdict) → f .check v ≡ d → outcomeBy d true (length (f .encode v)) ≡ wrote n → (f .check v ≡ allowed) × (n ≡ length (f .encode v))
+      go allowed p q = (p, cc)
+      go (barred k) p q = let z : _≡_ {A = ℕ} 0 1 = cc in absurd (omega arith)
+
+  pub length-denied : (k : ℕ) → lengthAnswer f v ≡ denied k → f .check v ≡ barred k
+  unfolding lengthAnswer
+  length-denied k e = go (f .check v) refl e
+    where
+      go : (d : Verdict) → f .check v ≡ d → outcomeBy d true (length (f .encode v)) ≡ denied k → f .check v ≡ barred k
+      go allowed p q = let z : _≡_ {A = ℕ} 0 1 = cc in absurd (omega arith)
+      go (barred j) p q = let same : j ≡ k = cc in p ∙ ap barred same
+
+  pub length-not-denied : (k : ℕ) → f .check v ≡ allowed → lengthAnswer f v ≡ denied k → ⊥
+  length-not-denied k e d = go (sym e ∙ length-denied k d)
+    where
+      go : allowed ≡ barred k → ⊥
+      go h = let z : _≡_ {A = ℕ} 0 1 = cc in omega arith
+
+  -- two formats that agree on a value
+  module _ (g : Format A) (check : f .check v ≡ g .check v) (bytes : f .encode v ≡ g .encode v) where
+    pub same-length : lengthAnswer f v ≡ lengthAnswer g v
+    unfolding lengthAnswer
+    same-length = rw (check, bytes)
+
+    pub same-writing : (l : List ℕ) → (writeAnswer f v (length l) ≡ writeAnswer g v (length l)) × (writeBuffer f v l ≡ writeBuffer g v l)
+    same-writing l = (rw (check, bytes), rw (check, bytes))
+
+-- a writer's answer that is no length
+pub no-length : (x : Encoded) → OneOf (1 ∷ 2 ∷ 3 ∷ []) (declared.tagOf Rattle.codec.proofs.Encoded.the-type x) → NoLength x
+no-length (encoded.Length n) h = absurd (⊎-elim (λ e. omega arith) (⊎-elim (λ e. omega arith) (λ e. omega arith)) h)
+no-length encoded.Outside h = record { why = 3; is = refl }
+no-length encoded.NoRoom h = record { why = 4; is = refl }
+no-length encoded.Malformed h = record { why = 5; is = refl }
 
 -- ---- a part that goes to the end, lent and come back as ys
 pub to-end : (n : ℕ) (l : List ℕ) → take (length l - n) (drop n l) ≡ drop n l

@@ -8,22 +8,23 @@ use native.Mathlib.Numerals.{add-one}
 use native.Mathlib.Omega.{arith}
 use denote.Enum.Declared as declared
 use types.Run.{OneOf}
-use lib.Dec.{eqb}
-use lib.ListN.{length, take, drop, set, getD, drop-of-length-le}
+use lib.Dec.{leb, eqb}
+use lib.ListN.{length, take, drop, set, getD, drop-of-length-le, length-drop}
 use lib.Seq.{drop-cons}
-use borrow.Author.Tests.{lt-ltb, le-ltb, le-leb, lt-leb, eq-eqb}
-use Rattle.codec.specs.Answers.{accepted, refused}
+use borrow.Author.Tests.{lt-ltb, le-ltb, le-leb, lt-leb, eq-eqb, leb-true, leb-false}
+use Rattle.codec.specs.Answers.{accepted, refused, answerOf}
 use Rattle.codec.specs.Format.{allowed, over, putBuffer}
 use Rattle.codec.specs.Reader.{shift, passed}
 use Rattle.codec.proofs.Lending.{put-over}
 use Rattle.compact_u64.specs.BigEndian.{bigEndian, valueOf}
 use Rattle.compact_u64.specs.Number.{inlineLimit, widthExponent, minTag, encodingWidth, numberBytes, numberSaid, standaloneBytes, readNumber, readStandalone}
-use Rattle.compact_u64.specs.Answers.{bits, numberAnswer}
+use Rattle.compact_u64.specs.Answers.{bits, numberAnswer, refusalOf}
 use Rattle.compact_u64.specs.declared.TagWidth.{TagWidth}
 use Rattle.compact_u64.specs.declared.TagWidth.the-variants as width
 use Rattle.compact_u64.specs.declared.DecodedU64.{DecodedU64}
 use Rattle.compact_u64.specs.declared.DecodedU64.the-variants as decoded
 use Rattle.compact_u64.proofs.BigEndian.{length-bigEndian}
+use Rattle.compact_u64.proofs.Standalone.{standalone-bounded}
 use Rattle.compact_u64.proofs.Tags.{width-inline, width-sized, length-numberBytes}
 
 -- the four tags after which bytes follow
@@ -73,6 +74,25 @@ pub no-value : (x : DecodedU64) (k : ℕ) → OneOf (1 ∷ 2 ∷ []) (declared.t
 no-value (decoded.Value n u) k h = absurd (⊎-elim (λ e. omega arith) (λ e. omega arith) h)
 no-value decoded.EndOfInput k h = refl
 no-value decoded.TheirFault k h = refl
+
+-- a number that is no value, and its refusal as a record's
+pub record Refused {A : Type 0} (blank : A) (x : DecodedU64) : Type 0 where
+  pub why : ℕ
+  pub number : numberAnswer x ≡ refused why
+  pub whole : answerOf (refusalOf x) blank ≡ refused why
+
+pub refused-number : {A : Type 0} (blank : A) (x : DecodedU64) → OneOf (1 ∷ 2 ∷ []) (declared.tagOf Rattle.compact_u64.proofs.DecodedU64.the-type x) → Refused blank x
+refused-number blank (decoded.Value n u) h = absurd (⊎-elim (λ e. omega arith) (λ e. omega arith) h)
+refused-number blank decoded.EndOfInput h = record { why = 1; number = refl; whole = refl }
+refused-number blank decoded.TheirFault h = record { why = 2; number = refl; whole = refl }
+
+-- a standalone number that was read lies within the bytes
+pub standalone-inside : (canonic : Bool) (s : List ℕ) (i v n : ℕ) → readStandalone canonic (drop i s) ≡ accepted v n → i + n ≤ length s
+standalone-inside canonic s i v n e = go (leb (length s) i) refl
+  where
+    go : (b : Bool) → leb (length s) i ≡ b → i + n ≤ length s
+    go true f = let g = standalone-none canonic s i (leb-true (length s) i f) in let z : _≡_ {A = ℕ} 0 1 = cc in absurd (omega arith)
+    go false f = omega (arith, leb-false (length s) i f, standalone-bounded canonic .bound (drop i s) v n e, length-drop i s)
 
 -- ---- written lengths
 pub inline-length : (w v : ℕ) → v < inlineLimit w → (0 ≡ length (numberBytes w v)) × (0 ≤ 8)

@@ -6,3 +6,4 @@ pub mod Plain
 pub mod Exits
 pub mod Loop
 pub mod Writing
+pub mod Orders

@@ -1,17 +1,20 @@
 -- The laws of a suffix.
 use mathlib.Core.Path.{_≡_, refl}
-use mathlib.Core.List.{List, []}
+use mathlib.Core.List.{List, [], _∷_}
 use mathlib.Core.Bool.{Bool, true, false}
-use Prim.Native.Nat.{ℕ, _≤_}
+use Prim.Native.Nat.{ℕ, _+_, _*_, _≤_}
 use native.Mathlib.Omega.{arith}
-use lib.ListN.{length}
+use lib.ListN.{length, length-append}
 use Rattle.codec.specs.Answers.{refused}
 use Rattle.codec.specs.Reads.{Reads, ReadsBack, Relaxes, Bounded, Joined, Tested}
 use Rattle.codec.proofs.Readers.{reads-as, then-reads, guard-reads}
 use Rattle.codec.proofs.Relaxes.{relaxes-back, then-relaxes, guard-relaxes}
 use Rattle.codec.proofs.Bounded.{then-bounded, guard-bounded}
+use Rattle.compact_u64.specs.Number.{numberBytes, standaloneBytes}
+use Rattle.compact_u64.proofs.Tags.{numberBytes-short}
+use Rattle.compact_u64.proofs.Standalone.{standalone-short}
 use Rattle.path.specs.Limits.{totalOf}
-use Rattle.path_codec.specs.Suffix.{componentBytes, sizesOf, sizesBytes, suffixBytes, readSizes, readSuffix}
+use Rattle.path_codec.specs.Suffix.{sizedBytes, componentBytes, sizesOf, sizesBytes, suffixBytes, readSizes, readSuffix}
 use Rattle.path_codec.specs.Relations.{SizesAs, ComponentsAs, SuffixAs}
 use Rattle.path_codec.proofs.Header.{sizes-reads, sizes-relaxes, sizes-bounded}
 use Rattle.path_codec.proofs.Components.{components-reads, components-relaxes, components-bounded}
@@ -74,3 +77,17 @@ module _ (within : ℕ → ℕ → Bool) where
 pub suffix-long : (cs : List (List ℕ)) → 1 ≤ length (suffixBytes cs)
 unfolding suffixBytes sizesBytes
 suffix-long cs = omega arith
+
+-- how long it may be
+components-short : (cs : List (List ℕ)) → length (componentBytes cs) ≤ 9 * length cs + totalOf cs
+unfolding componentBytes
+components-short [] = omega arith
+components-short (c ∷ []) = omega arith
+components-short (c ∷ d ∷ cs) =
+    omega (arith, components-short (d ∷ cs), length-append (sizedBytes c) (componentBytes (d ∷ cs)), length-append (standaloneBytes (length c)) c, standalone-short (length c))
+
+pub suffix-short : (cs : List (List ℕ)) → length (suffixBytes cs) ≤ 17 + (9 * length cs + totalOf cs)
+unfolding suffixBytes sizesBytes
+suffix-short cs =
+    let h = sizesOf cs in
+    omega (arith, components-short cs, length-append (sizesBytes (sizesOf cs)) (componentBytes cs), length-append (numberBytes 4 (totalOf cs)) (numberBytes 4 (length cs)), numberBytes-short 4 (totalOf cs), numberBytes-short 4 (length cs))

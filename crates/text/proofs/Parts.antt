@@ -1,15 +1,15 @@
 -- Laws of finding a byte, and of the parts that it makes.
-use mathlib.Core.Path.{_≡_, refl}
+use mathlib.Core.Path.{_≡_, refl, sym}
 use mathlib.Core.List.{List, [], _∷_}
 use mathlib.Core.Bool.{Bool, true, false, cond}
 use Prim.Native.Nat.{ℕ, suc, _+_, _≤_, _<_}
 use native.Mathlib.Numerals.{add-one}
 use native.Mathlib.Omega.{arith}
-use lib.Dec.{eqb}
-use borrow.Author.Tests.{eq-eqb, ne-eqb}
+use lib.Dec.{eqb, ltb}
+use borrow.Author.Tests.{eq-eqb, ne-eqb, ltb-true, ltb-false}
 use lib.ListN.{length, take, drop, getD, drop-of-length-le}
-use lib.Seq.{drop-cons}
-use Rattle.text.specs.Parts.{before, onFirst, parts}
+use lib.Seq.{drop-cons, take-all}
+use Rattle.text.specs.Parts.{before, onFirst, parts, partAt}
 
 module _ (x : ℕ) where
   -- ---- at one place of a text
@@ -62,3 +62,39 @@ module _ (x : ℕ) where
       by-cases true ps h = let z : _≡_ {A = ℕ} 0 1 = cc in omega arith
       by-cases false [] h = let z : _≡_ {A = ℕ} 0 1 = cc in omega arith
       by-cases false (p ∷ ps) h = let z : _≡_ {A = ℕ} 0 1 = cc in omega arith
+
+  -- ---- how many parts there are, from one place on
+  pub count-here : (s : List ℕ) (i : ℕ) → i < length s → getD s i 0 ≡ x → length (parts x (drop i s)) ≡ suc (length (parts x (drop (i + 1) s)))
+  unfolding parts
+  count-here s i h e = rw (drop-cons s i 0 h, eq-eqb (getD s i 0) x e, add-one i)
+
+  pub count-next : (s : List ℕ) (i : ℕ) → i < length s → (getD s i 0 ≡ x → ⊥) → length (parts x (drop i s)) ≡ length (parts x (drop (i + 1) s))
+  unfolding parts
+  count-next s i h e = rw (drop-cons s i 0 h, ne-eqb (getD s i 0) x e, add-one i) (same-count (parts x (drop (suc i) s)) (parts-some (drop (suc i) s)))
+    where
+      same-count : (ps : List (List ℕ)) → (ps ≡ [] → ⊥) → length (onFirst (getD s i 0) ps) ≡ length ps
+      same-count [] some = absurd (some refl)
+      same-count (p ∷ ps) some = refl
+
+  pub count-end : (s : List ℕ) (i : ℕ) → length s ≤ i → length (parts x (drop i s)) ≡ 1
+  unfolding parts
+  count-end s i h = rw (drop-of-length-le s h)
+
+  -- ---- each part by its place
+  pub part-first : (s : List ℕ) → partAt x 0 s ≡ take (length (before x s)) s
+  unfolding partAt
+  part-first s = by-cases (ltb (length (before x s)) (length s)) refl
+    where
+      by-cases : (t : Bool) → ltb (length (before x s)) (length s) ≡ t → getD (parts x s) 0 [] ≡ take (length (before x s)) s
+      by-cases true h = rw (parts-more s (ltb-true _ _ h))
+      by-cases false h =
+          let l : length s ≤ length (before x s) = ltb-false _ _ h in
+          rw (parts-last s l) (sym (take-all (length (before x s)) s l))
+
+  pub part-later : (s : List ℕ) (i : ℕ) → length (before x s) < length s → partAt x (suc i) s ≡ partAt x i (drop (length (before x s) + 1) s)
+  unfolding partAt
+  part-later s i h = rw (parts-more s h)
+
+  pub part-none : (s : List ℕ) (i : ℕ) → length s ≤ length (before x s) → partAt x (suc i) s ≡ []
+  unfolding partAt
+  part-none s i h = rw (parts-last s h)

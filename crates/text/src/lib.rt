@@ -5,7 +5,7 @@ ghost use Prim.Native.Nat.{_+_, _*_, _≤_, _<_};
 ghost use lib.ListN.{length};
 ghost use Rattle.io.specs.Digits.{glyph};
 ghost use Rattle.codec.specs.Format.{over};
-ghost use Rattle.text.specs.Parts.{before};
+ghost use Rattle.text.specs.Parts.{before, parts, partAt, sameText};
 ghost use Rattle.text.specs.Hex.{hexValue, isHex, unhex, hexText};
 ghost use Rattle.text.specs.Decimal.{decimalValue, decimalText};
 ghost use Rattle.text.specs.Buffer.{overAt, putAt, placeAfter};
@@ -36,6 +36,58 @@ pub fn find(s: &[u8], x: u8) -> usize
         i += 1;
     }
     i
+}
+
+// How many parts the bytes `x` part a text into.
+pub fn part_count(s: &[u8], x: u8) -> usize
+    ensures { λ r. ⌜ r ≡ length (parts x (now (s .entry))) ⌝ }
+{
+    let mut n: usize = 1;
+    let mut i: usize = 0;
+    while i < s.len() {
+        if s[i] == x {
+            n += 1;
+        }
+        i += 1;
+    }
+    n
+}
+
+// The i-th of these parts, from 0; no bytes where there is none.
+pub fn part(s: &[u8], x: u8, i: usize) -> &[u8]
+    ensures { λ r. ⌜ now r ≡ partAt x i (now (s .entry)) ⌝ }
+{
+    let mut at: usize = 0;
+    let mut left = i;
+    while 0 < left {
+        let rest = &s[at..];
+        let k = find(rest, x);
+        if k == rest.len() {
+            return &s[..0];
+        }
+        at += k + 1;
+        left -= 1;
+    }
+    let rest = &s[at..];
+    let k = find(rest, x);
+    &rest[..k]
+}
+
+// Whether two texts are the same.
+pub fn same(s: &[u8], t: &[u8]) -> bool
+    ensures { λ r. ⌜ r ≡ sameText (now (s .entry)) (now (t .entry)) ⌝ }
+{
+    if s.len() != t.len() {
+        return false;
+    }
+    let mut i: usize = 0;
+    while i < s.len() {
+        if s[i] != t[i] {
+            return false;
+        }
+        i += 1;
+    }
+    true
 }
 
 // 10 for a byte that is no digit.

@@ -1,0 +1,52 @@
+-- The worked examples of docs/FORMAT.md, "Examples", that are proved: one list.
+use mathlib.Core.Path.{_≡_}
+use mathlib.Core.List.{List, [], _∷_}
+use mathlib.Core.Bool.{true, false}
+use Prim.Native.Nat.{ℕ}
+use Rattle.codec.specs.Answers.{Answer, accepted, refused}
+use Rattle.codec.specs.Reader.{named}
+use Rattle.path.specs.Record.{pathFrom}
+use Rattle.path_codec.specs.Plain.{plainPath, readPath}
+use Rattle.path_relative.specs.Records.{againstPath, readAgainstPath}
+
+-- components
+abbrev pub a : List ℕ
+a = 0x61 ∷ []
+
+abbrev pub bc : List ℕ
+bc = 0x62 ∷ 0x63 ∷ []
+
+-- a message with the answers of strict and of lenient reading, or a value with the bytes that writing gives; a path stands as its components
+pub data Case : Type 0 where
+  path : List ℕ → Answer (List (List ℕ)) → Answer (List (List ℕ)) → Case
+  path-written : List (List ℕ) → List ℕ → Case
+  against : List (List ℕ) → List ℕ → Answer (List (List ℕ)) → Answer (List (List ℕ)) → Case
+  against-written : List (List ℕ) → List (List ℕ) → List ℕ → Case
+
+abbrev pub Holds : Case → Type 0
+Holds (path s strict lenient) = (readPath true s ≡ named pathFrom strict) × (readPath false s ≡ named pathFrom lenient)
+Holds (path-written p bytes) = plainPath .encode (pathFrom p) ≡ bytes
+Holds (against r s strict lenient) = (readAgainstPath true (pathFrom r) s ≡ named pathFrom strict) × (readAgainstPath false (pathFrom r) s ≡ named pathFrom lenient)
+Holds (against-written r p bytes) = againstPath (pathFrom r) .encode (pathFrom p) ≡ bytes
+
+abbrev pub AllHold : List Case → Type 0
+AllHold [] = Unit {0}
+AllHold (c ∷ cs) = Holds c × AllHold cs
+
+abbrev pub cases : List Case
+cases =
+    path (0x00 ∷ []) (accepted [] 1) (accepted [] 1)
+    ∷ path-written [] (0x00 ∷ [])
+    ∷ path (0x01 ∷ []) (accepted ([] ∷ []) 1) (accepted ([] ∷ []) 1)
+    ∷ path-written ([] ∷ []) (0x01 ∷ [])
+    ∷ path (0x10 ∷ []) (refused 2) (refused 2)
+    ∷ path (0x32 ∷ 0x01 ∷ 0x61 ∷ 0x62 ∷ 0x63 ∷ []) (accepted (a ∷ bc ∷ []) 5) (accepted (a ∷ bc ∷ []) 5)
+    ∷ path-written (a ∷ bc ∷ []) (0x32 ∷ 0x01 ∷ 0x61 ∷ 0x62 ∷ 0x63 ∷ [])
+    ∷ path (0x12 ∷ 0x02 ∷ 0x61 ∷ []) (refused 1) (refused 1)
+    ∷ path (0x12 ∷ 0x02 ∷ 0x61 ∷ 0x62 ∷ []) (refused 2) (refused 2)
+    ∷ path (0x0C ∷ 0x15 ∷ []) (refused 2) (refused 2)
+    ∷ against (a ∷ []) (0x01 ∷ 0x21 ∷ 0x62 ∷ 0x63 ∷ []) (accepted (a ∷ bc ∷ []) 4) (accepted (a ∷ bc ∷ []) 4)
+    ∷ against-written (a ∷ []) (a ∷ bc ∷ []) (0x01 ∷ 0x21 ∷ 0x62 ∷ 0x63 ∷ [])
+    ∷ against (a ∷ []) (0x00 ∷ 0x32 ∷ 0x01 ∷ 0x61 ∷ 0x62 ∷ 0x63 ∷ []) (refused 2) (accepted (a ∷ bc ∷ []) 6)
+    ∷ against (a ∷ []) (0x02 ∷ 0x00 ∷ []) (refused 2) (refused 2)
+    ∷ []

@@ -1,0 +1,1 @@
+// The worked examples of docs/FORMAT.md that are proved: specs/Cases.antt.

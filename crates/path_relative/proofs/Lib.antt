@@ -1,0 +1,7 @@
+pub mod Against
+pub mod Extension
+pub mod Records
+pub mod Yields
+pub mod Exits
+pub mod Writing
+pub mod Orders

@@ -1,0 +1,25 @@
+-- An extension of a path: the suffix after the reference, which is a prefix.
+use mathlib.Core.Path.{_≡_}
+use mathlib.Core.List.{List, _++_}
+use mathlib.Core.Bool.{Bool}
+use Prim.Native.Nat.{ℕ}
+use lib.ListN.{length, take, drop}
+use Rattle.codec.specs.Reader.{Reader, checked, mapped}
+use Rattle.path.specs.Limits.{totalOf, limits, PathOk}
+use Rattle.path_codec.specs.Suffix.{suffixBytes, readSuffix}
+
+abbrev pub extensionBytes : List (List ℕ) → List (List ℕ) → List ℕ
+extensionBytes r p = suffixBytes (drop (length r) p)
+
+-- the whole suffix is read, under its own limits, before those of the whole path are tested
+unfoldable pub readExtension : Bool → List (List ℕ) → Reader (List (List ℕ))
+readExtension canonic r =
+    checked (λ p. limits (totalOf p) (length p)) (
+    mapped (λ cs. r ++ cs) (
+    readSuffix canonic limits))
+
+-- the bytes e are what writing p as an extension of r gives
+pub record ExtensionAs (r p : List (List ℕ)) (e : List ℕ) : Type 0 where
+  pub ok : PathOk p
+  pub extends : take (length r) p ≡ r
+  pub bytes : e ≡ extensionBytes r p

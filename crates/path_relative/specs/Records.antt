@@ -1,0 +1,49 @@
+-- Both encodings, as the code holds paths. 5 is tested on the reference and on the path.
+use mathlib.Core.Path.{_≡_}
+use mathlib.Core.List.{_++_}
+use mathlib.Core.Bool.{Bool, true, cond, _&&_}
+use Prim.Native.Nat.{ℕ, _≤_}
+use lib.Dec.{eqb}
+use lib.ListN.{take}
+use Rattle.codec.specs.Format.{Format, verdictBy}
+use Rattle.codec.specs.Reader.{Reader, guard, checked, mapped, onFormed}
+use Rattle.path.specs.declared.Path.{Path}
+use Rattle.path.specs.Record.{componentsOf, pathFrom, wellFormed}
+use Rattle.path.specs.Prefix.{shared, isPrefix}
+use Rattle.path_codec.specs.Suffix.{readComponents}
+use Rattle.path_relative.specs.Against.{againstBytes, joinOk, readAgainst}
+use Rattle.path_relative.specs.Extension.{extensionBytes, readExtension}
+
+abbrev pub againstPath : Path → Format Path
+againstPath r = record {
+  check = λ p. verdictBy (wellFormed r && wellFormed p) true;
+  encode = λ p. againstBytes (componentsOf r) (componentsOf p);
+}
+
+-- 3 unless the reference is a prefix
+abbrev pub extendsPath : Path → Format Path
+extendsPath r = record {
+  check = λ p. verdictBy (wellFormed r && wellFormed p) (isPrefix (componentsOf r) (componentsOf p));
+  encode = λ p. extensionBytes (componentsOf r) (componentsOf p);
+}
+
+unfoldable pub readAgainstPath : Bool → Path → Reader Path
+readAgainstPath canonic r = onFormed (wellFormed r) (mapped pathFrom (readAgainst canonic (componentsOf r)))
+
+unfoldable pub readExtendsPath : Bool → Path → Reader Path
+readExtendsPath canonic r = onFormed (wellFormed r) (mapped pathFrom (readExtension canonic (componentsOf r)))
+
+-- ---- inside the reader against a path
+
+-- a well-formed reference that has k components
+pub record Reference (r : Path) (k : ℕ) : Type 0 where
+  pub formed : wellFormed r ≡ true
+  pub there : k ≤ r .count
+
+-- what follows the shared count k and the sizes
+unfoldable pub readJoined : Bool → Path → ℕ → ℕ → ℕ → Reader Path
+readJoined canonic r k total count =
+    checked (λ p. cond canonic (eqb (shared (componentsOf r) (componentsOf p)) k) true) (
+    guard (joinOk (componentsOf r) k total count) (
+    mapped (λ cs. pathFrom (take k (componentsOf r) ++ cs)) (
+    readComponents canonic count 0 total)))

@@ -1,0 +1,4 @@
+pub mod Reading
+pub mod Printing
+pub mod Back
+pub mod Cases

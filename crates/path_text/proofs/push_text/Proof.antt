@@ -1,0 +1,61 @@
+use mathlib.Core.Path.{_≡_, _∙_, sym}
+use denote.Ref.{now}
+use native.Mathlib.Omega.{arith}
+use lib.ListN.{take}
+use lib.Seq.{length-take-le}
+use Rattle.text.specs.Hex.{unhex}
+use Rattle.text.specs.Fields.{readHex}
+use Rattle.text.specs.declared.Hex.the-variants.{Bytes}
+use Rattle.text.proofs.HexAnswers.{hex-refused, some-bytes, bytes-are}
+use Rattle.path_text.proofs.Reading.{push-refused, push-hex}
+use borrow.Author.Needs.{needs}
+use Rattle.path_text.proofs.push_text.Statement.{statement}
+use Rattle.path_text.proofs.push_text.Tie as tie
+
+-- the bytes that were read
+hex-here : (c : tie.After-known-told) → Bytes (c .before .got .given .0 .0) ≡ readHex (now (c .before .before .before .before .before .before .before .args .t)) 300
+hex-here c = sym (c .before .got .given .1) ∙ c .before .before .before .before .read-hex .ensures .0
+
+bytes-here : (c : tie.After-known-told) → take (c .before .got .given .0 .0) (c .before .before .before .before .read-hex .last .1 .0) ≡ unhex (now (c .before .before .before .before .before .before .before .args .t))
+bytes-here c = rw (c .before .before .before .before .read-hex .ensures .1) (bytes-are _ _ _ (hex-here c))
+
+slice-aggregate-read-hex : tie.Need-slice-aggregate-read-hex
+slice-aggregate-read-hex c = search needs
+
+read-hex-requires : tie.Need-read-hex-requires
+read-hex-requires c κs = search needs
+
+enum-known-got : tie.Need-enum-known-got
+enum-known-got c = search needs
+
+returns : tie.Need-returns
+returns c =
+    let a = c .before .before .before .before .before .args in
+    push-refused (a .builder) (now (a .t)) (hex-refused (now (a .t)) 300 (c .before .before .read-hex .result) (c .before .before .read-hex .ensures .0) (c .match .keys2))
+
+array-share-prefix-bytes : tie.Need-array-share-prefix-bytes
+array-share-prefix-bytes c = omega (arith, some-bytes _ _ 300 (hex-here c) .2, c .before .before .before .before .read-hex .kept .1 .0)
+
+slice-aggregate-push-component : tie.Need-slice-aggregate-push-component
+slice-aggregate-push-component c = sym (length-take-le _ _ (omega (arith, some-bytes _ _ 300 (hex-here (c .before)) .2, c .before .before .before .before .before .read-hex .kept .1 .0)))
+
+push-component-requires : tie.Need-push-component-requires
+push-component-requires c κs = search needs
+
+returns-2 : tie.Need-returns-2
+returns-2 c =
+    let a = c .before .before .before .before .before .before .before .before .before .args in
+    c .push-component .ensures ∙ rw (bytes-here (c .before .before)) (push-hex (a .builder) (now (a .t)) (some-bytes _ _ 300 (hex-here (c .before .before)) .0))
+
+pub push-text-spec : {M : Type 1} → statement M
+push-text-spec =
+    tie.close
+    (tie.spec
+    slice-aggregate-read-hex
+    read-hex-requires
+    enum-known-got
+    returns
+    array-share-prefix-bytes
+    slice-aggregate-push-component
+    push-component-requires
+    returns-2)

@@ -1,0 +1,71 @@
+use mathlib.Core.Path.{_≡_, _∙_, sym}
+use mathlib.Core.List.{[]}
+use denote.Ref.{now}
+use native.Mathlib.Omega.{arith}
+use borrow.Author.Tests.{not-true, not-false}
+use Rattle.path.specs.Record.{componentsOf}
+use Rattle.path_text.specs.PathText.{tailText}
+use Rattle.path_text.proofs.Printing.{part-text, no-length, put-none, ill-components, well-components}
+use borrow.Author.Needs.{needs}
+use Rattle.path_text.proofs.put_components.Statement.{statement}
+use Rattle.path_text.proofs.put_components.Tie as tie
+
+well-formed-requires : tie.Need-well-formed-requires
+well-formed-requires c κs = search needs
+
+returns : tie.Need-returns
+returns c =
+    let e = ill-components (c .before .before .before .args .path) (sym (c .before .well-formed .ensures) ∙ not-true (c .before .well-formed .result) (c .if1 .taken)) in
+    rw e (put-none (c .before .before .before .args .at) (now (c .before .before .before .args .out)))
+
+slice-aggregate-fill : tie.Need-slice-aggregate-fill
+slice-aggregate-fill c = search needs
+
+fill-requires : tie.Need-fill-requires
+fill-requires c κs = (sym (c .before .before .well-formed .ensures) ∙ not-false (c .before .before .well-formed .result) (c .before .if1 .left), search needs)
+
+returns-2 : tie.Need-returns-2
+returns-2 c =
+    let p = c .before .before .before .before .before .before .before .args .path in
+    let e = well-components p (sym (c .before .before .before .before .before .well-formed .ensures) ∙ not-false (c .before .before .before .before .before .well-formed .result) (c .before .before .before .before .if1 .left)) in
+    let n = c .before .before .fill .ensures .0 in
+    let z : tailText (componentsOf p) ≡ [] = no-length (tailText (componentsOf p)) (omega (arith, n)) in
+    rw (← e, z) (put-none (c .before .before .before .before .before .before .before .args .at) (now (c .before .before .before .before .before .before .before .args .out)))
+
+sub-put-bytes : tie.Need-sub-put-bytes
+sub-put-bytes c = search needs
+
+part-put-bytes-start : tie.Need-part-put-bytes-start
+part-put-bytes-start c = search needs
+
+part-put-bytes-end : tie.Need-part-put-bytes-end
+part-put-bytes-end c = omega (arith, c .before .before .before .before .fill .ensures .2, c .before .before .before .before .fill .kept .1 .0)
+
+put-bytes-requires : tie.Need-put-bytes-requires
+put-bytes-requires c κs = search needs
+
+same-length : tie.Need-same-length
+same-length c = search needs
+
+returns-3 : tie.Need-returns-3
+returns-3 c =
+    let p = c .before .before .before .before .before .before .before .before .before .before .before .before .before .args .path in
+    let e = well-components p (sym (c .before .before .before .before .before .before .before .before .before .before .before .well-formed .ensures) ∙ not-false (c .before .before .before .before .before .before .before .before .before .before .before .well-formed .result) (c .before .before .before .before .before .before .before .before .before .before .if1 .left)) in
+    let t = rw (c .before .before .before .before .before .before .before .before .fill .ensures .1, c .before .before .before .before .before .before .before .before .fill .ensures .0, part-text (tailText (componentsOf p)) _, e) at (c .before .before .put-bytes .ensures) in
+    t
+
+pub put-components-spec : {M : Type 1} → statement M
+put-components-spec =
+    tie.close
+    (tie.spec
+    well-formed-requires
+    returns
+    slice-aggregate-fill
+    fill-requires
+    returns-2
+    sub-put-bytes
+    part-put-bytes-start
+    part-put-bytes-end
+    put-bytes-requires
+    same-length
+    returns-3)

@@ -1,0 +1,153 @@
+use Prim.Native.Nat.{ℕ, _+_, _-_, _≤_, _<_}
+use mathlib.Core.Path.{_≡_, refl, ap, _∙_, sym}
+use mathlib.Core.List.{List, [], _∷_, _++_}
+use mathlib.Core.Bool.{true}
+use denote.Ref.{now}
+use native.Mathlib.Omega.{arith}
+use borrow.Author.Needs.{needs}
+use lib.ListN.{length, take, drop, length-drop}
+use lib.Seq.{length-take-le, drop-drop, take-all}
+use Rattle.codec.proofs.Lending.{to-end}
+use Rattle.text.specs.Parts.{before, parts}
+use Rattle.text.specs.Hex.{unhex}
+use Rattle.text.proofs.Parts.{parts-more, parts-last}
+use Rattle.path.specs.declared.PathBuilder.{PathBuilder}
+use Rattle.path.specs.Limits.{pathOk}
+use Rattle.path.specs.Record.{componentsOf, pathFrom}
+use Rattle.path.specs.Builder.{builderFrom}
+use Rattle.path.proofs.Builder.{built-components}
+use Rattle.path_text.specs.PathText.{readTexts, readComponentsText, pushText}
+use Rattle.path_text.proofs.Reading.{ok-next, texts-more, texts-last, texts-stop-at, took, not-took}
+use Rattle.path_text.proofs.read_components.Statement.{statement}
+use Rattle.path_text.proofs.read_components.Tie as tie
+
+abbrev Inv-loop : tie.InvT-loop
+Inv-loop s builder₀ at₀ builder at =
+    (at ≤ length s)
+    × (builder ≡ builderFrom (componentsOf (builder .path)))
+    × (pathOk (componentsOf (builder .path)) ≡ true)
+    × (readComponentsText s ≡ readTexts (componentsOf (builder .path)) (parts 47 (drop at s)))
+
+abbrev μ-loop : tie.MeasureT-loop
+μ-loop s builder₀ at₀ builder at = length s - at
+
+new-requires : tie.Need-new-requires Inv-loop μ-loop
+new-requires c κs = search needs
+
+loop-holds : tie.Need-loop-holds Inv-loop μ-loop
+unfolding readComponentsText pathOk
+loop-holds c =
+    let b = c .new .result in
+    let k : componentsOf (b .path) ≡ [] = built-components b [] (c .new .ensures) in (
+      omega arith,
+      c .new .ensures ∙ ap (λ (x : List (List ℕ)). builderFrom x) (sym k),
+      rw k refl,
+      rw k refl,
+    )
+
+sub-rest : tie.Need-sub-rest Inv-loop μ-loop
+sub-rest c = omega arith
+
+part-rest-start : tie.Need-part-rest-start Inv-loop μ-loop
+part-rest-start c = omega arith
+
+part-rest-end : tie.Need-part-rest-end Inv-loop μ-loop
+part-rest-end c = omega arith
+
+find-requires : tie.Need-find-requires Inv-loop μ-loop
+find-requires c κs = search needs
+
+slice-aggregate-push-text : tie.Need-slice-aggregate-push-text Inv-loop μ-loop
+slice-aggregate-push-text c = sym (length-take-le (c .before .find .result) _ (c .before .find .ensures .1))
+
+push-text-requires : tie.Need-push-text-requires Inv-loop μ-loop
+push-text-requires c κs = search needs
+
+enum-told : tie.Need-enum-told Inv-loop μ-loop
+enum-told c = search needs
+
+refuse-requires : tie.Need-refuse-requires Inv-loop μ-loop
+refuse-requires c κs = search needs
+
+returns : tie.Need-returns Inv-loop μ-loop
+returns c =
+    let s = now (c .before .before .before .before .before .before .before .before .before .args .s) in
+    let l = c .before .before .before .before .before .before .loop in
+    let r = drop (l .at) s in
+    let k = rw (to-end (l .at) s) at (c .before .before .before .before .find .ensures .0) in
+    let t = take (c .before .before .before .before .find .result) r in
+    let g : c .before .before .push-text .result ≡ pushText (l .builder) t = rw (to-end (l .at) s) at (c .before .before .push-text .ensures) in
+    let no = not-took (l .builder) (componentsOf (l .builder .path)) (l .inv .1) t (c .before .before .push-text .result) g (c .before .match .keys2) in
+    c .refuse .ensures ∙ sym (l .inv .3 ∙ texts-stop-at (componentsOf (l .builder .path)) t no r (rw k refl))
+
+returns-2 : tie.Need-returns-2 Inv-loop μ-loop
+returns-2 c =
+    let s = now (c .before .before .before .before .before .before .before .before .before .before .before .before .args .s) in
+    let l = c .before .before .before .before .before .before .before .before .before .loop in
+    let r = drop (l .at) s in
+    let b = l .builder in
+    let cs = componentsOf (b .path) in
+    let g = c .before .before .before .before .before .push-text .result in
+    let k = rw (to-end (l .at) s) at (c .before .before .before .before .before .before .before .find .ensures .0) in
+    let n = rw (to-end (l .at) s) at (c .before .if1 .taken) in
+    let all : take (c .before .before .before .before .before .before .before .find .result) r ≡ r = take-all (c .before .before .before .before .before .before .before .find .result) r (omega (arith, n)) in
+    let made : g ≡ pushText b r = rw (to-end (l .at) s, all) at (c .before .before .before .before .before .push-text .ensures) in
+    let w = took b cs (l .inv .1) r g made (c .before .before .before .enum-told .given .1) in
+    let e : g .builder .path ≡ pathFrom (cs ++ (unhex r ∷ [])) = ap (λ (x : PathBuilder). x .path) (w .builder) in
+    let ok = ok-next cs (unhex r) (l .inv .2) (w .fits) in
+    sym (l .inv .3 ∙ rw (parts-last 47 r (omega (arith, k, n)), e) (texts-last cs r (w .hex) ok))
+
+add-at : tie.Need-add-at Inv-loop μ-loop
+add-at c = omega (arith, c .before .before .before .before .before .before .find .ensures .1, length-drop (c .before .before .before .before .before .before .before .before .loop .at) (now (c .before .before .before .before .before .before .before .before .before .before .before .args .s)))
+
+add-at-2 : tie.Need-add-at-2 Inv-loop μ-loop
+add-at-2 c = omega (arith, c .before .before .before .before .before .before .find .ensures .1, length-drop (c .before .before .before .before .before .before .before .before .loop .at) (now (c .before .before .before .before .before .before .before .before .before .before .before .args .s)))
+
+loop-less : tie.Need-loop-less Inv-loop μ-loop
+loop-less c = omega arith
+
+loop-again : tie.Need-loop-again Inv-loop μ-loop
+loop-again c =
+    let s = now (c .before .before .before .before .before .before .before .before .before .before .before .args .s) in
+    let l = c .before .before .before .before .before .before .before .before .loop in
+    let r = drop (l .at) s in
+    let b = l .builder in
+    let cs = componentsOf (b .path) in
+    let g = c .before .before .before .before .push-text .result in
+    let k = rw (to-end (l .at) s) at (c .before .before .before .before .before .before .find .ensures .0) in
+    let le = rw (to-end (l .at) s) at (c .before .before .before .before .before .before .find .ensures .1) in
+    let ne = rw (to-end (l .at) s) at (c .if1 .left) in
+    let t = take (c .before .before .before .before .before .before .find .result) r in
+    let made : g ≡ pushText b t = rw (to-end (l .at) s) at (c .before .before .before .before .push-text .ensures) in
+    let w = took b cs (l .inv .1) t g made (c .before .before .enum-told .given .1) in
+    let e = built-components (g .builder) (cs ++ (unhex t ∷ [])) (w .builder) in
+    let m : length (before 47 r) < length r = omega (arith, k, le, ne) in
+    let p : parts 47 r ≡ t ∷ parts 47 (drop (c .before .before .before .before .before .before .find .result + 1) r) = rw (← k) at (parts-more 47 r m) in (
+      omega (arith, m, k, length-drop (l .at) s),
+      w .builder ∙ ap (λ (x : List (List ℕ)). builderFrom x) (sym e),
+      rw e (ok-next cs (unhex t) (l .inv .2) (w .fits)),
+      l .inv .3 ∙ rw (p, e) (texts-more cs t _ (w .hex) ∙ rw drop-drop),
+    )
+
+pub read-components-spec : {M : Type 1} → statement M
+read-components-spec =
+    tie.close
+    (tie.spec
+    Inv-loop
+    μ-loop
+    new-requires
+    loop-holds
+    sub-rest
+    part-rest-start
+    part-rest-end
+    find-requires
+    slice-aggregate-push-text
+    push-text-requires
+    enum-told
+    refuse-requires
+    returns
+    returns-2
+    add-at
+    add-at-2
+    loop-less
+    loop-again)

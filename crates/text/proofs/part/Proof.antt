@@ -1,0 +1,125 @@
+use Prim.Native.Nat.{ℕ, suc, _+_, _-_, _≤_, _<_}
+use mathlib.Core.Path.{_≡_, refl, ap, _∙_, sym}
+use mathlib.Core.List.{List}
+use denote.Ref.{now}
+use native.Mathlib.Omega.{arith}
+use borrow.Author.Needs.{needs}
+use lib.ListN.{length, drop, length-drop}
+use lib.Seq.{length-take-le, drop-drop}
+use Rattle.codec.proofs.Lending.{to-end}
+use Rattle.text.specs.Parts.{before, partAt}
+use Rattle.text.proofs.Parts.{part-first, part-later, part-none}
+use Rattle.text.proofs.part.Statement.{statement}
+use Rattle.text.proofs.part.Tie as tie
+
+abbrev Inv-loop : tie.InvT-loop
+Inv-loop s x i at₀ left₀ at left = (at ≤ length s) × (partAt x i s ≡ partAt x left (drop at s))
+
+abbrev μ-loop : tie.MeasureT-loop
+μ-loop s x i at₀ left₀ at left = left
+
+loop-holds : tie.Need-loop-holds Inv-loop μ-loop
+loop-holds c = (omega arith, refl)
+
+sub-rest : tie.Need-sub-rest Inv-loop μ-loop
+sub-rest c = omega arith
+
+part-rest-start : tie.Need-part-rest-start Inv-loop μ-loop
+part-rest-start c = omega arith
+
+part-rest-end : tie.Need-part-rest-end Inv-loop μ-loop
+part-rest-end c = omega arith
+
+find-requires : tie.Need-find-requires Inv-loop μ-loop
+find-requires c κs = search needs
+
+slice-aggregate-result : tie.Need-slice-aggregate-result Inv-loop μ-loop
+slice-aggregate-result c = omega arith
+
+returns : tie.Need-returns Inv-loop μ-loop
+returns c =
+    let s = now (c .before .before .before .before .before .before .before .args .s) in
+    let l = c .before .before .before .before .before .loop in
+    let x = c .before .before .before .before .before .before .before .args .x in
+    let r = drop (l .at) s in
+    let k = rw (to-end (l .at) s) at (c .before .before .find .ensures .0) in
+    let n = rw (to-end (l .at) s) at (c .before .if1 .taken) in
+    let e : l .left ≡ suc (l .left - 1) = omega arith in
+    sym (l .inv .1 ∙ ap (λ (n : ℕ). partAt x n r) e ∙ part-none x r (l .left - 1) (omega (arith, k, n)))
+
+add-at : tie.Need-add-at Inv-loop μ-loop
+add-at c = omega (arith, c .before .find .ensures .1, length-drop (c .before .before .before .before .loop .at) (now (c .before .before .before .before .before .before .args .s)))
+
+add-at-2 : tie.Need-add-at-2 Inv-loop μ-loop
+add-at-2 c = omega (arith, c .before .find .ensures .1, length-drop (c .before .before .before .before .loop .at) (now (c .before .before .before .before .before .before .args .s)))
+
+sub-left : tie.Need-sub-left Inv-loop μ-loop
+sub-left c = omega arith
+
+loop-less : tie.Need-loop-less Inv-loop μ-loop
+loop-less c = omega arith
+
+loop-again : tie.Need-loop-again Inv-loop μ-loop
+loop-again c =
+    let s = now (c .before .before .before .before .before .before .args .s) in
+    let l = c .before .before .before .before .loop in
+    let r = drop (l .at) s in
+    let x = c .before .before .before .before .before .before .args .x in
+    let k = rw (to-end (l .at) s) at (c .before .find .ensures .0) in
+    let le = rw (to-end (l .at) s) at (c .before .find .ensures .1) in
+    let ne = rw (to-end (l .at) s) at (c .if1 .left) in
+    let m : length (before x r) < length r = omega (arith, k, le, ne) in
+    let e : l .left ≡ suc (l .left - 1) = omega arith in
+    let d : drop (length (before x r) + 1) r ≡ drop (l .at + (c .before .find .result + 1)) s = rw (← k) (drop-drop (c .before .find .result + 1) (l .at) s) in (
+      omega (arith, m, k, length-drop (l .at) s),
+      l .inv .1 ∙ ap (λ (n : ℕ). partAt x n r) e ∙ part-later x r (l .left - 1) m ∙ ap (λ (y : List ℕ). partAt x (l .left - 1) y) d,
+    )
+
+sub-rest-2 : tie.Need-sub-rest-2 Inv-loop μ-loop
+sub-rest-2 c = omega arith
+
+part-rest-start-2 : tie.Need-part-rest-start-2 Inv-loop μ-loop
+part-rest-start-2 c = omega arith
+
+part-rest-end-2 : tie.Need-part-rest-end-2 Inv-loop μ-loop
+part-rest-end-2 c = omega arith
+
+find-requires-2 : tie.Need-find-requires-2 Inv-loop μ-loop
+find-requires-2 c κs = search needs
+
+slice-aggregate-result-2 : tie.Need-slice-aggregate-result-2 Inv-loop μ-loop
+slice-aggregate-result-2 c = sym (length-take-le (c .before .find2 .result) _ (c .before .find2 .ensures .1))
+
+returns-2 : tie.Need-returns-2 Inv-loop μ-loop
+returns-2 c =
+    let s = now (c .before .before .before .before .before .before .args .s) in
+    let l = c .before .before .before .before .loop in
+    let r = drop (l .at) s in
+    let z : l .left ≡ 0 = omega arith in
+    let k = rw (to-end (l .at) s) at (c .before .find2 .ensures .0) in
+    rw (to-end (l .at) s, k) (sym (l .inv .1 ∙ rw z (part-first (c .before .before .before .before .before .before .args .x) r)))
+
+pub part-spec : {M : Type 1} → statement M
+part-spec =
+    tie.close
+    (tie.spec
+    Inv-loop
+    μ-loop
+    loop-holds
+    sub-rest
+    part-rest-start
+    part-rest-end
+    find-requires
+    slice-aggregate-result
+    returns
+    add-at
+    add-at-2
+    sub-left
+    loop-less
+    loop-again
+    sub-rest-2
+    part-rest-start-2
+    part-rest-end-2
+    find-requires-2
+    slice-aggregate-result-2
+    returns-2)

@@ -1,0 +1,61 @@
+use Prim.Native.Nat.{_+_, _-_, _≤_}
+use mathlib.Core.Path.{_≡_}
+use mathlib.Core.Logic.{⊎-elim}
+use denote.Ref.{now}
+use native.Mathlib.Omega.{arith}
+use lib.ListN.{length, drop}
+use Rattle.text.specs.Parts.{parts}
+use Rattle.text.proofs.Parts.{count-here, count-next, count-end}
+use Rattle.text.proofs.part_count.Statement.{statement}
+use Rattle.text.proofs.part_count.Tie as tie
+
+abbrev Inv-loop : tie.InvT-loop
+Inv-loop s x n₀ i₀ n i = (i ≤ length s) × (n ≤ i + 1) × (n + length (parts x (drop i s)) ≡ 1 + length (parts x s))
+
+abbrev μ-loop : tie.MeasureT-loop
+μ-loop s x n₀ i₀ n i = length s - i
+
+loop-holds : tie.Need-loop-holds Inv-loop μ-loop
+loop-holds c = omega arith
+
+shared-slice-read-if1 : tie.Need-shared-slice-read-if1 Inv-loop μ-loop
+shared-slice-read-if1 c = omega arith
+
+add-n : tie.Need-add-n Inv-loop μ-loop
+add-n c = omega (arith, c .before .before .before .before .good)
+
+add-i : tie.Need-add-i Inv-loop μ-loop
+add-i c = omega arith
+
+loop-less : tie.Need-loop-less Inv-loop μ-loop
+loop-less c = omega arith
+
+loop-again : tie.Need-loop-again Inv-loop μ-loop
+loop-again c =
+    let s = now (c .before .before .before .before .args .s) in
+    let x = c .before .before .before .before .args .x in
+    let l = c .before .before .before .loop in (
+      omega arith,
+      ⊎-elim (λ w. omega arith) (λ w. omega arith) (c .if1 .came),
+      ⊎-elim
+          (λ w. omega (arith, l .inv .2, count-here x s (l .i) (omega arith) (w .0 .taken)))
+          (λ w. omega (arith, l .inv .2, count-next x s (l .i) (omega arith) (w .0 .left)))
+          (c .if1 .came),
+    )
+
+returns : tie.Need-returns Inv-loop μ-loop
+returns c = omega (arith, c .before .loop .inv .2, count-end (c .before .before .args .x) (now (c .before .before .args .s)) (c .before .loop .i) (omega arith))
+
+pub part-count-spec : {M : Type 1} → statement M
+part-count-spec =
+    tie.close
+    (tie.spec
+    Inv-loop
+    μ-loop
+    loop-holds
+    shared-slice-read-if1
+    add-n
+    add-i
+    loop-less
+    loop-again
+    returns)

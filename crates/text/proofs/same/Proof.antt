@@ -1,0 +1,73 @@
+use Prim.Native.Nat.{_-_, _≤_}
+use mathlib.Core.Path.{_≡_, refl, _∙_, sym}
+use denote.Ref.{now}
+use native.Mathlib.Omega.{arith}
+use borrow.Author.Tests.{eq-eqb, ne-eqb}
+use lib.ListN.{length, drop, getD}
+use Rattle.text.specs.Parts.{sameText}
+use Rattle.text.proofs.SameText.{same-next, same-end, other-length}
+use Rattle.text.proofs.same.Statement.{statement}
+use Rattle.text.proofs.same.Tie as tie
+
+abbrev Inv-loop : tie.InvT-loop
+Inv-loop s t i₀ i = (i ≤ length s) × (length s ≡ length t) × (sameText s t ≡ sameText (drop i s) (drop i t))
+
+abbrev μ-loop : tie.MeasureT-loop
+μ-loop s t i₀ i = length s - i
+
+returns : tie.Need-returns Inv-loop μ-loop
+returns c = sym (other-length (now (c .before .args .s)) (now (c .before .args .t)) (λ e. omega arith))
+
+loop-holds : tie.Need-loop-holds Inv-loop μ-loop
+loop-holds c = (omega arith, omega arith, refl)
+
+shared-slice-read-if2 : tie.Need-shared-slice-read-if2 Inv-loop μ-loop
+shared-slice-read-if2 c = omega arith
+
+shared-slice-read-if2-2 : tie.Need-shared-slice-read-if2-2 Inv-loop μ-loop
+shared-slice-read-if2-2 c = omega arith
+
+returns-2 : tie.Need-returns-2 Inv-loop μ-loop
+returns-2 c =
+    let s = now (c .before .before .before .before .before .before .args .s) in
+    let t = now (c .before .before .before .before .before .before .args .t) in
+    let l = c .before .before .before .before .loop in
+    sym (l .inv .2 ∙ same-next s t (l .i) (omega arith) (omega arith) ∙ rw (ne-eqb (getD s (l .i) 0) (getD t (l .i) 0) (c .if2 .taken)))
+
+add-i : tie.Need-add-i Inv-loop μ-loop
+add-i c = omega arith
+
+loop-less : tie.Need-loop-less Inv-loop μ-loop
+loop-less c = omega arith
+
+loop-again : tie.Need-loop-again Inv-loop μ-loop
+loop-again c =
+    let s = now (c .before .before .before .before .before .before .args .s) in
+    let t = now (c .before .before .before .before .before .before .args .t) in
+    let l = c .before .before .before .before .loop in
+    let e : getD s (l .i) 0 ≡ getD t (l .i) 0 = omega arith in (
+      omega arith,
+      omega arith,
+      l .inv .2 ∙ same-next s t (l .i) (omega arith) (omega arith) ∙ rw (eq-eqb (getD s (l .i) 0) (getD t (l .i) 0) e),
+    )
+
+returns-3 : tie.Need-returns-3 Inv-loop μ-loop
+returns-3 c =
+    let l = c .before .loop in
+    sym (l .inv .2 ∙ same-end (now (c .before .before .before .args .s)) (now (c .before .before .before .args .t)) (l .i) (omega arith) (omega arith))
+
+pub same-spec : {M : Type 1} → statement M
+same-spec =
+    tie.close
+    (tie.spec
+    Inv-loop
+    μ-loop
+    returns
+    loop-holds
+    shared-slice-read-if2
+    shared-slice-read-if2-2
+    returns-2
+    add-i
+    loop-less
+    loop-again
+    returns-3)
