@@ -6,29 +6,34 @@ use Prim.Native.Nat.{ℕ}
 use lib.ListN.{replicate}
 use Rattle.codec.specs.Answers.{refused}
 use Rattle.compact_u64.specs.Number.{minTag, encodingWidth, numberSaid, readNumber}
+use Rattle.path_codec.specs.Header.{packTags}
 use Rattle.path_codec.specs.Suffix.{readSizes, readSized, readLast, readComponents, readSuffix}
 use Rattle.path_relative.specs.Against.{joinOk, readAgainst}
 use Rattle.path_relative.specs.Extension.{readExtension}
+
+-- a header byte, by its tags
+abbrev head : ℕ → ℕ → ℕ
+head total count = packTags (record { total = total; count = count })
 
 -- a path of one component of 300 bytes
 abbrev long : List (List ℕ)
 long = replicate 300 0 ∷ []
 
 -- total 301, count 2: an extension reads its suffix before the joined limits are tested, a path against a path does not
-extension-last : readExtension false long (210 ∷ 1 ∷ 45 ∷ []) ≡ refused 1
+extension-last : readExtension false long (head 13 2 ∷ 1 ∷ 45 ∷ []) ≡ refused 1
 unfolding readExtension readSuffix readSizes readComponents readSized readLast readNumber numberSaid encodingWidth minTag
 extension-last = refl
 
-against-first : readAgainst false long (1 ∷ 210 ∷ 1 ∷ 45 ∷ []) ≡ refused 2
+against-first : readAgainst false long (1 ∷ head 13 2 ∷ 1 ∷ 45 ∷ []) ≡ refused 2
 unfolding readAgainst joinOk readSuffix readSizes readComponents readSized readLast readNumber numberSaid encodingWidth minTag
 against-first = refl
 
 -- the suffix's own limits come before its components
-own-limits-first : readExtension false [] (12 ∷ 21 ∷ []) ≡ refused 2
+own-limits-first : readExtension false [] (head 0 12 ∷ 21 ∷ []) ≡ refused 2
 unfolding readExtension readSuffix readSizes readComponents readSized readLast readNumber numberSaid encodingWidth minTag
 own-limits-first = refl
 
 -- the strict test of the shared count comes after the whole path is read
-shared-count-last : readAgainst true ((97 ∷ []) ∷ []) (0 ∷ 50 ∷ 1 ∷ 97 ∷ []) ≡ refused 1
+shared-count-last : readAgainst true ((97 ∷ []) ∷ []) (0 ∷ head 3 2 ∷ 1 ∷ 97 ∷ []) ≡ refused 1
 unfolding readAgainst joinOk readSuffix readSizes readComponents readSized readLast readNumber numberSaid encodingWidth minTag
 shared-count-last = refl

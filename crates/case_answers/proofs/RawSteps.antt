@@ -1,0 +1,165 @@
+-- The ways out of a line of a record's raw parts, and of reading its lengths.
+use mathlib.Core.Path.{_≡_, refl, sym, ap, _∙_}
+use mathlib.Core.List.{List, [], _∷_, _++_, map, append-nil, append-assoc}
+use mathlib.Core.Bool.{Bool, true, false, cond, _&&_}
+use Prim.Native.Nat.{ℕ, _+_, _-_, _^_, _≤_, _<_}
+use types.Run.{OneOf}
+use denote.Enum.Declared.{tagOf}
+use native.Mathlib.Omega.{arith}
+use native.Mathlib.Numerals.{add-one}
+use borrow.Author.Tests.{eq-eqb, ne-eqb, le-leb, lt-leb, le-ltb, ltb-true}
+use lib.Dec.{ltb, leb}
+use lib.ListN.{length, take, drop, set, replicate, length-set, length-replicate, drop-of-length-le}
+use lib.Seq.{drop-cons, take-suc-set, take-all}
+use Rattle.codec.specs.Answers.{Outcome}
+use Rattle.codec.specs.Format.{lengthAnswer}
+use Rattle.path.specs.declared.Path.{Path}
+use Rattle.path.proofs.Lists.{drop-zeros}
+use Rattle.path_codec.specs.Plain.{plainPath}
+use Rattle.text.specs.Parts.{parts, partAt}
+use Rattle.text.specs.Hex.{isHex, unhex}
+use Rattle.text.specs.Decimal.{isDecimal, digitsAfter}
+use Rattle.text.specs.Fields.{readDecimal, readHex, hexBuffer}
+use Rattle.text.specs.declared.Decimal.{Decimal}
+use Rattle.text.specs.declared.Decimal.the-variants.{Value, Refused}
+use Rattle.text.specs.declared.Hex.{Hex}
+use Rattle.text.specs.declared.Hex.the-variants.{Bytes}
+use Rattle.text.proofs.HexAnswers.{hex-refused, some-bytes}
+use Rattle.case_answers.specs.declared.Lengths.{Lengths}
+use Rattle.case_answers.specs.Texts.{six, lengthText}
+use Rattle.case_answers.specs.Fields.{field, decimalField, hexField}
+use Rattle.case_answers.specs.Lines.{allDecimals, rawPath, rawLine}
+use Rattle.case_answers.specs.Answers.{lengthsOk, lengthsOf}
+use Rattle.case_answers.proofs.Steps.{fields-not, fields-are}
+
+-- ---- one number
+module _ (p : List ℕ) (rest : Bool) where
+  number-read : (v : ℕ) → readDecimal p ≡ Value v → (isDecimal p && (ltb (digitsAfter 0 p) (2 ^ 64) && rest) ≡ rest) × (v ≡ digitsAfter 0 p)
+  unfolding readDecimal
+  number-read v e = by-cases (isDecimal p) (ltb (digitsAfter 0 p) (2 ^ 64)) e
+    where
+      by-cases : (t d : Bool) → cond t (cond d (Value (digitsAfter 0 p)) Refused) Refused ≡ Value v → (t && (d && rest) ≡ rest) × (v ≡ digitsAfter 0 p)
+      by-cases true true e = (refl, cc)
+      by-cases true false e = absurd (let z : _≡_ {A = ℕ} 0 1 = cc in omega arith)
+      by-cases false d e = absurd (let z : _≡_ {A = ℕ} 0 1 = cc in omega arith)
+
+  number-refused : readDecimal p ≡ Refused → isDecimal p && (ltb (digitsAfter 0 p) (2 ^ 64) && rest) ≡ false
+  unfolding readDecimal
+  number-refused e = by-cases (isDecimal p) (ltb (digitsAfter 0 p) (2 ^ 64)) e
+    where
+      by-cases : (t d : Bool) → cond t (cond d (Value (digitsAfter 0 p)) Refused) Refused ≡ Refused → t && (d && rest) ≡ false
+      by-cases true true e = absurd (let z : _≡_ {A = ℕ} 0 1 = cc in omega arith)
+      by-cases true false e = refl
+      by-cases false d e = refl
+
+-- ---- 20 numbers parted by commas
+abbrev pub noLengths : Lengths
+noLengths = record { ok = false; lengths = replicate 20 0 }
+
+module _ (f : List ℕ) where
+  lengths-not : lengthsOk f ≡ false → noLengths ≡ lengthsOf f
+  unfolding lengthsOf
+  lengths-not e = rw e
+
+  pub lengths-few : {m : ℕ} → m ≡ length (parts 44 f) → (m ≡ 20 → ⊥) → noLengths ≡ lengthsOf f
+  lengths-few {m} counted h = lengths-not (rw (← counted, ne-eqb m 20 h))
+
+  -- the i-th number was read
+  pub number-said : (i : ℕ) {s : List ℕ} {x y : Decimal} → s ≡ partAt 44 i f → x ≡ readDecimal s → x ≡ y → readDecimal (partAt 44 i f) ≡ y
+  number-said i part read e = rw (← part) (sym read ∙ e)
+
+  -- the numbers from i on are still to be read
+  pub record LengthsRead (lengths : List ℕ) (i : ℕ) : Type 0 where
+    pub counted : length (parts 44 f) ≡ 20
+    pub room : length lengths ≡ 20
+    pub good : allDecimals (parts 44 f) ≡ allDecimals (drop i (parts 44 f))
+    pub values : map (digitsAfter 0) (parts 44 f) ≡ take i lengths ++ map (digitsAfter 0) (drop i (parts 44 f))
+
+  module _ {lengths : List ℕ} {i : ℕ} (read : LengthsRead lengths i) where
+    part-here : i < 20 → drop i (parts 44 f) ≡ partAt 44 i f ∷ drop (i + 1) (parts 44 f)
+    unfolding partAt
+    part-here h = rw add-one (drop-cons (parts 44 f) i [] (omega (arith, read .counted)))
+
+    pub lengths-refused : i < 20 → readDecimal (partAt 44 i f) ≡ Refused → noLengths ≡ lengthsOf f
+    lengths-refused h e =
+        let g : allDecimals (parts 44 f) ≡ false = read .good ∙ rw (part-here h) (number-refused (partAt 44 i f) _ e) in
+        lengths-not (rw (eq-eqb _ _ (read .counted)) g)
+
+    pub lengths-next : (v : ℕ) → i < 20 → readDecimal (partAt 44 i f) ≡ Value v → LengthsRead (set lengths i v) (i + 1)
+    lengths-next v h e =
+        let n = number-read (partAt 44 i f) (allDecimals (drop (i + 1) (parts 44 f))) v e in
+        record {
+          counted = read .counted;
+          room = simp length-set (read .room);
+          good = read .good ∙ rw (part-here h) (n .0);
+          values = read .values ∙ rw (part-here h, ← (n .1), add-one i, take-suc-set lengths i v (omega (arith, read .room))) (sym (append-assoc (take i lengths) (v ∷ []) _));
+        }
+
+    pub lengths-all : 20 ≤ i → record { ok = true; lengths = lengths } ≡ lengthsOf f
+    unfolding lengthsOf
+    lengths-all h =
+        let few : length (parts 44 f) ≤ i = omega (arith, read .counted) in
+        let none : drop i (parts 44 f) ≡ [] = drop-of-length-le (parts 44 f) few in
+        let g : allDecimals (parts 44 f) ≡ true = read .good ∙ rw none in
+        let v : map (digitsAfter 0) (parts 44 f) ≡ lengths = read .values ∙ rw (none, take-all i lengths (omega (arith, read .room))) (append-nil lengths) in
+        rw (eq-eqb _ _ (read .counted), g, v)
+
+-- ---- the bytes, and zeros after them
+bytes-then-zeros : (a : List ℕ) (n size : ℕ) → Bytes n ≡ readHex a size → hexBuffer a (replicate size 0) ≡ unhex a ++ replicate (size - length (unhex a)) 0
+unfolding hexBuffer
+bytes-then-zeros a n size e =
+    let s = some-bytes a n size e in
+    rw (s .0, length-replicate {A = ℕ} size 0, le-ltb size (length (unhex a)) (omega (arith, s .1, s .2))) (ap (λ (l : List ℕ). unhex a ++ l) (drop-zeros (length (unhex a)) size))
+
+both : {t d : Bool} (x y : List ℕ) → t ≡ true → d ≡ true → cond t (cond d x y) y ≡ x
+both x y e h = rw (e, h)
+
+-- ---- the line
+module _ (line : List ℕ) {m : ℕ} (counted : m ≡ length (parts 9 line)) where
+  pub raw-fields : (m ≡ 4 → ⊥) → rawLine line ≡ six
+  unfolding rawLine
+  raw-fields h = fields-not line counted 4 _ h
+
+  module _ (many : m ≡ 4) where
+    pub raw-count : ((k : ℕ → List ℕ) → decimalField 1 line k ≡ six) → rawLine line ≡ six
+    unfolding rawLine
+    raw-count count = fields-are line counted 4 _ many ∙ count _
+
+    module _ (n : ℕ) (count : (k : ℕ → List ℕ) → decimalField 1 line k ≡ k n) {s : List ℕ} {r : Lengths} (part : s ≡ partAt 9 2 line) (read : r ≡ lengthsOf s) where
+      lengths-ok : (t : Bool) → r .ok ≡ t → lengthsOk (field 2 line) ≡ t
+      unfolding lengthsOf
+      lengths-ok t e = rw (← part) (sym (ap (λ (x : Lengths). x .ok) read) ∙ e)
+
+      lengths-are : r .ok ≡ true → r .lengths ≡ map (digitsAfter 0) (parts 44 (field 2 line))
+      unfolding lengthsOf
+      lengths-are e =
+          let g : lengthsOk s ≡ true = sym (ap (λ (x : Lengths). x .ok) read) ∙ e in
+          rw (← part) (ap (λ (x : Lengths). x .lengths) read ∙ rw g)
+
+      pub raw-lengths : r .ok ≡ false → rawLine line ≡ six
+      unfolding rawLine
+      raw-lengths e = fields-are line counted 4 _ many ∙ count _ ∙ rw (lengths-ok false e)
+
+      module _ (ok : r .ok ≡ true) where
+        abbrev told : List ℕ → List ℕ
+        told bytes = cond (leb (length bytes) 600) (lengthText (lengthAnswer plainPath (rawPath n (map (digitsAfter 0) (parts 44 (field 2 line))) bytes))) six
+
+        bytes-left : rawLine line ≡ hexField 3 line told
+        unfolding rawLine
+        bytes-left = fields-are line counted 4 _ many ∙ count _ ∙ rw (lengths-ok true ok)
+
+        pub raw-bytes : (x : Hex) → x ≡ readHex (field 3 line) 600 → OneOf (1 ∷ 2 ∷ []) (tagOf Rattle.text.proofs.Hex.the-type x) → rawLine line ≡ six
+        raw-bytes x e k = bytes-left ∙ by-cases (isHex (field 3 line)) (hex-refused (field 3 line) 600 x e k)
+          where
+            by-cases : (t : Bool) → cond t (ltb 600 (length (unhex (field 3 line)))) true ≡ true → cond t (told (unhex (field 3 line))) six ≡ six
+            by-cases true h = rw (lt-leb _ _ (ltb-true 600 (length (unhex (field 3 line))) h))
+            by-cases false h = refl
+
+        pub raw-answer : (x : Hex) (b : ℕ) → x ≡ readHex (field 3 line) 600 → x ≡ Bytes b → {bytes : List ℕ} → bytes ≡ hexBuffer (field 3 line) (replicate 600 0)
+            → {o : Outcome} → o ≡ lengthAnswer plainPath (record { bytes = bytes; lengths = r .lengths; count = n }) → rawLine line ≡ lengthText o
+        raw-answer x b e g {bytes} f {o} h =
+            let a = field 3 line in
+            let s = some-bytes a b 600 (sym g ∙ e) in
+            let z : bytes ≡ unhex a ++ replicate (600 - length (unhex a)) 0 = f ∙ bytes-then-zeros a b 600 (sym g ∙ e) in
+            let p : rawPath n (map (digitsAfter 0) (parts 44 (field 2 line))) (unhex a) ≡ record { bytes = bytes; lengths = r .lengths; count = n } = rw (z, lengths-are ok) in
+            bytes-left ∙ both _ six (s .0) (le-leb (length (unhex a)) 600 (omega (arith, s .1, s .2))) ∙ ap (λ (q : Path). lengthText (lengthAnswer plainPath q)) p ∙ ap lengthText (sym h)

@@ -1,0 +1,20 @@
+use native.Mathlib.Omega.{arith}
+use borrow.Author.Needs.{needs}
+use Rattle.case_answers.proofs.Puts.{puts-then}
+use Rattle.case_answers.proofs.put.length.Statement.{statement}
+use Rattle.case_answers.proofs.put.length.Tie as tie
+
+outcome-requires : tie.Need-outcome-requires
+outcome-requires c κs = search needs
+
+end-requires : tie.Need-end-requires
+end-requires c κs = search needs
+
+same-length : tie.Need-same-length
+same-length c = search needs
+
+returns : tie.Need-returns
+returns c = puts-then (omega arith) (c .before .before .before .before .before .before .outcome .ensures .0) (c .before .before .end .ensures)
+
+pub length-spec : {M : Type 1} → statement M
+length-spec = tie.close (tie.spec outcome-requires end-requires same-length returns)

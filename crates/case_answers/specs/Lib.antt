@@ -1,0 +1,5 @@
+pub mod Texts
+pub mod Fields
+pub mod Records
+pub mod Lines
+pub mod Answers
