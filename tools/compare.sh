@@ -12,7 +12,7 @@ chunk=200000
 cd "$(dirname "$0")/.."
 export CARGO_TARGET_DIR="$PWD/target/oracle"
 (cd oracle && cargo build --release --offline -q)
-[ -x target/bin/case_lines ] || rt check case_lines
+rt check case_lines > target/compare.log 2>&1 || { tail target/compare.log; exit 1; }
 bin=target/oracle/release
 tmp=target/compare
 mkdir -p $tmp

@@ -3,7 +3,6 @@ ghost use mathlib.Core.Path.{_≡_};
 ghost use Prim.Native.Nat.{ℕ, _≤_};
 ghost use mathlib.Core.List.{List};
 ghost use lib.ListN.{length};
-ghost use Rattle.text.specs.Parts.{sameText};
 ghost use Rattle.case_answers.specs.Lines.{kindOf, opOf, onWidth};
 ghost use Rattle.case_answers.specs.Answers.{ReadsHex, onWidthField};
 use crate::HexField;

@@ -17,7 +17,7 @@ use crate::WidthField;
 use compact_u64::TagWidth;
 use text::Decimal;
 
-// Tags of so many bits are below it.
+// Every tag of this width is below it.
 fn tag_limit(width: TagWidth) -> u64
     ensures { λ r. ⌜ (r ≡ 2 ^ bits width) × (r ≤ 256) ⌝ }
 {

@@ -1,5 +1,6 @@
 -- All examples of specs/Cases.antt hold, by computation.
 use mathlib.Core.Path.{refl}
+use Rattle.codec.specs.Format.{putAnswer}
 use Rattle.compact_u64.specs.Number.{minTag, encodingWidth, numberBytes, numberSaid, readNumber}
 use Rattle.path.specs.Record.{pathFrom, wellFormed}
 use Rattle.path_codec.specs.Suffix.{componentBytes, sizesBytes, suffixBytes, readSizes, readSized, readLast, readComponents, readSuffix}
@@ -9,5 +10,5 @@ use Rattle.path_relative.specs.Records.{readAgainstPath}
 use Rattle.cases.specs.Cases.{AllHold, cases}
 
 pub cases-hold : AllHold cases
-unfolding minTag encodingWidth numberBytes numberSaid readNumber pathFrom wellFormed componentBytes sizesBytes suffixBytes readSizes readSized readLast readComponents readSuffix readPath joinOk readAgainst readAgainstPath
-cases-hold = ((refl, refl), (refl, ((refl, refl), (refl, ((refl, refl), ((refl, refl), (refl, ((refl, refl), ((refl, refl), ((refl, refl), ((refl, refl), (refl, ((refl, refl), ((refl, refl), tt))))))))))))))
+unfolding putAnswer minTag encodingWidth numberBytes numberSaid readNumber pathFrom wellFormed componentBytes sizesBytes suffixBytes readSizes readSized readLast readComponents readSuffix readPath joinOk readAgainst readAgainstPath
+cases-hold = ((refl, refl), ((refl, refl), ((refl, refl), ((refl, refl), ((refl, refl), ((refl, refl), ((refl, refl), ((refl, refl), ((refl, refl), ((refl, refl), ((refl, refl), ((refl, refl), ((refl, refl), ((refl, refl), tt))))))))))))))

@@ -3,7 +3,9 @@ use mathlib.Core.Path.{_≡_}
 use mathlib.Core.List.{List, [], _∷_}
 use mathlib.Core.Bool.{true, false}
 use Prim.Native.Nat.{ℕ}
-use Rattle.codec.specs.Answers.{Answer, accepted, refused}
+use lib.ListN.{length}
+use Rattle.codec.specs.Answers.{Answer, accepted, refused, wrote}
+use Rattle.codec.specs.Format.{writeAnswer}
 use Rattle.codec.specs.Reader.{named}
 use Rattle.path.specs.Record.{pathFrom}
 use Rattle.path_codec.specs.Plain.{plainPath, readPath}
@@ -25,9 +27,9 @@ pub data Case : Type 0 where
 
 abbrev pub Holds : Case → Type 0
 Holds (path s strict lenient) = (readPath true s ≡ named pathFrom strict) × (readPath false s ≡ named pathFrom lenient)
-Holds (path-written p bytes) = plainPath .encode (pathFrom p) ≡ bytes
+Holds (path-written p bytes) = (writeAnswer plainPath (pathFrom p) (length bytes) ≡ wrote (length bytes)) × (plainPath .encode (pathFrom p) ≡ bytes)
 Holds (against r s strict lenient) = (readAgainstPath true (pathFrom r) s ≡ named pathFrom strict) × (readAgainstPath false (pathFrom r) s ≡ named pathFrom lenient)
-Holds (against-written r p bytes) = againstPath (pathFrom r) .encode (pathFrom p) ≡ bytes
+Holds (against-written r p bytes) = (writeAnswer (againstPath (pathFrom r)) (pathFrom p) (length bytes) ≡ wrote (length bytes)) × (againstPath (pathFrom r) .encode (pathFrom p) ≡ bytes)
 
 abbrev pub AllHold : List Case → Type 0
 AllHold [] = Unit {0}

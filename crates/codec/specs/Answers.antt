@@ -22,7 +22,7 @@ pub data Outcome : Type 0 where
 abbrev pub AllBytes : List ℕ → Type 0
 AllBytes s = (i : ℕ) → getD s i 0 < 256
 
--- the numbers of the code's answers; `a` is the value that stands beside a reader's
+-- the numbers of the code's answers; `a` is the value that stands beside a reader's answer
 abbrev pub answerOf : {A : Type 0} → Decoded → A → Answer A
 answerOf (decoded.Consumed n) a = accepted a n
 answerOf decoded.EndOfInput a = refused 1

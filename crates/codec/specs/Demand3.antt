@@ -1,4 +1,4 @@
--- Strict reading and writing determine each other: for single values, and for whole lists of writings in one lent buffer.
+-- docs/FORMAT.md, "Lists of writings": strict reading and writing determine each other, for single values, and for whole lists of writings in one lent buffer.
 use mathlib.Core.Path.{_≡_}
 use mathlib.Core.Logic.{_↔_}
 use mathlib.Core.List.{List, _++_}

@@ -1,4 +1,4 @@
--- What writing a value gives: the tests 5 and 3, the bytes, and what stands in the lent buffer afterwards.
+-- docs/FORMAT.md, "Refusals": what writing a value gives: the tests 5 and 3, the bytes, and what stands in the lent buffer afterwards.
 use mathlib.Core.Path.{_≡_}
 use mathlib.Core.List.{List, _++_}
 use mathlib.Core.Bool.{Bool, true, false}

@@ -1,4 +1,4 @@
--- A header byte by the places of its parts: bit 0 is the highest.
+-- docs/FORMAT.md, "Headers": a header byte by the places of its parts: bit 0 is the highest.
 use mathlib.Core.Path.{_≡_}
 use mathlib.Core.List.{List, [], _∷_}
 use mathlib.Core.Bool.{Bool, true, false, cond}

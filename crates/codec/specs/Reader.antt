@@ -1,4 +1,4 @@
--- Readers of lists of bytes, and the few ways to make one of smaller ones. A record's definition is a chain of these in the format's order
+-- docs/FORMAT.md, "Refusals": readers of lists of bytes, and the few ways to make one of smaller ones. A record's definition is a chain of these in the format's order
 -- of fields and checks.
 use mathlib.Core.List.{List, [], _∷_}
 use mathlib.Core.Bool.{Bool, true, false, cond}

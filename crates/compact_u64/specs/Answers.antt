@@ -20,7 +20,7 @@ numberAnswer (decoded.Value v n) = accepted v n
 numberAnswer decoded.EndOfInput = refused 1
 numberAnswer decoded.TheirFault = refused 2
 
--- a number's refusal as a wholes
+-- a number's refusal as a record's
 abbrev pub refusalOf : DecodedU64 → Decoded
 refusalOf (decoded.Value v n) = whole.TheirFault
 refusalOf decoded.EndOfInput = whole.EndOfInput

@@ -4,7 +4,7 @@ ghost use mathlib.Core.List.{_++_};
 ghost use Prim.Native.Nat.{_+_, _≤_, _<_, _^_};
 ghost use lib.ListN.{length, take, drop};
 ghost use Rattle.codec.specs.Answers.{outcomeOf};
-ghost use Rattle.codec.specs.Format.{allowed, over, putAnswer, putBuffer, writeAnswer, writeBuffer};
+ghost use Rattle.codec.specs.Format.{allowed, putAnswer, putBuffer, writeAnswer, writeBuffer};
 ghost use Rattle.compact_u64.specs.BigEndian.{valueOf, bigEndian};
 ghost use Rattle.compact_u64.specs.Number.{inlineLimit, widthExponent, minTag, numberBytes, standaloneBytes, readNumber, readStandalone, standalone};
 ghost use Rattle.compact_u64.specs.Answers.{bits, numberAnswer, refusalOf};

@@ -12,12 +12,12 @@ use Rattle.path.specs.declared.Path.{Path}
 use Rattle.path.specs.declared.PathBuilder.{PathBuilder}
 use Rattle.path.specs.declared.Appended.the-variants as appended
 use Rattle.path.specs.Limits.{totalOf, PathOk}
-use Rattle.path.specs.Record.{sumOf, used, joined, componentsOf, pathFrom, wellFormed, TypedPath, lengthAt}
+use Rattle.path.specs.Record.{sumOf, used, joined, componentsOf, pathFrom, wellFormed, lengthAt}
 use Rattle.path.specs.Builder.{builderFrom, isBuilder, fitsAfter, growth, appendComponent, grown, pushComponent, Extendable}
 use Rattle.path.proofs.Tests.{and-left, and-right}
 use Rattle.path.proofs.Lists.{drop-zeros, length-joined}
 use Rattle.path.proofs.Limits.{total-append, total-snoc, total-grows}
-use Rattle.path.proofs.Record.{well-formed, formed-well, remade, apart, made, count-of, components-of, sum-of}
+use Rattle.path.proofs.Record.{well-formed, formed-well, remade, made, count-of, components-of, sum-of}
 use Rattle.path.proofs.Components.{Formed, bytesAt, prefix-count, start-small, next-start, short, component-long, take-component}
 
 joined-snoc : (cs : List (List ℕ)) (c : List ℕ) → joined (cs ++ (c ∷ [])) ≡ joined cs ++ c
@@ -121,14 +121,6 @@ unfolding isBuilder
 builder-limits b e =
     let w = well-formed (b .path) (and-left _ _ e) in
     (omega (arith, eqb-true (b .total) _ (and-right (wellFormed (b .path)) _ e), w .total), w .count)
-
-pub record Builds (b : PathBuilder) : Type 0 where
-  pub ok : PathOk (componentsOf (b .path))
-  pub made : b ≡ builderFrom (componentsOf (b .path))
-
-pub builds : (b : PathBuilder) → TypedPath (b .path) → isBuilder b ≡ true → Builds b
-unfolding isBuilder
-builds b t e = record { ok = apart (b .path) t (well-formed (b .path) (and-left _ _ e)) .ok; made = rebuilt b (t .bytes) (t .lengths) e }
 
 -- appending is pushing, on such a builder
 pub appends : (b : PathBuilder) (c : List ℕ) → isBuilder b ≡ true → b ≡ builderFrom (componentsOf (b .path)) → pushComponent b c ≡ appendComponent b c

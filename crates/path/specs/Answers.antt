@@ -2,7 +2,9 @@
 use mathlib.Core.Bool.{Bool, true, false, cond, _&&_}
 use Prim.Native.Nat.{ℕ}
 use lib.Dec.{ltb}
+use Rattle.codec.specs.Answers.{Answer, accepted, refused, Outcome, wrote, denied}
 use Rattle.path.specs.declared.Path.{Path}
+use Rattle.path.specs.declared.PathBuilder.{PathBuilder}
 use Rattle.path.specs.declared.Appended.{Appended}
 use Rattle.path.specs.declared.Appended.the-variants as appended
 use Rattle.path.specs.declared.ComponentCount.{ComponentCount}
@@ -14,25 +16,26 @@ use Rattle.path.specs.declared.Compared.the-variants as compared
 use Rattle.path.specs.Record.{componentsOf, wellFormed, lengthAt, startAt}
 use Rattle.path.specs.Prefix.{shared, isPrefix, samePath}
 
--- the refusals' numbers; 0 is none
-abbrev pub appendedNumber : Appended → ℕ
-appendedNumber appended.Grown = 0
-appendedNumber appended.Outside = 3
-appendedNumber appended.Malformed = 5
+-- the numbers and values of the code's answers
+abbrev pub appendedAnswer : Appended → PathBuilder → Answer PathBuilder
+appendedAnswer appended.Grown b = accepted b (b .total)
+appendedAnswer appended.Outside b = refused 3
+appendedAnswer appended.Malformed b = refused 5
 
-abbrev pub countNumber : ComponentCount → ℕ
-countNumber (count.Components n) = 0
-countNumber count.Malformed = 5
+abbrev pub countAnswer : ComponentCount → Outcome
+countAnswer (count.Components n) = wrote n
+countAnswer count.Malformed = denied 5
 
-abbrev pub componentNumber : ComponentBytes → ℕ
-componentNumber (component.At i n) = 0
-componentNumber component.Outside = 3
-componentNumber component.Malformed = 5
+-- where the bytes start, and how many they are
+abbrev pub componentAnswer : ComponentBytes → Answer ℕ
+componentAnswer (component.At i n) = accepted i n
+componentAnswer component.Outside = refused 3
+componentAnswer component.Malformed = refused 5
 
-abbrev pub comparedNumber : Compared → ℕ
-comparedNumber compared.Yes = 0
-comparedNumber compared.No = 0
-comparedNumber compared.Malformed = 5
+abbrev pub comparedAnswer : Compared → Answer Bool
+comparedAnswer compared.Yes = accepted true 0
+comparedAnswer compared.No = accepted false 0
+comparedAnswer compared.Malformed = refused 5
 
 -- the i-th component: 5, then 3 where there is none
 unfoldable pub componentAt : Path → ℕ → ComponentBytes

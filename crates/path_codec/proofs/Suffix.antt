@@ -74,9 +74,9 @@ module _ (within : ℕ → ℕ → Bool) where
   suffix-empty canonic = refl
 
 -- a suffix is never empty
-pub suffix-long : (cs : List (List ℕ)) → 1 ≤ length (suffixBytes cs)
+pub suffix-nonempty : (cs : List (List ℕ)) → 1 ≤ length (suffixBytes cs)
 unfolding suffixBytes sizesBytes
-suffix-long cs = omega arith
+suffix-nonempty cs = omega arith
 
 -- how long it may be
 components-short : (cs : List (List ℕ)) → length (componentBytes cs) ≤ 9 * length cs + totalOf cs

@@ -1,4 +1,4 @@
--- The header byte of a suffix: a tag of 4 bits for the total length, and one for the component count.
+-- docs/FORMAT.md, "Paths": the header byte of a suffix, a tag of 4 bits for the total length, and one for the component count.
 use Prim.Native.Nat.{ℕ, _+_, _<_}
 use Rattle.codec.specs.Header.{field, placed}
 use Rattle.path_codec.specs.declared.Tags.{Tags}

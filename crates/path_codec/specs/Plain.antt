@@ -1,4 +1,4 @@
--- The plain path, as the code holds paths.
+-- docs/FORMAT.md, "Paths": the plain path, as the code holds paths.
 use mathlib.Core.List.{List, _++_}
 use mathlib.Core.Bool.{Bool, true}
 use Prim.Native.Nat.{ℕ, _+_}

@@ -1,4 +1,4 @@
--- A suffix: components of a path with their total length and their count. Plain paths, paths against a path and extensions are made of it.
+-- docs/FORMAT.md, "Paths": a suffix, components of a path with their total length and their count. Plain paths, paths against a path and extensions are made of it.
 use mathlib.Core.List.{List, [], _∷_, _++_}
 use mathlib.Core.Bool.{Bool}
 use Prim.Native.Nat.{ℕ, zero, suc, _+_, _-_}

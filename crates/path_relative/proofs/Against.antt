@@ -2,7 +2,7 @@
 use mathlib.Core.Path.{_≡_, refl, sym, ap, _∙_}
 use mathlib.Core.List.{List, [], _++_}
 use mathlib.Core.Bool.{Bool, true, false, cond}
-use Prim.Native.Nat.{ℕ, _+_, _≤_}
+use Prim.Native.Nat.{ℕ, _+_, _≤_, _*_}
 use native.Mathlib.Omega.{arith}
 use lib.Dec.{leb, eqb}
 use borrow.Author.Tests.{leb-true, eqb-true, le-leb, eq-eqb}
@@ -15,16 +15,16 @@ use Rattle.codec.proofs.Relaxes.{relaxes-back, then-relaxes, checked-relaxes, m
 use Rattle.codec.proofs.Bounded.{then-bounded, checked-bounded, mapped-bounded}
 use Rattle.compact_u64.specs.Number.{standaloneBytes, readStandalone}
 use Rattle.compact_u64.specs.Laws.{StandaloneAs}
-use Rattle.compact_u64.proofs.Standalone.{standalone-reads, standalone-relaxes, standalone-bounded}
+use Rattle.compact_u64.proofs.Standalone.{standalone-reads, standalone-relaxes, standalone-bounded, standalone-short}
 use Rattle.path.specs.Limits.{totalOf, limits, Component, PathOk}
 use Rattle.path.specs.Prefix.{shared}
 use Rattle.path.proofs.Tests.{and-left, and-right}
-use Rattle.path.proofs.Limits.{total-append, all-append, all-take, all-drop, limits-total, limits-count, limits-of}
+use Rattle.path.proofs.Limits.{total-append, total-split, all-append, all-take, all-drop, limits-total, limits-count, limits-of}
 use Rattle.path.proofs.Prefix.{Shares, shares}
 use Rattle.path_codec.specs.Suffix.{suffixBytes}
 use Rattle.path_codec.specs.Relations.{SuffixAs}
-use Rattle.path_codec.proofs.Suffix.{suffix-reads, suffix-relaxes, suffix-bounded}
-use Rattle.path_relative.specs.Against.{joinOk, readAgainst, AgainstAs}
+use Rattle.path_codec.proofs.Suffix.{suffix-reads, suffix-relaxes, suffix-bounded, suffix-short}
+use Rattle.path_relative.specs.Against.{againstBytes, joinOk, readAgainst, AgainstAs}
 
 -- ---- the limits of the whole path, as a test and as facts
 pub record JoinOk (r : List (List ℕ)) (k total count : ℕ) : Type 0 where
@@ -60,6 +60,14 @@ against-bounded r canonic =
 pub against-empty : (r : List (List ℕ)) (canonic : Bool) → readAgainst canonic r [] ≡ refused 1
 unfolding readAgainst
 against-empty r canonic = refl
+
+-- a path against a path is never empty, and how long it may be
+pub against-nonempty : (r p : List (List ℕ)) → 1 ≤ length (againstBytes r p)
+against-nonempty r p = omega (arith, length-append (standaloneBytes (shared r p)) (suffixBytes (drop (shared r p) p)), standalone-short (shared r p))
+
+pub against-short : (r p : List (List ℕ)) → length (againstBytes r p) ≤ 26 + (9 * length p + totalOf p)
+against-short r p =
+    omega (arith, length-append (standaloneBytes (shared r p)) (suffixBytes (drop (shared r p) p)), standalone-short (shared r p), suffix-short (drop (shared r p) p), total-split (shared r p) p, length-drop (shared r p) p)
 
 module _ (r : List (List ℕ)) (wf : PathOk r) where
   Rel : List (List ℕ) → List ℕ → Type 0

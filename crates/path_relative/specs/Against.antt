@@ -1,4 +1,4 @@
--- A path against a path: how many leading components are shared, and the suffix after them.
+-- docs/FORMAT.md, "Paths": a path against a path, how many leading components are shared, and the suffix after them.
 use mathlib.Core.Path.{_≡_}
 use mathlib.Core.List.{List, _++_}
 use mathlib.Core.Bool.{Bool, true, cond, _&&_}

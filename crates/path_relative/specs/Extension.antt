@@ -1,4 +1,4 @@
--- An extension of a path: the suffix after the reference, which is a prefix.
+-- docs/FORMAT.md, "Paths": an extension of a path, the suffix after the reference, which is a prefix.
 use mathlib.Core.Path.{_≡_}
 use mathlib.Core.List.{List, _++_}
 use mathlib.Core.Bool.{Bool}

@@ -1,4 +1,4 @@
--- Both encodings, as the code holds paths. 5 is tested on the reference and on the path.
+-- docs/FORMAT.md, "Paths": both encodings, as the code holds paths. 5 is tested on the reference and on the path.
 use mathlib.Core.Path.{_≡_}
 use mathlib.Core.List.{_++_}
 use mathlib.Core.Bool.{Bool, true, cond, _&&_}

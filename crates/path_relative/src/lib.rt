@@ -1,6 +1,5 @@
 // Paths against a path, and extensions of a path: docs/FORMAT.md, "Paths". A port of path/codec.rs.
 ghost use mathlib.Core.Path.{_≡_};
-ghost use Prim.Native.Nat.{_≤_};
 ghost use lib.ListN.{length, drop};
 ghost use Rattle.codec.specs.Answers.{outcomeOf};
 ghost use Rattle.codec.specs.Format.{writeAnswer, writeBuffer, lengthAnswer};

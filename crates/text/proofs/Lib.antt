@@ -7,3 +7,4 @@ pub mod HexAnswers
 pub mod DecimalSteps
 pub mod DecimalPrinted
 pub mod Back
+pub mod IdSteps

@@ -3,4 +3,5 @@ pub mod Hex
 pub mod Decimal
 pub mod Buffer
 pub mod Fields
+pub mod Ids
 pub mod Laws

@@ -11,6 +11,8 @@ ghost use Rattle.text.specs.Decimal.{decimalValue, decimalText};
 ghost use Rattle.text.specs.Buffer.{overAt, putAt, placeAfter};
 ghost use Rattle.text.specs.Fields.{readDecimal, readHex, hexBuffer};
 
+pub mod ids;
+
 // What reading a number finds. Refused: no digits, another byte, a leading zero, or 2^64 and above.
 pub enum Decimal {
     Value(u64),
@@ -22,6 +24,12 @@ pub enum Hex {
     Bytes(usize),
     NoHex,
     NoRoom,
+}
+
+// An id of 32 bytes; all zero where the field is not one.
+pub struct IdField {
+    pub ok: bool,
+    pub id: [u8; 32],
 }
 
 // The place of the first byte `x`; the length where there is none.

@@ -3,8 +3,8 @@ use native.Mathlib.Omega.{arith}
 use borrow.Author.Tests.{le-leb, lt-leb, lt-ltb, le-ltb}
 use Rattle.path.specs.Builder.{fitsAfter}
 use Rattle.path.proofs.Builder.{room-left}
-use Rattle.path.proofs.fits_after.Statement.{statement}
-use Rattle.path.proofs.fits_after.Tie as tie
+use Rattle.path.proofs.path_builder.fits_after.Statement.{statement}
+use Rattle.path.proofs.path_builder.fits_after.Tie as tie
 
 returns : tie.Need-returns
 unfolding fitsAfter
