@@ -5,11 +5,11 @@ use mathlib.Core.Bool.{Bool, true, false, cond}
 use Prim.Native.Nat.{ℕ, _+_, _-_, _≤_, _<_}
 use native.Mathlib.Omega.{arith}
 use lib.Dec.{ltb}
-use borrow.Author.Tests.{ltb-false, lt-ltb, le-ltb}
-use lib.ListN.{length, take, drop, length-append}
+use borrow.Author.Tests.{lt-ltb, le-ltb}
+use lib.ListN.{length, take, drop}
 use lib.Seq.{drop-drop}
 use Rattle.text.specs.Parts.{before}
-use Rattle.lines.specs.Lines.{linesOf, wholeLines, span, answers, fitting, fittingLines}
+use Rattle.lines.specs.Lines.{linesOf, wholeLines, span, fitting, fittingLines}
 use Rattle.lines.proofs.Lines.{whole-none, whole-next, lines-next, span-append, span-zero}
 
 module _ (f : List ℕ → List ℕ) (most : ℕ) where
@@ -95,18 +95,3 @@ module _ (f : List ℕ → List ℕ) (most : ℕ) where
   pub fitting-nothing : (s : List ℕ) (room : ℕ) → most ≤ room → span (fittingLines f most room s) ≡ 0 → span (wholeLines s) ≡ 0
   unfolding span
   fitting-nothing s room h e = rw (fitting-none room (wholeLines s) h (span-zero _ e))
-
-  -- ---- the answers fit, where none is longer than `most`
-  module _ (few : (l : List ℕ) → length (f l) ≤ most) where
-    few-of-fitting : (ls : List (List ℕ)) (room : ℕ) → length (answers f (fitting f most room ls)) ≤ room
-    unfolding fitting answers
-    few-of-fitting [] room = omega arith
-    few-of-fitting (l ∷ ls) room = by-cases (ltb room most) refl (few-of-fitting ls (room - length (f l)))
-      where
-        by-cases : (t : Bool) → ltb room most ≡ t → length (answers f (fitting f most (room - length (f l)) ls)) ≤ room - length (f l)
-            → length (answers f (cond t [] (l ∷ fitting f most (room - length (f l)) ls))) ≤ room
-        by-cases true e ih = omega arith
-        by-cases false e ih = rw length-append (omega (arith, few l, ltb-false room most e))
-
-    pub fitting-few : (s : List ℕ) (room : ℕ) → length (answers f (fittingLines f most room s)) ≤ room
-    fitting-few s room = few-of-fitting (wholeLines s) room

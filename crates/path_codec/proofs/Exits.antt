@@ -41,7 +41,7 @@ use Rattle.path_codec.specs.declared.DecodedComponent.the-variants as co
 use Rattle.path_codec.specs.Header.{unpackTags}
 use Rattle.path_codec.specs.Suffix.{Sizes, sizesFrom, readSizes, readSized, readLast, readComponents, readSuffix}
 use Rattle.path_codec.specs.Plain.{readPath, readOnto}
-use Rattle.path_codec.specs.Answers.{GivesPath, sizesAnswer, componentAnswer, ReadsSized, numberRefusal, lengthRefusal, sizesRefusal, componentRefusal, Room, ahead, lastAhead}
+use Rattle.path_codec.specs.Answers.{GivesPath, sizesAnswer, sizedAnswer, ReadsSized, numberRefusal, lengthRefusal, sizesRefusal, componentRefusal, Room, ahead, lastAhead}
 use Rattle.path_codec.proofs.Header.{sizes-bounded}
 use Rattle.path_codec.proofs.Components.{components-bounded}
 
@@ -68,7 +68,7 @@ no-sizes sizes.TheirFault h = record { why = 2; sizes = refl; path = refl }
 
 pub record NoComponent (x : DecodedComponent) : Type 0 where
   pub why : ℕ
-  pub component : (at : ℕ) (m : List ℕ) → componentAnswer at m x ≡ refused why
+  pub component : (at : ℕ) (m : List ℕ) → sizedAnswer at m x ≡ refused why
   pub path : answerOf (componentRefusal x) (pathFrom []) ≡ refused why
 
 pub no-component : (x : DecodedComponent) → OneOf (1 ∷ 2 ∷ []) (declared.tagOf Rattle.path_codec.proofs.DecodedComponent.the-type x) → NoComponent x

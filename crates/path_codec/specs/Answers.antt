@@ -35,10 +35,10 @@ sizesAnswer sizes.EndOfInput = refused 1
 sizesAnswer sizes.TheirFault = refused 2
 
 -- a component of the message m, read from place at on
-abbrev pub componentAnswer : ℕ → List ℕ → DecodedComponent → Answer (List ℕ)
-componentAnswer at m (component.Bytes b e) = accepted (take (e - b) (drop b m)) (e - at)
-componentAnswer at m component.EndOfInput = refused 1
-componentAnswer at m component.TheirFault = refused 2
+abbrev pub sizedAnswer : ℕ → List ℕ → DecodedComponent → Answer (List ℕ)
+sizedAnswer at m (component.Bytes b e) = accepted (take (e - b) (drop b m)) (e - at)
+sizedAnswer at m component.EndOfInput = refused 1
+sizedAnswer at m component.TheirFault = refused 2
 
 abbrev pub Inside : ℕ → ℕ → DecodedComponent → Type 0
 Inside at n (component.Bytes b e) = (at ≤ b) × (b ≤ e) × (e ≤ n) × (e - b ≤ maxComponentLength)
@@ -46,7 +46,7 @@ Inside at n component.EndOfInput = Unit {0}
 Inside at n component.TheirFault = Unit {0}
 
 pub record ReadsSized (canonic : Bool) (m : List ℕ) (at : ℕ) (r : DecodedComponent) : Type 0 where
-  pub answer : componentAnswer at m r ≡ readSized canonic (drop at m)
+  pub answer : sizedAnswer at m r ≡ readSized canonic (drop at m)
   pub inside : Inside at (length m) r
 
 -- refusals handed on

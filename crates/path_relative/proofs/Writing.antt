@@ -58,9 +58,6 @@ module _ (r p : Path) (k : ℕ) (t : TypedPath p) (c : Common r p k) where
   k-there : k ≤ p .count
   k-there = omega (arith, shares (componentsOf r) (componentsOf p) .in-p, c .is, count-is p path-formed)
 
-  pub k-small : k ≤ 20
-  k-small = omega (arith, k-there, path-formed .well .count)
-
   pub against-allowed : againstPath r .check p ≡ allowed
   against-allowed = rw (c .both)
 
