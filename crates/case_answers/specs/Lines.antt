@@ -21,14 +21,6 @@ use Rattle.case_answers.specs.Texts.{six, okText, ended, readText, lengt
 use Rattle.case_answers.specs.Fields.{field, exactly, decimalField, hexField, pathField}
 use Rattle.case_answers.specs.Records.{recordLine}
 
--- the operation in the second field: `s`, `l`, `w` or `n`
-unfoldable pub opOf : List ℕ → Op
-opOf f =
-    cond (sameText f (115 ∷ [])) op.Strict
-    (cond (sameText f (108 ∷ [])) op.Lenient
-    (cond (sameText f (119 ∷ [])) op.Write
-    (cond (sameText f (110 ∷ [])) op.Length op.Unknown)))
-
 -- ---- numbers after a tag of w bits; the tag stands before the start
 abbrev pub readNumberLine : ℕ → Bool → List ℕ → List ℕ
 readNumberLine w canonic line =

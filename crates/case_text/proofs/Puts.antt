@@ -1,0 +1,64 @@
+-- Laws of texts put into a buffer, one after another.
+use mathlib.Core.Path.{_≡_, refl, sym, _∙_}
+use mathlib.Core.List.{List, [], _∷_, _++_}
+use mathlib.Core.Logic.{⊎-elim}
+use Prim.Native.Nat.{ℕ, _+_, _*_, _≤_, _<_}
+use types.Run.{OneOf}
+use denote.Enum.Declared.{tagOf}
+use native.Mathlib.Omega.{arith}
+use borrow.Author.Tests.{le-leb, lt-leb}
+use lib.ListN.{length, length-append}
+use Rattle.codec.specs.declared.Encoded.{Encoded}
+use Rattle.codec.specs.declared.Encoded.the-variants as encoded
+use Rattle.codec.specs.Answers.{outcomeOf}
+use Rattle.text.specs.Buffer.{putAt, placeAfter}
+use Rattle.text.proofs.Buffer.{overAt-then, overAt-long, putAt-fits}
+use Rattle.case_text.specs.Texts.{writtenText, writtenNumberText}
+use Rattle.case_text.specs.Answers.{Puts, PutsWithin}
+
+-- a put of the crate text, where there is room
+pub puts-fits : {at r : ℕ} (t : List ℕ) {l l' : List ℕ} → at + length t ≤ length l → (r ≡ placeAfter at t l) × (l' ≡ putAt at t l) → Puts at t l l' r
+puts-fits {at} t {l} h e =
+    let f = putAt-fits at t l h in
+    record { place = e .0 ∙ sym (f .0); buffer = e .1 ∙ sym (f .1) }
+
+-- one text after another
+pub puts-then : {at p q : ℕ} {a b l m n : List ℕ} → at ≤ length l → Puts at a l m p → Puts p b m n q → Puts at (a ++ b) l n q
+puts-then {at} {p} {q} {a} {b} {l} h x y =
+    let xp = x .place in
+    record {
+      place = y .place ∙ rw (length-append a b) (omega arith);
+      buffer = y .buffer ∙ rw (x .buffer, xp) (overAt-then at a b l h);
+    }
+
+-- two puts of the crate text, where there is room for a second text of at most k bytes
+pub puts-two : {at p q : ℕ} (a b : List ℕ) {l m n : List ℕ} (k : ℕ) → length b ≤ k → at + (length a + k) ≤ length l
+    → (p ≡ placeAfter at a l) × (m ≡ putAt at a l) → (q ≡ placeAfter p b m) × (n ≡ putAt p b m)
+    → Puts at (a ++ b) l n q × (q ≤ at + (length a + k))
+puts-two {at} a b {l} {m} k few h e g =
+    let x = puts-fits a (omega arith) e in
+    let xp = x .place in
+    let xb = x .buffer in
+    let long : length m ≡ length l = rw xb (overAt-long at a l (omega arith)) in
+    let y = puts-fits b (omega arith) g in
+    (puts-then (omega arith) x y, omega (arith, y .place))
+
+-- ---- a text put where `room` bytes are free
+module _ {room at : ℕ} {t l : List ℕ} where
+  pub within-full : length l < at + room → PutsWithin room at t l l at
+  within-full h = record { place = rw (lt-leb _ _ h); buffer = rw (lt-leb _ _ h) }
+
+  module _ {l' : List ℕ} {r : ℕ} where
+    pub within-fits : Puts at t l l' r → at + room ≤ length l → PutsWithin room at t l l' r
+    within-fits p h = record { place = rw (le-leb _ _ h) (p .place); buffer = rw (le-leb _ _ h) (p .buffer) }
+
+    pub within-puts : PutsWithin room at t l l' r → at + room ≤ length l → Puts at t l l' r
+    within-puts p h = record { place = rw (le-leb _ _ h) at (p .place); buffer = rw (le-leb _ _ h) at (p .buffer) }
+
+-- a number's refused writing has no tag
+pub refused-number : (a : Encoded) (tag : ℕ) (buffer : List ℕ) → OneOf (1 ∷ 2 ∷ 3 ∷ []) (tagOf Rattle.codec.proofs.Encoded.the-type a)
+    → writtenText (outcomeOf a) buffer ≡ writtenNumberText (outcomeOf a) tag buffer
+refused-number (encoded.Length n) tag buffer k = absurd (⊎-elim (λ q. omega arith) (⊎-elim (λ q. omega arith) (λ q. omega arith)) k)
+refused-number encoded.Outside tag buffer k = refl
+refused-number encoded.NoRoom tag buffer k = refl
+refused-number encoded.Malformed tag buffer k = refl

@@ -1,0 +1,70 @@
+-- The ways out of a line that reads, writes or measures a record, whatever the record: each law takes the line's text to the text that was put.
+use mathlib.Core.Path.{_≡_, sym, ap, _∙_}
+use mathlib.Core.List.{List, _++_}
+use Prim.Native.Nat.{ℕ, _+_}
+use lib.ListN.{length, take, drop}
+use Rattle.codec.specs.Answers.{Outcome, Answer}
+use Rattle.codec.specs.Format.{Format, writeAnswer, writeBuffer, lengthAnswer}
+use Rattle.codec.specs.Reader.{Reader}
+use Rattle.text.specs.Parts.{parts}
+use Rattle.case_text.specs.declared.HexField.{HexField}
+use Rattle.case_text.specs.declared.HexField.the-variants as hex
+use Rattle.case_text.specs.Texts.{six, readText, writtenText, lengthText}
+use Rattle.case_text.specs.Fields.{decimalField}
+use Rattle.case_text.specs.Records.{readLine, writeLine, lengthLine}
+use Rattle.case_text.specs.Answers.{ReadsHex}
+use Rattle.case_text.proofs.Steps.{fields-not, fields-are, hex-refused, hex-bytes, lent-back}
+
+-- ---- reading: start and message from the i-th field on
+module _ {A : Type 0} (print : A → List ℕ) (reader : Reader A) (i : ℕ) (line : List ℕ) {m : ℕ} (counted : m ≡ length (parts 9 line)) where
+  abbrev said : ℕ → List ℕ → List ℕ
+  said start message = readText print (reader (drop start message))
+
+  pub read-fields : (m ≡ i + 2 → ⊥) → readLine print reader i line ≡ six
+  read-fields h = fields-not line counted (i + 2) _ h
+
+  module _ (many : m ≡ i + 2) where
+    pub read-start : ((k : ℕ → List ℕ) → decimalField i line k ≡ six) → readLine print reader i line ≡ six
+    read-start start = fields-are line counted (i + 2) _ many ∙ start _
+
+    module _ (s : ℕ) (start : (k : ℕ → List ℕ) → decimalField i line k ≡ k s) {buffer : List ℕ} {r : HexField} (read : ReadsHex 8192 (i + 1) line buffer r) where
+      pub read-message : r ≡ hex.Refused → readLine print reader i line ≡ six
+      read-message e = fields-are line counted (i + 2) _ many ∙ start _ ∙ hex-refused (i + 1) line read (said s) e
+
+      pub read-answer : {n : ℕ} {x : Answer A} → r ≡ hex.Bytes n → x ≡ reader (drop s (take n buffer)) → readLine print reader i line ≡ readText print x
+      read-answer e h = fields-are line counted (i + 2) _ many ∙ start _ ∙ hex-bytes (i + 1) line read e (said s) ∙ ap (readText print) (sym h)
+
+-- ---- writing: a value in the i-th field, then the lent buffer
+module _ {A : Type 0} (parse : ℕ → List ℕ → (A → List ℕ) → List ℕ) (format : Format A) (i : ℕ) (line : List ℕ) {m : ℕ} (counted : m ≡ length (parts 9 line)) where
+  abbrev put : A → List ℕ → List ℕ
+  put v lent = writtenText (writeAnswer format v (length lent)) (writeBuffer format v lent)
+
+  pub write-fields : (m ≡ i + 2 → ⊥) → writeLine parse format i line ≡ six
+  write-fields h = fields-not line counted (i + 2) _ h
+
+  module _ (many : m ≡ i + 2) where
+    pub write-value : ((k : A → List ℕ) → parse i line k ≡ six) → writeLine parse format i line ≡ six
+    write-value value = fields-are line counted (i + 2) _ many ∙ value _
+
+    module _ (v : A) (value : (k : A → List ℕ) → parse i line k ≡ k v) {buffer : List ℕ} {r : HexField} (read : ReadsHex 8192 (i + 1) line buffer r) where
+      pub write-buffer : r ≡ hex.Refused → writeLine parse format i line ≡ six
+      write-buffer e = fields-are line counted (i + 2) _ many ∙ value _ ∙ hex-refused (i + 1) line read (put v) e
+
+      pub write-answer : {n : ℕ} {o : Outcome} {ys : List ℕ} (e : r ≡ hex.Bytes n)
+          → o ≡ writeAnswer format v (length (take n buffer)) → ys ≡ writeBuffer format v (take n buffer) → length ys ≡ length (take n buffer)
+          → writeLine parse format i line ≡ writtenText o (take n (ys ++ drop n buffer))
+      write-answer {n} {o} {ys} e answer written kept =
+          let b : take n (ys ++ drop n buffer) ≡ ys = lent-back (i + 1) line read e ys kept in
+          fields-are line counted (i + 2) _ many ∙ value _ ∙ hex-bytes (i + 1) line read e (put v) ∙ rw (b, ← answer, ← written)
+
+-- ---- written length: a value in the i-th field
+module _ {A : Type 0} (parse : ℕ → List ℕ → (A → List ℕ) → List ℕ) (format : Format A) (i : ℕ) (line : List ℕ) {m : ℕ} (counted : m ≡ length (parts 9 line)) where
+  pub length-fields : (m ≡ i + 1 → ⊥) → lengthLine parse format i line ≡ six
+  length-fields h = fields-not line counted (i + 1) _ h
+
+  module _ (many : m ≡ i + 1) where
+    pub length-value : ((k : A → List ℕ) → parse i line k ≡ six) → lengthLine parse format i line ≡ six
+    length-value value = fields-are line counted (i + 1) _ many ∙ value _
+
+    pub length-answer : (v : A) → ((k : A → List ℕ) → parse i line k ≡ k v) → {o : Outcome} → o ≡ lengthAnswer format v → lengthLine parse format i line ≡ lengthText o
+    length-answer v value h = fields-are line counted (i + 1) _ many ∙ value _ ∙ ap lengthText (sym h)

@@ -1,0 +1,187 @@
+// Answers put from a place on: each public function answers the next place; where fewer than MAX_ANSWER bytes are free, nothing changes.
+ghost use mathlib.Core.Path.{_≡_};
+ghost use mathlib.Core.List.{[], _∷_, _++_};
+ghost use Prim.Native.Nat.{_+_, _-_, _≤_};
+ghost use lib.ListN.{length, take};
+ghost use Rattle.codec.specs.Answers.{answerOf, outcomeOf};
+ghost use Rattle.compact_u64.specs.Answers.{numberAnswer};
+ghost use Rattle.text.specs.Decimal.{decimalText};
+ghost use Rattle.text.specs.Hex.{hexText};
+ghost use Rattle.path_text.specs.PathText.{pathTextOf};
+ghost use Rattle.case_text.specs.Texts.{six, noText, afterTab, ended, readText, lengthText, writtenText, writtenNumberText};
+ghost use Rattle.case_text.specs.Answers.{Puts, PutsWithin};
+use crate::MAX_ANSWER;
+use crate::MAX_BYTES;
+use codec::Decoded;
+use codec::Encoded;
+use compact_u64::DecodedU64;
+use path::Path;
+use path_codec::DecodedPath;
+
+// The bytes of a buffer from a place on.
+pub fn free(out: &[u8], at: usize) -> usize
+    ensures { λ r. ⌜ r ≡ length (now (out .entry)) - at ⌝ }
+{
+    if out.len() < at {
+        return 0;
+    }
+    out.len() - at
+}
+
+// The line is not in its form.
+pub fn refuse(out: &mut [u8], at: usize) -> usize
+    ensures { λ r. ⌜ PutsWithin 16640 at (ended six) (now (out .entry)) (now (out .exit)) r ⌝ }
+{
+    if free(out, at) < MAX_ANSWER {
+        return at;
+    }
+    text::put_bytes(out, at, b"no\t6\n")
+}
+
+// A word, then a number.
+fn worded(out: &mut [u8], at: usize, word: &[u8], n: u64) -> usize
+    requires { ⌜ at + (length (now word) + 20) ≤ length (now out) ⌝ }
+    ensures { λ r. ⌜ Puts at (now (word .entry) ++ decimalText n) (now (out .entry)) (now (out .exit)) r × (r ≤ at + (length (now (word .entry)) + 20)) ⌝ }
+{
+    let p = text::put_bytes(out, at, word);
+    text::put_decimal(out, p, n)
+}
+
+// The first n bytes of a buffer in hex; all of them where it has no more.
+fn tab_hex(out: &mut [u8], at: usize, buffer: &[u8], n: usize) -> usize
+    requires { ⌜ (at + 16385 ≤ length (now out)) × (length (now buffer) ≤ 8192) ⌝ }
+    ensures { λ r. ⌜ Puts at (afterTab (hexText (take n (now (buffer .entry))))) (now (out .entry)) (now (out .exit)) r × (r ≤ at + 16385) ⌝ }
+{
+    let p = text::put_bytes(out, at, b"\t");
+    if buffer.len() < n {
+        return text::put_hex(out, p, buffer);
+    }
+    text::put_hex(out, p, &buffer[..n])
+}
+
+fn tab_path(out: &mut [u8], at: usize, path: Path) -> usize
+    requires { ⌜ at + 1220 ≤ length (now out) ⌝ }
+    ensures { λ r. ⌜ Puts at (afterTab (pathTextOf path)) (now (out .entry)) (now (out .exit)) r × (r ≤ at + 1220) ⌝ }
+{
+    let p = text::put_bytes(out, at, b"\t");
+    path_text::put_path(out, p, path)
+}
+
+fn end(out: &mut [u8], at: usize) -> usize
+    requires { ⌜ at + 1 ≤ length (now out) ⌝ }
+    ensures { λ r. ⌜ Puts at (10 ∷ []) (now (out .entry)) (now (out .exit)) r ⌝ }
+{
+    text::put_bytes(out, at, b"\n")
+}
+
+// A refusal's number, and no more.
+fn no(out: &mut [u8], at: usize, k: u64) -> usize
+    requires { ⌜ at + 24 ≤ length (now out) ⌝ }
+    ensures { λ r. ⌜ Puts at (ended (noText k)) (now (out .entry)) (now (out .exit)) r ⌝ }
+{
+    let p = worded(out, at, b"no\t", k);
+    end(out, p)
+}
+
+// The length that a writer answered, or the number of its refusal.
+fn outcome(out: &mut [u8], at: usize, answer: Encoded) -> usize
+    requires { ⌜ at + 23 ≤ length (now out) ⌝ }
+    ensures { λ r. ⌜ Puts at (lengthText (outcomeOf answer)) (now (out .entry)) (now (out .exit)) r × (r ≤ at + 23) ⌝ }
+{
+    match answer {
+        Encoded::Length(n) => worded(out, at, b"ok\t", n as u64),
+        Encoded::Outside => worded(out, at, b"no\t", 3),
+        Encoded::NoRoom => worded(out, at, b"no\t", 4),
+        Encoded::Malformed => worded(out, at, b"no\t", 5),
+    }
+}
+
+// What a written length answered.
+pub fn length(out: &mut [u8], at: usize, answer: Encoded) -> usize
+    ensures { λ r. ⌜ PutsWithin 16640 at (ended (lengthText (outcomeOf answer))) (now (out .entry)) (now (out .exit)) r ⌝ }
+{
+    if free(out, at) < MAX_ANSWER {
+        return at;
+    }
+    let p = outcome(out, at, answer);
+    end(out, p)
+}
+
+// What a writer answered, and the first n bytes of a buffer, which it was lent, afterwards.
+pub fn written(
+    out: &mut [u8],
+    at: usize,
+    answer: Encoded,
+    buffer: &[u8; MAX_BYTES],
+    n: usize,
+) -> usize
+    ensures { λ r. ⌜ PutsWithin 16640 at (ended (writtenText (outcomeOf answer) (take n (now (buffer .entry))))) (now (out .entry)) (now (out .exit)) r ⌝ }
+{
+    if free(out, at) < MAX_ANSWER {
+        return at;
+    }
+    let p = outcome(out, at, answer);
+    let q = tab_hex(out, p, buffer, n);
+    end(out, q)
+}
+
+// The same of a number after its tag, with the tag.
+pub fn written_number(
+    out: &mut [u8],
+    at: usize,
+    answer: Encoded,
+    tag: u8,
+    buffer: &[u8; MAX_BYTES],
+    n: usize,
+) -> usize
+    ensures { λ r. ⌜ PutsWithin 16640 at (ended (writtenNumberText (outcomeOf answer) tag (take n (now (buffer .entry))))) (now (out .entry)) (now (out .exit)) r ⌝ }
+{
+    let Encoded::Length(k) = answer else {
+        return written(out, at, answer, buffer, n);
+    };
+    if free(out, at) < MAX_ANSWER {
+        return at;
+    }
+    let p = worded(out, at, b"ok\t", k as u64);
+    let q = worded(out, p, b"\t", tag as u64);
+    let r = tab_hex(out, q, buffer, n);
+    end(out, r)
+}
+
+// What reading a number answered.
+pub fn number(out: &mut [u8], at: usize, answer: DecodedU64) -> usize
+    ensures { λ r. ⌜ PutsWithin 16640 at (ended (readText decimalText (numberAnswer answer))) (now (out .entry)) (now (out .exit)) r ⌝ }
+{
+    if free(out, at) < MAX_ANSWER {
+        return at;
+    }
+    match answer {
+        DecodedU64::Value(v, n) => {
+            let p = worded(out, at, b"ok\t", n as u64);
+            let q = worded(out, p, b"\t", v);
+            end(out, q)
+        }
+        DecodedU64::EndOfInput => no(out, at, 1),
+        DecodedU64::TheirFault => no(out, at, 2),
+    }
+}
+
+// What reading a path answered.
+pub fn path(out: &mut [u8], at: usize, decoded: DecodedPath) -> usize
+    ensures { λ r. ⌜ PutsWithin 16640 at (ended (readText pathTextOf (answerOf (decoded .answer) (decoded .path)))) (now (out .entry)) (now (out .exit)) r ⌝ }
+{
+    if free(out, at) < MAX_ANSWER {
+        return at;
+    }
+    let answer = decoded.answer;
+    match answer {
+        Decoded::Consumed(n) => {
+            let p = worded(out, at, b"ok\t", n as u64);
+            let q = tab_path(out, p, decoded.path);
+            end(out, q)
+        }
+        Decoded::EndOfInput => no(out, at, 1),
+        Decoded::TheirFault => no(out, at, 2),
+        Decoded::Malformed => no(out, at, 5),
+    }
+}
