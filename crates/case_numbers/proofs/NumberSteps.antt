@@ -11,13 +11,13 @@ use Rattle.codec.specs.Format.{allowed, putAnswer, putBuffer}
 use Rattle.compact_u64.specs.Number.{minTag, numberBytes, readNumber}
 use Rattle.text.specs.Parts.{parts}
 use Rattle.text.specs.Decimal.{decimalText}
-use Rattle.case_answers.specs.declared.HexField.{HexField}
-use Rattle.case_answers.specs.declared.HexField.the-variants as hex
-use Rattle.case_answers.specs.Texts.{six, readText, lengthText, writtenNumberText}
-use Rattle.case_answers.specs.Fields.{decimalField}
-use Rattle.case_answers.specs.Lines.{readNumberLine, writeNumberLine, lengthNumberLine}
-use Rattle.case_answers.specs.Answers.{ReadsHex}
-use Rattle.case_answers.proofs.Steps.{fields-not, fields-are, hex-refused, hex-bytes, lent-back}
+use Rattle.case_text.specs.declared.HexField.{HexField}
+use Rattle.case_text.specs.declared.HexField.the-variants as hex
+use Rattle.case_text.specs.Texts.{six, readText, lengthText, writtenNumberText}
+use Rattle.case_text.specs.Fields.{decimalField}
+use Rattle.case_numbers.specs.Lines.{readNumberLine, writeNumberLine, lengthNumberLine}
+use Rattle.case_text.specs.Answers.{ReadsHex}
+use Rattle.case_text.proofs.Steps.{fields-not, fields-are, hex-refused, hex-bytes, lent-back}
 
 module _ (w : ℕ) (line : List ℕ) {m : ℕ} (counted : m ≡ length (parts 9 line)) where
   -- ---- reading: tag, start and message
@@ -43,7 +43,7 @@ module _ (w : ℕ) (line : List ℕ) {m : ℕ} (counted : m ≡ length (parts 9 
           pub read-start : ((k : ℕ → List ℕ) → decimalField 4 line k ≡ six) → readNumberLine w canonic line ≡ six
           read-start start = fields-are line counted 6 _ many ∙ tag _ ∙ below _ ∙ start _
 
-          module _ (s : ℕ) (start : (k : ℕ → List ℕ) → decimalField 4 line k ≡ k s) {buffer : List ℕ} {r : HexField} (read : ReadsHex 5 line buffer r) where
+          module _ (s : ℕ) (start : (k : ℕ → List ℕ) → decimalField 4 line k ≡ k s) {buffer : List ℕ} {r : HexField} (read : ReadsHex 8192 5 line buffer r) where
             pub read-message : r ≡ hex.Refused → readNumberLine w canonic line ≡ six
             read-message e = fields-are line counted 6 _ many ∙ tag _ ∙ below _ ∙ start _ ∙ hex-refused 5 line read (said t s) e
 
@@ -63,7 +63,7 @@ module _ (w : ℕ) (line : List ℕ) {m : ℕ} (counted : m ≡ length (parts 9 
     pub write-value : ((k : ℕ → List ℕ) → decimalField 3 line k ≡ six) → writeNumberLine w line ≡ six
     write-value value = fields-are line counted 5 _ many ∙ value _
 
-    module _ (v : ℕ) (value : (k : ℕ → List ℕ) → decimalField 3 line k ≡ k v) {buffer : List ℕ} {r : HexField} (read : ReadsHex 4 line buffer r) where
+    module _ (v : ℕ) (value : (k : ℕ → List ℕ) → decimalField 3 line k ≡ k v) {buffer : List ℕ} {r : HexField} (read : ReadsHex 8192 4 line buffer r) where
       pub write-buffer : r ≡ hex.Refused → writeNumberLine w line ≡ six
       write-buffer e = fields-are line counted 5 _ many ∙ value _ ∙ hex-refused 4 line read (put v) e
 

@@ -1,21 +1,47 @@
-// Case lines of compact numbers.
+// Case lines of compact numbers: docs/CASES.md. A line is answered where MAX_ANSWER bytes are free; elsewhere nothing changes.
 ghost use mathlib.Core.Path.{_≡_};
-ghost use Prim.Native.Nat.{_+_, _≤_, _^_};
-ghost use lib.ListN.{length};
+ghost use mathlib.Core.List.{List};
+ghost use Prim.Native.Nat.{ℕ, _≤_, _^_};
 ghost use Rattle.compact_u64.specs.Number.{readStandalone, standalone};
 ghost use Rattle.compact_u64.specs.Answers.{bits};
 ghost use Rattle.text.specs.Decimal.{decimalText};
-ghost use Rattle.case_answers.specs.Texts.{ended};
-ghost use Rattle.case_answers.specs.Fields.{decimalField};
-ghost use Rattle.case_answers.specs.Records.{readLine, writeLine, lengthLine};
-ghost use Rattle.case_answers.specs.Lines.{readNumberLine, writeNumberLine, lengthNumberLine, kindLine};
-ghost use Rattle.case_answers.specs.Answers.{Puts};
-ghost use Rattle.case_answers.specs.declared.Kind.the-variants as kinds;
-use crate::HexField;
-use crate::Op;
-use crate::WidthField;
+ghost use Rattle.case_text.specs.Texts.{ended};
+ghost use Rattle.case_text.specs.Fields.{decimalField};
+ghost use Rattle.case_text.specs.Records.{readLine, writeLine, lengthLine};
+ghost use Rattle.case_text.specs.Answers.{PutsWithin};
+ghost use Rattle.case_numbers.specs.Lines.{readNumberLine, writeNumberLine, lengthNumberLine, onWidth, taggedLine, standaloneLine};
+ghost use Rattle.case_numbers.specs.Answers.{onWidthField};
+use case_text::HexField;
+use case_text::MAX_BYTES;
+use case_text::Op;
+use case_text::fields;
+use case_text::put;
 use compact_u64::TagWidth;
 use text::Decimal;
+
+// The width of a number's tag.
+pub enum WidthField {
+    Width(TagWidth),
+    Refused,
+}
+
+fn width(field: &[u8]) -> WidthField
+    ensures { λ r. ⌜ ((k : ℕ → List ℕ) → onWidthField r k ≡ onWidth (now (field .entry)) k) ⌝ }
+{
+    if text::same(field, b"2") {
+        return WidthField::Width(TagWidth::Two);
+    }
+    if text::same(field, b"3") {
+        return WidthField::Width(TagWidth::Three);
+    }
+    if text::same(field, b"4") {
+        return WidthField::Width(TagWidth::Four);
+    }
+    if text::same(field, b"8") {
+        return WidthField::Width(TagWidth::Eight);
+    }
+    WidthField::Refused
+}
 
 // Every tag of this width is below it.
 fn tag_limit(width: TagWidth) -> u64
@@ -30,29 +56,28 @@ fn tag_limit(width: TagWidth) -> u64
 }
 
 fn read_number(line: &[u8], out: &mut [u8], at: usize, width: TagWidth, canonic: bool) -> usize
-    requires { ⌜ (at + 16640 ≤ length (now out)) × (length (now line) ≤ 16384) ⌝ }
-    ensures { λ r. ⌜ Puts at (ended (readNumberLine (bits width) canonic (now (line .entry)))) (now (out .entry)) (now (out .exit)) r ⌝ }
+    ensures { λ r. ⌜ PutsWithin 16640 at (ended (readNumberLine (bits width) canonic (now (line .entry)))) (now (out .entry)) (now (out .exit)) r ⌝ }
 {
     if text::part_count(line, b'\t') != 6 {
-        return crate::put::refuse(out, at);
+        return put::refuse(out, at);
     }
     let tag = text::read_decimal(text::part(line, b'\t', 3));
     let Decimal::Value(t) = tag else {
-        return crate::put::refuse(out, at);
+        return put::refuse(out, at);
     };
     if tag_limit(width) <= t {
-        return crate::put::refuse(out, at);
+        return put::refuse(out, at);
     }
     let start = text::read_decimal(text::part(line, b'\t', 4));
     let Decimal::Value(s) = start else {
-        return crate::put::refuse(out, at);
+        return put::refuse(out, at);
     };
-    let mut message = [0u8; 8192];
-    let hex = crate::fields::hex(line, 5, &mut message);
+    let mut message = [0u8; MAX_BYTES];
+    let hex = fields::hex(line, 5, &mut message);
     let HexField::Bytes(n) = hex else {
-        return crate::put::refuse(out, at);
+        return put::refuse(out, at);
     };
-    crate::put::number(
+    put::number(
         out,
         at,
         compact_u64::relative_decode(&message[..n], s as usize, width, t as u8, canonic),
@@ -60,79 +85,76 @@ fn read_number(line: &[u8], out: &mut [u8], at: usize, width: TagWidth, canonic:
 }
 
 fn write_number(line: &[u8], out: &mut [u8], at: usize, width: TagWidth) -> usize
-    requires { ⌜ (at + 16640 ≤ length (now out)) × (length (now line) ≤ 16384) ⌝ }
-    ensures { λ r. ⌜ Puts at (ended (writeNumberLine (bits width) (now (line .entry)))) (now (out .entry)) (now (out .exit)) r ⌝ }
+    ensures { λ r. ⌜ PutsWithin 16640 at (ended (writeNumberLine (bits width) (now (line .entry)))) (now (out .entry)) (now (out .exit)) r ⌝ }
 {
     if text::part_count(line, b'\t') != 5 {
-        return crate::put::refuse(out, at);
+        return put::refuse(out, at);
     }
     let value = text::read_decimal(text::part(line, b'\t', 3));
     let Decimal::Value(v) = value else {
-        return crate::put::refuse(out, at);
+        return put::refuse(out, at);
     };
-    let mut buffer = [0u8; 8192];
-    let hex = crate::fields::hex(line, 4, &mut buffer);
+    let mut buffer = [0u8; MAX_BYTES];
+    let hex = fields::hex(line, 4, &mut buffer);
     let HexField::Bytes(n) = hex else {
-        return crate::put::refuse(out, at);
+        return put::refuse(out, at);
     };
     let answer = compact_u64::relative_encode(&mut buffer[..n], width, v);
     let tag = compact_u64::min_tag(width, v);
-    crate::put::written_number(out, at, answer, tag, &buffer[..n])
+    put::written_number(out, at, answer, tag, &buffer, n)
 }
 
 fn len_number(line: &[u8], out: &mut [u8], at: usize, width: TagWidth) -> usize
-    requires { ⌜ (at + 16640 ≤ length (now out)) × (length (now line) ≤ 16384) ⌝ }
-    ensures { λ r. ⌜ Puts at (ended (lengthNumberLine (bits width) (now (line .entry)))) (now (out .entry)) (now (out .exit)) r ⌝ }
+    ensures { λ r. ⌜ PutsWithin 16640 at (ended (lengthNumberLine (bits width) (now (line .entry)))) (now (out .entry)) (now (out .exit)) r ⌝ }
 {
     if text::part_count(line, b'\t') != 4 {
-        return crate::put::refuse(out, at);
+        return put::refuse(out, at);
     }
     let value = text::read_decimal(text::part(line, b'\t', 3));
     let Decimal::Value(v) = value else {
-        return crate::put::refuse(out, at);
+        return put::refuse(out, at);
     };
-    crate::put::length(
+    put::length(
         out,
         at,
         codec::Encoded::Length(compact_u64::relative_len_of_encoding(width, v)),
     )
 }
 
-pub(crate) fn number(line: &[u8], out: &mut [u8], at: usize) -> usize
-    requires { ⌜ (at + 16640 ≤ length (now out)) × (length (now line) ≤ 16384) ⌝ }
-    ensures { λ r. ⌜ Puts at (ended (kindLine kinds.Number (now (line .entry)))) (now (out .entry)) (now (out .exit)) r ⌝ }
+// Answers a line of a number after its tag.
+pub fn number(line: &[u8], out: &mut [u8], at: usize) -> usize
+    ensures { λ r. ⌜ PutsWithin 16640 at (ended (taggedLine (now (line .entry)))) (now (out .entry)) (now (out .exit)) r ⌝ }
 {
-    let field = crate::fields::width(text::part(line, b'\t', 2));
+    let field = width(text::part(line, b'\t', 2));
     let WidthField::Width(width) = field else {
-        return crate::put::refuse(out, at);
+        return put::refuse(out, at);
     };
-    let op = crate::fields::op(text::part(line, b'\t', 1));
+    let op = fields::op(text::part(line, b'\t', 1));
     match op {
         Op::Strict => read_number(line, out, at, width, true),
         Op::Lenient => read_number(line, out, at, width, false),
         Op::Write => write_number(line, out, at, width),
         Op::Length => len_number(line, out, at, width),
-        Op::Unknown => crate::put::refuse(out, at),
+        Op::Unknown => put::refuse(out, at),
     }
 }
 
 fn read_standalone(line: &[u8], out: &mut [u8], at: usize, canonic: bool) -> usize
-    requires { ⌜ (at + 16640 ≤ length (now out)) × (length (now line) ≤ 16384) ⌝ }
-    ensures { λ r. ⌜ Puts at (ended (readLine decimalText (readStandalone canonic) 2 (now (line .entry)))) (now (out .entry)) (now (out .exit)) r ⌝ }
+    ensures { λ r. ⌜ PutsWithin 16640 at (ended (readLine decimalText (readStandalone canonic) 2 (now (line .entry)))) (now (out .entry)) (now (out .exit)) r ⌝ }
 {
     if text::part_count(line, b'\t') != 4 {
-        return crate::put::refuse(out, at);
+        return put::refuse(out, at);
     }
     let start = text::read_decimal(text::part(line, b'\t', 2));
     let Decimal::Value(s) = start else {
-        return crate::put::refuse(out, at);
+        return put::refuse(out, at);
     };
-    let mut message = [0u8; 8192];
-    let hex = crate::fields::hex(line, 3, &mut message);
+    let mut message = [0u8; MAX_BYTES];
+    let hex = fields::hex(line, 3, &mut message);
     let HexField::Bytes(n) = hex else {
-        return crate::put::refuse(out, at);
+        return put::refuse(out, at);
     };
-    crate::put::number(
+    put::number(
         out,
         at,
         compact_u64::decode(&message[..n], s as usize, canonic),
@@ -140,53 +162,51 @@ fn read_standalone(line: &[u8], out: &mut [u8], at: usize, canonic: bool) -> usi
 }
 
 fn write_standalone(line: &[u8], out: &mut [u8], at: usize) -> usize
-    requires { ⌜ (at + 16640 ≤ length (now out)) × (length (now line) ≤ 16384) ⌝ }
-    ensures { λ r. ⌜ Puts at (ended (writeLine decimalField standalone 2 (now (line .entry)))) (now (out .entry)) (now (out .exit)) r ⌝ }
+    ensures { λ r. ⌜ PutsWithin 16640 at (ended (writeLine decimalField standalone 2 (now (line .entry)))) (now (out .entry)) (now (out .exit)) r ⌝ }
 {
     if text::part_count(line, b'\t') != 4 {
-        return crate::put::refuse(out, at);
+        return put::refuse(out, at);
     }
     let value = text::read_decimal(text::part(line, b'\t', 2));
     let Decimal::Value(v) = value else {
-        return crate::put::refuse(out, at);
+        return put::refuse(out, at);
     };
-    let mut buffer = [0u8; 8192];
-    let hex = crate::fields::hex(line, 3, &mut buffer);
+    let mut buffer = [0u8; MAX_BYTES];
+    let hex = fields::hex(line, 3, &mut buffer);
     let HexField::Bytes(n) = hex else {
-        return crate::put::refuse(out, at);
+        return put::refuse(out, at);
     };
     let answer = compact_u64::encode(&mut buffer[..n], v);
-    crate::put::written(out, at, answer, &buffer[..n])
+    put::written(out, at, answer, &buffer, n)
 }
 
 fn len_standalone(line: &[u8], out: &mut [u8], at: usize) -> usize
-    requires { ⌜ (at + 16640 ≤ length (now out)) × (length (now line) ≤ 16384) ⌝ }
-    ensures { λ r. ⌜ Puts at (ended (lengthLine decimalField standalone 2 (now (line .entry)))) (now (out .entry)) (now (out .exit)) r ⌝ }
+    ensures { λ r. ⌜ PutsWithin 16640 at (ended (lengthLine decimalField standalone 2 (now (line .entry)))) (now (out .entry)) (now (out .exit)) r ⌝ }
 {
     if text::part_count(line, b'\t') != 3 {
-        return crate::put::refuse(out, at);
+        return put::refuse(out, at);
     }
     let value = text::read_decimal(text::part(line, b'\t', 2));
     let Decimal::Value(v) = value else {
-        return crate::put::refuse(out, at);
+        return put::refuse(out, at);
     };
-    crate::put::length(
+    put::length(
         out,
         at,
         codec::Encoded::Length(compact_u64::len_of_encoding(v)),
     )
 }
 
-pub(crate) fn standalone(line: &[u8], out: &mut [u8], at: usize) -> usize
-    requires { ⌜ (at + 16640 ≤ length (now out)) × (length (now line) ≤ 16384) ⌝ }
-    ensures { λ r. ⌜ Puts at (ended (kindLine kinds.Standalone (now (line .entry)))) (now (out .entry)) (now (out .exit)) r ⌝ }
+// Answers a line of a number that stands alone.
+pub fn standalone(line: &[u8], out: &mut [u8], at: usize) -> usize
+    ensures { λ r. ⌜ PutsWithin 16640 at (ended (standaloneLine (now (line .entry)))) (now (out .entry)) (now (out .exit)) r ⌝ }
 {
-    let op = crate::fields::op(text::part(line, b'\t', 1));
+    let op = fields::op(text::part(line, b'\t', 1));
     match op {
         Op::Strict => read_standalone(line, out, at, true),
         Op::Lenient => read_standalone(line, out, at, false),
         Op::Write => write_standalone(line, out, at),
         Op::Length => len_standalone(line, out, at),
-        Op::Unknown => crate::put::refuse(out, at),
+        Op::Unknown => put::refuse(out, at),
     }
 }

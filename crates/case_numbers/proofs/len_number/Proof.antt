@@ -1,10 +1,10 @@
 use denote.Ref.{now}
 use Rattle.compact_u64.specs.Answers.{bits}
-use Rattle.case_answers.proofs.Steps.{puts, decimal-refused, decimal-value}
-use Rattle.case_answers.proofs.NumberSteps.{length-fields, length-value, length-answer}
+use Rattle.case_text.proofs.Steps.{puts, decimal-refused, decimal-value}
+use Rattle.case_numbers.proofs.NumberSteps.{length-fields, length-value, length-answer}
 use borrow.Author.Needs.{needs}
-use Rattle.case_answers.proofs.numbers.len_number.Statement.{statement}
-use Rattle.case_answers.proofs.numbers.len_number.Tie as tie
+use Rattle.case_numbers.proofs.len_number.Statement.{statement}
+use Rattle.case_numbers.proofs.len_number.Tie as tie
 
 part-count-requires : tie.Need-part-count-requires
 part-count-requires c κs = search needs

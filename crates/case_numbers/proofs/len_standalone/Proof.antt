@@ -2,12 +2,12 @@ use mathlib.Core.Path.{refl}
 use denote.Ref.{now}
 use Rattle.codec.proofs.Lending.{length-allowed}
 use Rattle.compact_u64.specs.Number.{standalone}
-use Rattle.case_answers.specs.Fields.{decimalField}
-use Rattle.case_answers.proofs.Steps.{puts, decimal-refused, decimal-value}
-use Rattle.case_answers.proofs.RecordSteps.{length-fields, length-value, length-answer}
+use Rattle.case_text.specs.Fields.{decimalField}
+use Rattle.case_text.proofs.Steps.{puts, decimal-refused, decimal-value}
+use Rattle.case_text.proofs.RecordSteps.{length-fields, length-value, length-answer}
 use borrow.Author.Needs.{needs}
-use Rattle.case_answers.proofs.numbers.len_standalone.Statement.{statement}
-use Rattle.case_answers.proofs.numbers.len_standalone.Tie as tie
+use Rattle.case_numbers.proofs.len_standalone.Statement.{statement}
+use Rattle.case_numbers.proofs.len_standalone.Tie as tie
 
 part-count-requires : tie.Need-part-count-requires
 part-count-requires c κs = search needs

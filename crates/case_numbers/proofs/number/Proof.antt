@@ -1,12 +1,13 @@
 use mathlib.Core.Path.{_∙_}
 use denote.Ref.{now}
 use Rattle.compact_u64.specs.Answers.{bits}
-use Rattle.case_answers.specs.Fields.{field}
-use Rattle.case_answers.specs.Lines.{numberLine, opOf}
-use Rattle.case_answers.proofs.Steps.{puts, op-told, width-refused, width-is}
+use Rattle.case_text.specs.Fields.{field, opOf}
+use Rattle.case_text.proofs.Steps.{puts, op-told}
+use Rattle.case_numbers.specs.Lines.{numberLine}
+use Rattle.case_numbers.proofs.Widths.{width-refused, width-is}
 use borrow.Author.Needs.{needs}
-use Rattle.case_answers.proofs.numbers.number.Statement.{statement}
-use Rattle.case_answers.proofs.numbers.number.Tie as tie
+use Rattle.case_numbers.proofs.number.Statement.{statement}
+use Rattle.case_numbers.proofs.number.Tie as tie
 
 part-requires : tie.Need-part-requires
 part-requires c κs = search needs

@@ -2,11 +2,11 @@ use mathlib.Core.Path.{sym}
 use native.Mathlib.Omega.{arith}
 use denote.Ref.{now}
 use Rattle.compact_u64.specs.Answers.{bits}
-use Rattle.case_answers.proofs.Steps.{puts, decimal-refused, decimal-value, hex-inside, hex-long}
-use Rattle.case_answers.proofs.NumberSteps.{read-fields, read-tag, read-over, read-start, read-message, read-answer}
+use Rattle.case_text.proofs.Steps.{puts, decimal-refused, decimal-value, hex-inside, hex-long}
+use Rattle.case_numbers.proofs.NumberSteps.{read-fields, read-tag, read-over, read-start, read-message, read-answer}
 use borrow.Author.Needs.{needs}
-use Rattle.case_answers.proofs.numbers.read_number.Statement.{statement}
-use Rattle.case_answers.proofs.numbers.read_number.Tie as tie
+use Rattle.case_numbers.proofs.read_number.Statement.{statement}
+use Rattle.case_numbers.proofs.read_number.Tie as tie
 
 part-count-requires : tie.Need-part-count-requires
 part-count-requires c κs = search needs
@@ -150,7 +150,7 @@ relative-decode-requires : tie.Need-relative-decode-requires
 relative-decode-requires c κs = search needs
 
 number-requires : tie.Need-number-requires
-number-requires c κs = omega (arith, c .before .before .before .before .before .before .before .before .before .before .before .before .before .before .before .before .before .before .before .before .before .before .before .before .before .pre .0)
+number-requires c κs = search needs
 
 same-length-6 : tie.Need-same-length-6
 same-length-6 c = search needs

@@ -2,11 +2,11 @@ use mathlib.Core.Path.{sym}
 use denote.Ref.{now}
 use Rattle.compact_u64.specs.Number.{readStandalone}
 use Rattle.text.specs.Decimal.{decimalText}
-use Rattle.case_answers.proofs.Steps.{puts, decimal-refused, decimal-value, hex-inside, hex-long}
-use Rattle.case_answers.proofs.RecordSteps.{read-fields, read-start, read-message, read-answer}
+use Rattle.case_text.proofs.Steps.{puts, decimal-refused, decimal-value, hex-inside, hex-long}
+use Rattle.case_text.proofs.RecordSteps.{read-fields, read-start, read-message, read-answer}
 use borrow.Author.Needs.{needs}
-use Rattle.case_answers.proofs.numbers.read_standalone.Statement.{statement}
-use Rattle.case_answers.proofs.numbers.read_standalone.Tie as tie
+use Rattle.case_numbers.proofs.read_standalone.Statement.{statement}
+use Rattle.case_numbers.proofs.read_standalone.Tie as tie
 
 part-count-requires : tie.Need-part-count-requires
 part-count-requires c κs = search needs

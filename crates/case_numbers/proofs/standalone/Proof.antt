@@ -1,12 +1,12 @@
 use denote.Ref.{now}
 use Rattle.compact_u64.specs.Number.{readStandalone, standalone}
 use Rattle.text.specs.Decimal.{decimalText}
-use Rattle.case_answers.specs.Fields.{decimalField}
-use Rattle.case_answers.specs.Records.{recordLine}
-use Rattle.case_answers.proofs.Steps.{puts, op-told}
+use Rattle.case_text.specs.Fields.{decimalField}
+use Rattle.case_text.specs.Records.{recordLine}
+use Rattle.case_text.proofs.Steps.{puts, op-told}
 use borrow.Author.Needs.{needs}
-use Rattle.case_answers.proofs.numbers.standalone.Statement.{statement}
-use Rattle.case_answers.proofs.numbers.standalone.Tie as tie
+use Rattle.case_numbers.proofs.standalone.Statement.{statement}
+use Rattle.case_numbers.proofs.standalone.Tie as tie
 
 part-requires : tie.Need-part-requires
 part-requires c κs = search needs

@@ -1,8 +1,8 @@
 use native.Mathlib.Omega.{arith}
 use mathlib.Core.Path.{refl}
 use borrow.Author.Needs.{needs}
-use Rattle.case_answers.proofs.numbers.tag_limit.Statement.{statement}
-use Rattle.case_answers.proofs.numbers.tag_limit.Tie as tie
+use Rattle.case_numbers.proofs.tag_limit.Statement.{statement}
+use Rattle.case_numbers.proofs.tag_limit.Tie as tie
 
 enum-told : tie.Need-enum-told
 enum-told c = search needs

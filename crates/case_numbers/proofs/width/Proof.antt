@@ -1,7 +1,7 @@
 use borrow.Author.Needs.{needs}
-use Rattle.case_answers.specs.Lines.{onWidth}
-use Rattle.case_answers.proofs.fields.width.Statement.{statement}
-use Rattle.case_answers.proofs.fields.width.Tie as tie
+use Rattle.case_numbers.specs.Lines.{onWidth}
+use Rattle.case_numbers.proofs.width.Statement.{statement}
+use Rattle.case_numbers.proofs.width.Tie as tie
 
 slice-aggregate-same : tie.Need-slice-aggregate-same
 slice-aggregate-same c = search needs

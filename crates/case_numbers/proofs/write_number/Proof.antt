@@ -1,12 +1,11 @@
 use mathlib.Core.Path.{sym}
-use native.Mathlib.Omega.{arith}
 use denote.Ref.{now}
 use Rattle.compact_u64.specs.Answers.{bits}
-use Rattle.case_answers.proofs.Steps.{puts, decimal-refused, decimal-value, hex-inside, hex-long, lent-inside, lent-long, lent-few}
-use Rattle.case_answers.proofs.NumberSteps.{write-fields, write-value, write-buffer, write-answer}
+use Rattle.case_text.proofs.Steps.{puts, decimal-refused, decimal-value, hex-inside, hex-long}
+use Rattle.case_numbers.proofs.NumberSteps.{write-fields, write-value, write-buffer, write-answer}
 use borrow.Author.Needs.{needs}
-use Rattle.case_answers.proofs.numbers.write_number.Statement.{statement}
-use Rattle.case_answers.proofs.numbers.write_number.Tie as tie
+use Rattle.case_numbers.proofs.write_number.Statement.{statement}
+use Rattle.case_numbers.proofs.write_number.Tie as tie
 
 part-count-requires : tie.Need-part-count-requires
 part-count-requires c κs = search needs
@@ -97,30 +96,8 @@ relative-encode-requires c κs = search needs
 min-tag-requires : tie.Need-min-tag-requires
 min-tag-requires c κs = search needs
 
-array-share-prefix-buffer : tie.Need-array-share-prefix-buffer
-array-share-prefix-buffer c =
-    let line = now (c .before .before .before .before .before .before .before .before .before .before .before .before .before .before .before .before .before .before .before .before .args .line) in
-    let read = c .before .before .before .before .before .before .before .before .before .hex .ensures in
-    let bytes = c .before .before .before .before .before .before .hex2 .given .1 in
-    let written = c .before .before .before .relative-encode in
-    lent-inside 4 line read bytes (written .last .0) (written .kept .0)
-
-slice-aggregate-written-number : tie.Need-slice-aggregate-written-number
-slice-aggregate-written-number c =
-    let line = now (c .before .before .before .before .before .before .before .before .before .before .before .before .before .before .before .before .before .before .before .before .before .args .line) in
-    let read = c .before .before .before .before .before .before .before .before .before .before .hex .ensures in
-    let bytes = c .before .before .before .before .before .before .before .hex2 .given .1 in
-    let written = c .before .before .before .before .relative-encode in
-    sym (lent-long 4 line read bytes (written .last .0) (written .kept .0))
-
 written-number-requires : tie.Need-written-number-requires
-written-number-requires c κs =
-    let line = now (c .before .before .before .before .before .before .before .before .before .before .before .before .before .before .before .before .before .before .before .before .before .args .line) in
-    let read = c .before .before .before .before .before .before .before .before .before .before .hex .ensures in
-    let bytes = c .before .before .before .before .before .before .before .hex2 .given .1 in
-    let written = c .before .before .before .before .relative-encode in
-    let room = c .before .before .before .before .before .before .before .before .before .before .hex .kept .1 .1 .0 in
-    (omega arith, lent-few 4 line read bytes (written .last .0) (written .kept .0) 8192 (omega (arith, room)))
+written-number-requires c κs = search needs
 
 same-length-4 : tie.Need-same-length-4
 same-length-4 c = search needs
@@ -164,8 +141,6 @@ write-number-spec =
     slice-aggregate-relative-encode
     relative-encode-requires
     min-tag-requires
-    array-share-prefix-buffer
-    slice-aggregate-written-number
     written-number-requires
     same-length-4
     returns-4)

@@ -1,13 +1,12 @@
 use mathlib.Core.Path.{sym}
-use native.Mathlib.Omega.{arith}
 use denote.Ref.{now}
 use Rattle.compact_u64.specs.Number.{standalone}
-use Rattle.case_answers.specs.Fields.{decimalField}
-use Rattle.case_answers.proofs.Steps.{puts, decimal-refused, decimal-value, hex-inside, hex-long, lent-inside, lent-long, lent-few}
-use Rattle.case_answers.proofs.RecordSteps.{write-fields, write-value, write-buffer, write-answer}
+use Rattle.case_text.specs.Fields.{decimalField}
+use Rattle.case_text.proofs.Steps.{puts, decimal-refused, decimal-value, hex-inside, hex-long}
+use Rattle.case_text.proofs.RecordSteps.{write-fields, write-value, write-buffer, write-answer}
 use borrow.Author.Needs.{needs}
-use Rattle.case_answers.proofs.numbers.write_standalone.Statement.{statement}
-use Rattle.case_answers.proofs.numbers.write_standalone.Tie as tie
+use Rattle.case_numbers.proofs.write_standalone.Statement.{statement}
+use Rattle.case_numbers.proofs.write_standalone.Tie as tie
 
 part-count-requires : tie.Need-part-count-requires
 part-count-requires c κs = search needs
@@ -92,30 +91,8 @@ slice-aggregate-encode c =
 encode-requires : tie.Need-encode-requires
 encode-requires c κs = search needs
 
-array-share-prefix-buffer : tie.Need-array-share-prefix-buffer
-array-share-prefix-buffer c =
-    let line = now (c .before .before .before .before .before .before .before .before .before .before .before .before .before .before .before .before .before .before .before .args .line) in
-    let read = c .before .before .before .before .before .before .before .before .hex .ensures in
-    let bytes = c .before .before .before .before .before .hex2 .given .1 in
-    let written = c .before .before .encode in
-    lent-inside 3 line read bytes (written .last .0) (written .kept .0)
-
-slice-aggregate-written : tie.Need-slice-aggregate-written
-slice-aggregate-written c =
-    let line = now (c .before .before .before .before .before .before .before .before .before .before .before .before .before .before .before .before .before .before .before .before .args .line) in
-    let read = c .before .before .before .before .before .before .before .before .before .hex .ensures in
-    let bytes = c .before .before .before .before .before .before .hex2 .given .1 in
-    let written = c .before .before .before .encode in
-    sym (lent-long 3 line read bytes (written .last .0) (written .kept .0))
-
 written-requires : tie.Need-written-requires
-written-requires c κs =
-    let line = now (c .before .before .before .before .before .before .before .before .before .before .before .before .before .before .before .before .before .before .before .before .args .line) in
-    let read = c .before .before .before .before .before .before .before .before .before .hex .ensures in
-    let bytes = c .before .before .before .before .before .before .hex2 .given .1 in
-    let written = c .before .before .before .encode in
-    let room = c .before .before .before .before .before .before .before .before .before .hex .kept .1 .1 .0 in
-    (omega arith, lent-few 3 line read bytes (written .last .0) (written .kept .0) 8192 (omega (arith, room)))
+written-requires c κs = search needs
 
 same-length-4 : tie.Need-same-length-4
 same-length-4 c = search needs
@@ -156,8 +133,6 @@ write-standalone-spec =
     array-borrow-prefix-buffer
     slice-aggregate-encode
     encode-requires
-    array-share-prefix-buffer
-    slice-aggregate-written
     written-requires
     same-length-4
     returns-4)
