@@ -7,8 +7,8 @@ use types.Run.{OneOf}
 use denote.Enum.Declared.{tagOf}
 use native.Mathlib.Omega.{arith}
 use native.Mathlib.Numerals.{add-one}
-use borrow.Author.Tests.{eq-eqb, ne-eqb, le-leb, lt-leb, le-ltb, ltb-true}
-use lib.Dec.{ltb, leb}
+use borrow.Author.Tests.{eq-eqb, ne-eqb, le-ltb}
+use lib.Dec.{ltb}
 use lib.ListN.{length, take, drop, set, replicate, length-set, length-replicate, drop-of-length-le}
 use lib.Seq.{drop-cons, take-suc-set, take-all}
 use Rattle.codec.specs.Answers.{Outcome}
@@ -17,20 +17,20 @@ use Rattle.path.specs.declared.Path.{Path}
 use Rattle.path.proofs.Lists.{drop-zeros}
 use Rattle.path_codec.specs.Plain.{plainPath}
 use Rattle.text.specs.Parts.{parts, partAt}
-use Rattle.text.specs.Hex.{isHex, unhex}
+use Rattle.text.specs.Hex.{unhex}
 use Rattle.text.specs.Decimal.{isDecimal, digitsAfter}
 use Rattle.text.specs.Fields.{readDecimal, readHex, hexBuffer}
 use Rattle.text.specs.declared.Decimal.{Decimal}
 use Rattle.text.specs.declared.Decimal.the-variants.{Value, Refused}
 use Rattle.text.specs.declared.Hex.{Hex}
 use Rattle.text.specs.declared.Hex.the-variants.{Bytes}
-use Rattle.text.proofs.HexAnswers.{hex-refused, some-bytes}
-use Rattle.case_answers.specs.declared.Lengths.{Lengths}
-use Rattle.case_answers.specs.Texts.{six, lengthText}
-use Rattle.case_answers.specs.Fields.{field, decimalField, hexField}
-use Rattle.case_answers.specs.Lines.{allDecimals, rawPath, rawLine}
-use Rattle.case_answers.specs.Answers.{lengthsOk, lengthsOf}
-use Rattle.case_answers.proofs.Steps.{fields-not, fields-are}
+use Rattle.text.proofs.HexAnswers.{some-bytes}
+use Rattle.case_text.specs.Texts.{six, lengthText}
+use Rattle.case_text.specs.Fields.{field, decimalField, hexFieldIn}
+use Rattle.case_text.proofs.FieldLaws.{hex-none, hex-some}
+use Rattle.case_text.proofs.Steps.{fields-not, fields-are}
+use Rattle.case_paths.specs.declared.Lengths.{Lengths}
+use Rattle.case_paths.specs.Raw.{allDecimals, rawPath, rawLine, lengthsOk, lengthsOf}
 
 -- ---- one number
 module _ (p : List ℕ) (rest : Bool) where
@@ -111,9 +111,6 @@ bytes-then-zeros a n size e =
     let s = some-bytes a n size e in
     rw (s .0, length-replicate {A = ℕ} size 0, le-ltb size (length (unhex a)) (omega (arith, s .1, s .2))) (ap (λ (l : List ℕ). unhex a ++ l) (drop-zeros (length (unhex a)) size))
 
-both : {t d : Bool} (x y : List ℕ) → t ≡ true → d ≡ true → cond t (cond d x y) y ≡ x
-both x y e h = rw (e, h)
-
 -- ---- the line
 module _ (line : List ℕ) {m : ℕ} (counted : m ≡ length (parts 9 line)) where
   pub raw-fields : (m ≡ 4 → ⊥) → rawLine line ≡ six
@@ -142,24 +139,19 @@ module _ (line : List ℕ) {m : ℕ} (counted : m ≡ length (parts 9 line)) whe
 
       module _ (ok : r .ok ≡ true) where
         abbrev told : List ℕ → List ℕ
-        told bytes = cond (leb (length bytes) 600) (lengthText (lengthAnswer plainPath (rawPath n (map (digitsAfter 0) (parts 44 (field 2 line))) bytes))) six
+        told bytes = lengthText (lengthAnswer plainPath (rawPath n (map (digitsAfter 0) (parts 44 (field 2 line))) bytes))
 
-        bytes-left : rawLine line ≡ hexField 3 line told
+        bytes-left : rawLine line ≡ hexFieldIn 600 3 line told
         unfolding rawLine
         bytes-left = fields-are line counted 4 _ many ∙ count _ ∙ rw (lengths-ok true ok)
 
         pub raw-bytes : (x : Hex) → x ≡ readHex (field 3 line) 600 → OneOf (1 ∷ 2 ∷ []) (tagOf Rattle.text.proofs.Hex.the-type x) → rawLine line ≡ six
-        raw-bytes x e k = bytes-left ∙ by-cases (isHex (field 3 line)) (hex-refused (field 3 line) 600 x e k)
-          where
-            by-cases : (t : Bool) → cond t (ltb 600 (length (unhex (field 3 line)))) true ≡ true → cond t (told (unhex (field 3 line))) six ≡ six
-            by-cases true h = rw (lt-leb _ _ (ltb-true 600 (length (unhex (field 3 line))) h))
-            by-cases false h = refl
+        raw-bytes x e k = bytes-left ∙ hex-none 3 line 600 x e k told
 
         pub raw-answer : (x : Hex) (b : ℕ) → x ≡ readHex (field 3 line) 600 → x ≡ Bytes b → {bytes : List ℕ} → bytes ≡ hexBuffer (field 3 line) (replicate 600 0)
             → {o : Outcome} → o ≡ lengthAnswer plainPath (record { bytes = bytes; lengths = r .lengths; count = n }) → rawLine line ≡ lengthText o
         raw-answer x b e g {bytes} f {o} h =
             let a = field 3 line in
-            let s = some-bytes a b 600 (sym g ∙ e) in
             let z : bytes ≡ unhex a ++ replicate (600 - length (unhex a)) 0 = f ∙ bytes-then-zeros a b 600 (sym g ∙ e) in
             let p : rawPath n (map (digitsAfter 0) (parts 44 (field 2 line))) (unhex a) ≡ record { bytes = bytes; lengths = r .lengths; count = n } = rw (z, lengths-are ok) in
-            bytes-left ∙ both _ six (s .0) (le-leb (length (unhex a)) 600 (omega (arith, s .1, s .2))) ∙ ap (λ (q : Path). lengthText (lengthAnswer plainPath q)) p ∙ ap lengthText (sym h)
+            bytes-left ∙ hex-some 3 line 600 b (sym g ∙ e) told ∙ ap (λ (q : Path). lengthText (lengthAnswer plainPath q)) p ∙ ap lengthText (sym h)

@@ -1,25 +1,41 @@
-// Case lines of paths: plain, against a path, and as an extension.
+// Case lines of paths: docs/CASES.md. A line is answered where MAX_ANSWER bytes are free; elsewhere nothing changes.
 ghost use mathlib.Core.Path.{_≡_};
-ghost use Prim.Native.Nat.{_+_, _≤_};
+ghost use Prim.Native.Nat.{_≤_};
 ghost use lib.ListN.{length, drop};
 ghost use Rattle.codec.specs.Answers.{outcomeOf};
 ghost use Rattle.codec.specs.Format.{writeAnswer, writeBuffer, lengthAnswer};
 ghost use Rattle.path_codec.specs.Answers.{GivesPath};
 ghost use Rattle.path_text.specs.PathText.{pathTextOf};
-ghost use Rattle.case_answers.specs.Texts.{ended};
-ghost use Rattle.case_answers.specs.Fields.{pathField};
-ghost use Rattle.case_answers.specs.Records.{readLine, writeLine, lengthLine};
-ghost use Rattle.case_answers.specs.Lines.{kindLine};
-ghost use Rattle.case_answers.specs.Answers.{Puts, encodingReader, encodingFormat, encodingLine};
-ghost use Rattle.case_answers.specs.declared.Kind.the-variants as kinds;
-use crate::Encoding;
-use crate::HexField;
-use crate::Op;
+ghost use Rattle.case_text.specs.Texts.{ended};
+ghost use Rattle.case_text.specs.Fields.{pathField};
+ghost use Rattle.case_text.specs.Records.{readLine, writeLine, lengthLine};
+ghost use Rattle.case_text.specs.Answers.{PutsWithin};
+ghost use Rattle.case_paths.specs.Lines.{encodingReader, encodingFormat, encodingLine, plainLine, relativeLine};
+use case_text::HexField;
+use case_text::MAX_BYTES;
+use case_text::Op;
+use case_text::fields;
+use case_text::put;
 use codec::Encoded;
 use path::Path;
 use path_codec::DecodedPath;
 use path_text::Found;
 use text::Decimal;
+
+pub mod raw;
+
+// The encodings of a path.
+pub enum Encoding {
+    Plain,
+    Against,
+    Extends,
+}
+
+// The lengths of a path record; all zero where the field is not in its form.
+pub struct Lengths {
+    pub ok: bool,
+    pub lengths: [usize; 20],
+}
 
 fn decode(
     encoding: Encoding,
@@ -71,22 +87,22 @@ fn read_path(
     reference: Path,
     canonic: bool,
 ) -> usize
-    requires { ⌜ (at + 16640 ≤ length (now out)) × ((length (now line) ≤ 16384) × (i ≤ 3)) ⌝ }
-    ensures { λ r. ⌜ Puts at (ended (readLine pathTextOf (encodingReader encoding reference canonic) i (now (line .entry)))) (now (out .entry)) (now (out .exit)) r ⌝ }
+    requires { ⌜ i ≤ 3 ⌝ }
+    ensures { λ r. ⌜ PutsWithin 16640 at (ended (readLine pathTextOf (encodingReader encoding reference canonic) i (now (line .entry)))) (now (out .entry)) (now (out .exit)) r ⌝ }
 {
     if text::part_count(line, b'\t') != i + 2 {
-        return crate::put::refuse(out, at);
+        return put::refuse(out, at);
     }
     let start = text::read_decimal(text::part(line, b'\t', i));
     let Decimal::Value(s) = start else {
-        return crate::put::refuse(out, at);
+        return put::refuse(out, at);
     };
-    let mut message = [0u8; 8192];
-    let hex = crate::fields::hex(line, i + 1, &mut message);
+    let mut message = [0u8; MAX_BYTES];
+    let hex = fields::hex(line, i + 1, &mut message);
     let HexField::Bytes(n) = hex else {
-        return crate::put::refuse(out, at);
+        return put::refuse(out, at);
     };
-    crate::put::path(
+    put::path(
         out,
         at,
         decode(encoding, &message[..n], s as usize, canonic, reference),
@@ -101,25 +117,25 @@ fn write_path(
     i: usize,
     reference: Path,
 ) -> usize
-    requires { ⌜ (at + 16640 ≤ length (now out)) × ((length (now line) ≤ 16384) × (i ≤ 3)) ⌝ }
-    ensures { λ r. ⌜ Puts at (ended (writeLine pathField (encodingFormat encoding reference) i (now (line .entry)))) (now (out .entry)) (now (out .exit)) r ⌝ }
+    requires { ⌜ i ≤ 3 ⌝ }
+    ensures { λ r. ⌜ PutsWithin 16640 at (ended (writeLine pathField (encodingFormat encoding reference) i (now (line .entry)))) (now (out .entry)) (now (out .exit)) r ⌝ }
 {
     if text::part_count(line, b'\t') != i + 2 {
-        return crate::put::refuse(out, at);
+        return put::refuse(out, at);
     }
     let field = path_text::read_path(text::part(line, b'\t', i));
     let found = field.found;
     let Found::Read = found else {
-        return crate::put::refuse(out, at);
+        return put::refuse(out, at);
     };
     let path = field.path;
-    let mut buffer = [0u8; 8192];
-    let hex = crate::fields::hex(line, i + 1, &mut buffer);
+    let mut buffer = [0u8; MAX_BYTES];
+    let hex = fields::hex(line, i + 1, &mut buffer);
     let HexField::Bytes(n) = hex else {
-        return crate::put::refuse(out, at);
+        return put::refuse(out, at);
     };
     let answer = encode(encoding, &mut buffer[..n], path, reference);
-    crate::put::written(out, at, answer, &buffer[..n])
+    put::written(out, at, answer, &buffer, n)
 }
 
 fn len_path(
@@ -130,19 +146,19 @@ fn len_path(
     i: usize,
     reference: Path,
 ) -> usize
-    requires { ⌜ (at + 16640 ≤ length (now out)) × ((length (now line) ≤ 16384) × (i ≤ 3)) ⌝ }
-    ensures { λ r. ⌜ Puts at (ended (lengthLine pathField (encodingFormat encoding reference) i (now (line .entry)))) (now (out .entry)) (now (out .exit)) r ⌝ }
+    requires { ⌜ i ≤ 3 ⌝ }
+    ensures { λ r. ⌜ PutsWithin 16640 at (ended (lengthLine pathField (encodingFormat encoding reference) i (now (line .entry)))) (now (out .entry)) (now (out .exit)) r ⌝ }
 {
     if text::part_count(line, b'\t') != i + 1 {
-        return crate::put::refuse(out, at);
+        return put::refuse(out, at);
     }
     let field = path_text::read_path(text::part(line, b'\t', i));
     let found = field.found;
     let Found::Read = found else {
-        return crate::put::refuse(out, at);
+        return put::refuse(out, at);
     };
     let path = field.path;
-    crate::put::length(out, at, len_of_encoding(encoding, path, reference))
+    put::length(out, at, len_of_encoding(encoding, path, reference))
 }
 
 fn answer(
@@ -153,36 +169,35 @@ fn answer(
     i: usize,
     reference: Path,
 ) -> usize
-    requires { ⌜ (at + 16640 ≤ length (now out)) × ((length (now line) ≤ 16384) × (i ≤ 3)) ⌝ }
-    ensures { λ r. ⌜ Puts at (ended (encodingLine encoding reference i (now (line .entry)))) (now (out .entry)) (now (out .exit)) r ⌝ }
+    requires { ⌜ i ≤ 3 ⌝ }
+    ensures { λ r. ⌜ PutsWithin 16640 at (ended (encodingLine encoding reference i (now (line .entry)))) (now (out .entry)) (now (out .exit)) r ⌝ }
 {
-    let op = crate::fields::op(text::part(line, b'\t', 1));
+    let op = fields::op(text::part(line, b'\t', 1));
     match op {
         Op::Strict => read_path(line, out, at, encoding, i, reference, true),
         Op::Lenient => read_path(line, out, at, encoding, i, reference, false),
         Op::Write => write_path(line, out, at, encoding, i, reference),
         Op::Length => len_path(line, out, at, encoding, i, reference),
-        Op::Unknown => crate::put::refuse(out, at),
+        Op::Unknown => put::refuse(out, at),
     }
 }
 
-pub(crate) fn plain(line: &[u8], out: &mut [u8], at: usize) -> usize
-    requires { ⌜ (at + 16640 ≤ length (now out)) × (length (now line) ≤ 16384) ⌝ }
-    ensures { λ r. ⌜ Puts at (ended (kindLine kinds.Path (now (line .entry)))) (now (out .entry)) (now (out .exit)) r ⌝ }
+// Answers a line of a plain path.
+pub fn plain(line: &[u8], out: &mut [u8], at: usize) -> usize
+    ensures { λ r. ⌜ PutsWithin 16640 at (ended (plainLine (now (line .entry)))) (now (out .entry)) (now (out .exit)) r ⌝ }
 {
     let none = Path::new_empty();
     answer(line, out, at, Encoding::Plain, 2, none)
 }
 
-// The reference stands before the other fields.
-pub(crate) fn relative(line: &[u8], out: &mut [u8], at: usize, encoding: Encoding) -> usize
-    requires { ⌜ (at + 16640 ≤ length (now out)) × (length (now line) ≤ 16384) ⌝ }
-    ensures { λ r. ⌜ Puts at (ended (pathField 2 (now (line .entry)) (λ r. encodingLine encoding r 3 (now (line .entry))))) (now (out .entry)) (now (out .exit)) r ⌝ }
+// Answers a line of a path against a reference, which stands before the other fields.
+pub fn relative(line: &[u8], out: &mut [u8], at: usize, encoding: Encoding) -> usize
+    ensures { λ r. ⌜ PutsWithin 16640 at (ended (relativeLine encoding (now (line .entry)))) (now (out .entry)) (now (out .exit)) r ⌝ }
 {
     let field = path_text::read_path(text::part(line, b'\t', 2));
     let found = field.found;
     let Found::Read = found else {
-        return crate::put::refuse(out, at);
+        return put::refuse(out, at);
     };
     let reference = field.path;
     answer(line, out, at, encoding, 3, reference)

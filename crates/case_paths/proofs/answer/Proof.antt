@@ -1,12 +1,12 @@
 use denote.Ref.{now}
 use Rattle.path_text.specs.PathText.{pathTextOf}
-use Rattle.case_answers.specs.Fields.{pathField}
-use Rattle.case_answers.specs.Records.{recordLine}
-use Rattle.case_answers.specs.Answers.{encodingReader, encodingFormat}
-use Rattle.case_answers.proofs.Steps.{puts, op-told}
+use Rattle.case_text.specs.Fields.{pathField}
+use Rattle.case_text.specs.Records.{recordLine}
+use Rattle.case_paths.specs.Lines.{encodingReader, encodingFormat}
+use Rattle.case_text.proofs.Steps.{puts, op-told}
 use borrow.Author.Needs.{needs}
-use Rattle.case_answers.proofs.paths.answer.Statement.{statement}
-use Rattle.case_answers.proofs.paths.answer.Tie as tie
+use Rattle.case_paths.proofs.answer.Statement.{statement}
+use Rattle.case_paths.proofs.answer.Tie as tie
 
 part-requires : tie.Need-part-requires
 part-requires c κs = search needs

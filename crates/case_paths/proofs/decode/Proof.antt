@@ -1,6 +1,6 @@
 use borrow.Author.Needs.{needs}
-use Rattle.case_answers.proofs.paths.decode.Statement.{statement}
-use Rattle.case_answers.proofs.paths.decode.Tie as tie
+use Rattle.case_paths.proofs.decode.Statement.{statement}
+use Rattle.case_paths.proofs.decode.Tie as tie
 
 enum-told : tie.Need-enum-told
 enum-told c = search needs

@@ -1,6 +1,6 @@
 use borrow.Author.Needs.{needs}
-use Rattle.case_answers.proofs.paths.len_of_encoding.Statement.{statement}
-use Rattle.case_answers.proofs.paths.len_of_encoding.Tie as tie
+use Rattle.case_paths.proofs.len_of_encoding.Statement.{statement}
+use Rattle.case_paths.proofs.len_of_encoding.Tie as tie
 
 enum-told : tie.Need-enum-told
 enum-told c = search needs

@@ -1,11 +1,11 @@
 use denote.Ref.{now}
-use Rattle.case_answers.specs.Fields.{pathField}
-use Rattle.case_answers.specs.Answers.{encodingFormat}
-use Rattle.case_answers.proofs.Steps.{puts, path-refused, path-value}
-use Rattle.case_answers.proofs.RecordSteps.{length-fields, length-value, length-answer}
+use Rattle.case_text.specs.Fields.{pathField}
+use Rattle.case_paths.specs.Lines.{encodingFormat}
+use Rattle.case_text.proofs.Steps.{puts, path-refused, path-value}
+use Rattle.case_text.proofs.RecordSteps.{length-fields, length-value, length-answer}
 use borrow.Author.Needs.{needs}
-use Rattle.case_answers.proofs.paths.len_path.Statement.{statement}
-use Rattle.case_answers.proofs.paths.len_path.Tie as tie
+use Rattle.case_paths.proofs.len_path.Statement.{statement}
+use Rattle.case_paths.proofs.len_path.Tie as tie
 
 part-count-requires : tie.Need-part-count-requires
 part-count-requires c κs = search needs

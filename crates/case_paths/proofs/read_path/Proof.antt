@@ -2,12 +2,12 @@ use mathlib.Core.Path.{sym}
 use Prim.Native.Nat.{_+_}
 use denote.Ref.{now}
 use Rattle.path_text.specs.PathText.{pathTextOf}
-use Rattle.case_answers.specs.Answers.{encodingReader}
-use Rattle.case_answers.proofs.Steps.{puts, decimal-refused, decimal-value, hex-inside, hex-long}
-use Rattle.case_answers.proofs.RecordSteps.{read-fields, read-start, read-message, read-answer}
+use Rattle.case_paths.specs.Lines.{encodingReader}
+use Rattle.case_text.proofs.Steps.{puts, decimal-refused, decimal-value, hex-inside, hex-long}
+use Rattle.case_text.proofs.RecordSteps.{read-fields, read-start, read-message, read-answer}
 use borrow.Author.Needs.{needs}
-use Rattle.case_answers.proofs.paths.read_path.Statement.{statement}
-use Rattle.case_answers.proofs.paths.read_path.Tie as tie
+use Rattle.case_paths.proofs.read_path.Statement.{statement}
+use Rattle.case_paths.proofs.read_path.Tie as tie
 
 part-count-requires : tie.Need-part-count-requires
 part-count-requires c κs = search needs

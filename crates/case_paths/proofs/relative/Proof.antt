@@ -1,9 +1,9 @@
 use denote.Ref.{now}
-use Rattle.case_answers.specs.Answers.{encodingLine}
-use Rattle.case_answers.proofs.Steps.{puts, path-refused, path-value}
+use Rattle.case_paths.specs.Lines.{encodingLine}
+use Rattle.case_text.proofs.Steps.{puts, path-refused, path-value}
 use borrow.Author.Needs.{needs}
-use Rattle.case_answers.proofs.paths.relative.Statement.{statement}
-use Rattle.case_answers.proofs.paths.relative.Tie as tie
+use Rattle.case_paths.proofs.relative.Statement.{statement}
+use Rattle.case_paths.proofs.relative.Tie as tie
 
 part-requires : tie.Need-part-requires
 part-requires c κs = search needs

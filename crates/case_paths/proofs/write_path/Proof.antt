@@ -1,14 +1,13 @@
 use mathlib.Core.Path.{sym}
 use Prim.Native.Nat.{_+_}
-use native.Mathlib.Omega.{arith}
 use denote.Ref.{now}
-use Rattle.case_answers.specs.Fields.{pathField}
-use Rattle.case_answers.specs.Answers.{encodingFormat}
-use Rattle.case_answers.proofs.Steps.{puts, path-refused, path-value, hex-inside, hex-long, lent-inside, lent-long, lent-few}
-use Rattle.case_answers.proofs.RecordSteps.{write-fields, write-value, write-buffer, write-answer}
+use Rattle.case_text.specs.Fields.{pathField}
+use Rattle.case_paths.specs.Lines.{encodingFormat}
+use Rattle.case_text.proofs.Steps.{puts, path-refused, path-value, hex-inside, hex-long}
+use Rattle.case_text.proofs.RecordSteps.{write-fields, write-value, write-buffer, write-answer}
 use borrow.Author.Needs.{needs}
-use Rattle.case_answers.proofs.paths.write_path.Statement.{statement}
-use Rattle.case_answers.proofs.paths.write_path.Tie as tie
+use Rattle.case_paths.proofs.write_path.Statement.{statement}
+use Rattle.case_paths.proofs.write_path.Tie as tie
 
 part-count-requires : tie.Need-part-count-requires
 part-count-requires c κs = search needs
@@ -102,30 +101,8 @@ slice-aggregate-encode c =
 encode-requires : tie.Need-encode-requires
 encode-requires c κs = search needs
 
-array-share-prefix-buffer : tie.Need-array-share-prefix-buffer
-array-share-prefix-buffer c =
-    let a = c .before .before .before .before .before .before .before .before .before .before .before .before .before .before .before .before .before .before .before .args in
-    let line = now (a .line) in
-    let bytes = c .before .before .before .before .before .hex2 .given .1 in
-    let written = c .before .before .encode in
-    lent-inside (a .i + 1) line (c .before .before .before .before .before .before .before .before .hex .ensures) bytes (written .last .1 .0) (written .kept .1 .0)
-
-slice-aggregate-written : tie.Need-slice-aggregate-written
-slice-aggregate-written c =
-    let a = c .before .before .before .before .before .before .before .before .before .before .before .before .before .before .before .before .before .before .before .before .args in
-    let line = now (a .line) in
-    let bytes = c .before .before .before .before .before .before .hex2 .given .1 in
-    let written = c .before .before .before .encode in
-    sym (lent-long (a .i + 1) line (c .before .before .before .before .before .before .before .before .before .hex .ensures) bytes (written .last .1 .0) (written .kept .1 .0))
-
 written-requires : tie.Need-written-requires
-written-requires c κs =
-    let a = c .before .before .before .before .before .before .before .before .before .before .before .before .before .before .before .before .before .before .before .before .args in
-    let line = now (a .line) in
-    let bytes = c .before .before .before .before .before .before .hex2 .given .1 in
-    let written = c .before .before .before .encode in
-    let room = c .before .before .before .before .before .before .before .before .before .hex .kept .1 .1 .0 in
-    (omega arith, lent-few (a .i + 1) line (c .before .before .before .before .before .before .before .before .before .hex .ensures) bytes (written .last .1 .0) (written .kept .1 .0) 8192 (omega (arith, room)))
+written-requires c κs = search needs
 
 same-length-4 : tie.Need-same-length-4
 same-length-4 c = search needs
@@ -169,8 +146,6 @@ write-path-spec =
     array-borrow-prefix-buffer
     slice-aggregate-encode
     encode-requires
-    array-share-prefix-buffer
-    slice-aggregate-written
     written-requires
     same-length-4
     returns-4)

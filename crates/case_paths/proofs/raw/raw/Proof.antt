@@ -1,10 +1,10 @@
 use denote.Ref.{now}
 use borrow.Author.Tests.{not-true, not-false}
-use Rattle.case_answers.proofs.Steps.{puts, decimal-refused, decimal-value}
-use Rattle.case_answers.proofs.RawSteps.{raw-fields, raw-count, raw-lengths, raw-bytes, raw-answer}
+use Rattle.case_text.proofs.Steps.{puts, decimal-refused, decimal-value}
+use Rattle.case_paths.proofs.RawSteps.{raw-fields, raw-count, raw-lengths, raw-bytes, raw-answer}
 use borrow.Author.Needs.{needs}
-use Rattle.case_answers.proofs.raw.raw.Statement.{statement}
-use Rattle.case_answers.proofs.raw.raw.Tie as tie
+use Rattle.case_paths.proofs.raw.raw.Statement.{statement}
+use Rattle.case_paths.proofs.raw.raw.Tie as tie
 
 part-count-requires : tie.Need-part-count-requires
 part-count-requires c κs = search needs

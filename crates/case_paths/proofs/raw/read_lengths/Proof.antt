@@ -2,10 +2,10 @@ use Prim.Native.Nat.{_-_, _≤_}
 use mathlib.Core.Path.{refl, _∙_, sym}
 use denote.Ref.{now}
 use native.Mathlib.Omega.{arith}
-use Rattle.case_answers.proofs.RawSteps.{LengthsRead, lengths-few, lengths-refused, lengths-next, lengths-all, number-said}
+use Rattle.case_paths.proofs.RawSteps.{LengthsRead, lengths-few, lengths-refused, lengths-next, lengths-all, number-said}
 use borrow.Author.Needs.{needs}
-use Rattle.case_answers.proofs.raw.read_lengths.Statement.{statement}
-use Rattle.case_answers.proofs.raw.read_lengths.Tie as tie
+use Rattle.case_paths.proofs.raw.read_lengths.Statement.{statement}
+use Rattle.case_paths.proofs.raw.read_lengths.Tie as tie
 
 abbrev Inv-loop : tie.InvT-loop
 Inv-loop field lengths₀ i₀ lengths i = (i ≤ 20) × LengthsRead field lengths i
