@@ -1,4 +1,4 @@
--- Laws of a line's answer: by its length and its kind, and whether it fits.
+-- Laws of a line's answer: by its length and its kind, and where it ends.
 use mathlib.Core.Path.{_≡_, ap}
 use mathlib.Core.List.{List}
 use Prim.Native.Nat.{ℕ, _+_, _-_, _≤_, _<_}
@@ -8,10 +8,10 @@ use lib.ListN.{length, length-append, length-drop}
 use lib.Seq.{length-take-le}
 use Rattle.text.specs.Parts.{partAt}
 use Rattle.text.specs.Buffer.{overAt}
+use Rattle.case_text.specs.Texts.{six, ended}
+use Rattle.case_text.specs.Answers.{Puts, PutsWithin}
 use Rattle.case_answers.specs.declared.Kind.{Kind}
-use Rattle.case_answers.specs.Texts.{six, ended}
 use Rattle.case_answers.specs.Lines.{kindOf, kindLine, answerTo}
-use Rattle.case_answers.specs.Answers.{Puts, answerPlace, answerBuffer}
 
 -- ---- which answer
 module _ (line : List ℕ) where
@@ -24,22 +24,14 @@ module _ (line : List ℕ) where
   unfolding answerTo
   kind-told h part told e = rw (le-leb _ _ h, ← part, ← told, e)
 
--- ---- an answer that was put
+-- an answer that was put answers a line whose text is the same
+pub answered : {room at : ℕ} {a b l l' : List ℕ} {r : ℕ} → b ≡ a → PutsWithin room at a l l' r → PutsWithin room at b l l' r
+answered e p = rw e p
+
+-- ---- a text that was put into a buffer, which kept its length, ends inside it
 over-long : (at : ℕ) (t l : List ℕ) → at ≤ length l → length (overAt at t l) ≡ at + (length t + (length l - at - length t))
 unfolding overAt
 over-long at t l h = rw (length-append, length-append, length-drop, length-drop, length-take-le at l h)
 
--- it ends inside a buffer that kept its length
-pub answered : (line : List ℕ) {at r : ℕ} {a l l' : List ℕ} → answerTo line ≡ a → at ≤ length l → length l' ≡ length l → Puts at a l l' r
-    → Puts at (answerTo line) l l' r × (r ≤ length l')
-answered line {at} {r} {a} {l} {l'} e h kept p = (rw e p, omega (arith, p .place, ap length (p .buffer), over-long at a l h))
-
--- ---- an answer where there is room for any
-module _ (at : ℕ) (line l : List ℕ) where
-  pub answer-fits : at + 16640 ≤ length l → (at + length (answerTo line) ≡ answerPlace at line l) × (overAt at (answerTo line) l ≡ answerBuffer at line l)
-  unfolding answerPlace answerBuffer
-  answer-fits h = (rw (le-leb _ _ h), rw (le-leb _ _ h))
-
-  pub answer-full : length l < at + 16640 → (at ≡ answerPlace at line l) × (l ≡ answerBuffer at line l)
-  unfolding answerPlace answerBuffer
-  answer-full h = (rw (lt-leb _ _ h), rw (lt-leb _ _ h))
+pub ends-inside : {at r : ℕ} {t l l' : List ℕ} → Puts at t l l' r → at ≤ length l → length l' ≡ length l → r ≤ length l'
+ends-inside {at} {r} {t} {l} {l'} p h kept = omega (arith, p .place, ap length (p .buffer), over-long at t l h)

@@ -2,7 +2,7 @@
 use native.Mathlib.Omega.{arith}
 use Rattle.lines.specs.Laws.{AnswersLines}
 use Rattle.lines.proofs.Stream.{answers-lines, needs-first}
-use Rattle.case_answers.specs.Texts.{six, ended}
+use Rattle.case_text.specs.Texts.{six, ended}
 use Rattle.case_answers.specs.Lines.{answerTo}
 use Rattle.case_answers.proofs.Answering.{long-refused}
 

@@ -1,5 +1,1 @@
-pub mod Texts
-pub mod Fields
-pub mod Records
 pub mod Lines
-pub mod Answers

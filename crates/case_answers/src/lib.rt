@@ -1,18 +1,13 @@
 // Answers to case lines: docs/CASES.md.
 ghost use mathlib.Core.Path.{_≡_};
-ghost use Prim.Native.Nat.{_+_, _≤_};
+ghost use Prim.Native.Nat.{_≤_};
 ghost use lib.ListN.{length};
 ghost use Rattle.codec.specs.Format.{over};
 ghost use Rattle.lines.specs.Lines.{span, answers, fittingLines};
-ghost use Rattle.case_answers.specs.Lines.{answerTo};
-ghost use Rattle.case_answers.specs.Answers.{Puts, answerPlace, answerBuffer};
-use compact_u64::TagWidth;
-
-mod fields;
-mod numbers;
-mod paths;
-mod put;
-mod raw;
+ghost use Rattle.case_text.specs.Answers.{PutsWithin};
+ghost use Rattle.case_answers.specs.Lines.{kindOf, answerTo};
+use case_paths::Encoding;
+use case_text::MAX_ANSWER;
 
 pub enum Kind {
     Number,
@@ -24,44 +19,8 @@ pub enum Kind {
     Unknown,
 }
 
-pub enum Op {
-    Strict,
-    Lenient,
-    Write,
-    Length,
-    Unknown,
-}
-
-// The width of a number's tag.
-pub enum WidthField {
-    Width(TagWidth),
-    Refused,
-}
-
-// How many bytes a field in hex put into a buffer.
-pub enum HexField {
-    Bytes(usize),
-    Refused,
-}
-
-// The lengths of a path record; all zero where the field is not in its form.
-pub struct Lengths {
-    pub ok: bool,
-    pub lengths: [usize; 20],
-}
-
-// The encodings of a path.
-pub enum Encoding {
-    Plain,
-    Against,
-    Extends,
-}
-
 // The longest line, its newline not counted.
 pub const MAX_LINE: usize = 16384;
-
-// The free bytes that any answer asks for.
-pub const MAX_ANSWER: usize = 16640;
 
 // What was answered: the bytes of the lines, and those of the answers.
 pub struct Answered {
@@ -69,37 +28,47 @@ pub struct Answered {
     pub put: usize,
 }
 
-fn respond(line: &[u8], out: &mut [u8], at: usize) -> usize
-    requires { ⌜ at + 16640 ≤ length (now out) ⌝ }
-    ensures { λ r. ⌜ Puts at (answerTo (now (line .entry))) (now (out .entry)) (now (out .exit)) r ⌝ }
-    ensures { λ r. ⌜ r ≤ length (now (out .exit)) ⌝ }
+fn kind_of(field: &[u8]) -> Kind
+    ensures { λ r. ⌜ r ≡ kindOf (now (field .entry)) ⌝ }
 {
-    if MAX_LINE < line.len() {
-        return put::refuse(out, at);
+    if text::same(field, b"number") {
+        return Kind::Number;
     }
-    let kind = fields::kind(text::part(line, b'\t', 0));
-    match kind {
-        Kind::Number => numbers::number(line, out, at),
-        Kind::Standalone => numbers::standalone(line, out, at),
-        Kind::Path => paths::plain(line, out, at),
-        Kind::PathPath => paths::relative(line, out, at, Encoding::Against),
-        Kind::PathExtends => paths::relative(line, out, at, Encoding::Extends),
-        Kind::Raw => raw::raw(line, out, at),
-        Kind::Unknown => put::refuse(out, at),
+    if text::same(field, b"standalone") {
+        return Kind::Standalone;
     }
+    if text::same(field, b"path") {
+        return Kind::Path;
+    }
+    if text::same(field, b"path_path") {
+        return Kind::PathPath;
+    }
+    if text::same(field, b"path_extends") {
+        return Kind::PathExtends;
+    }
+    if text::same(field, b"raw") {
+        return Kind::Raw;
+    }
+    Kind::Unknown
 }
 
 // Writes the answer to a line from a place on, and answers the next place; where fewer than MAX_ANSWER bytes are free, nothing changes.
 pub fn answer(line: &[u8], out: &mut [u8], at: usize) -> usize
-    ensures { λ r. ⌜ (r ≡ answerPlace at (now (line .entry)) (now (out .entry))) × (now (out .exit) ≡ answerBuffer at (now (line .entry)) (now (out .entry))) ⌝ }
+    ensures { λ r. ⌜ PutsWithin 16640 at (answerTo (now (line .entry))) (now (out .entry)) (now (out .exit)) r ⌝ }
 {
-    if out.len() < at {
-        return at;
+    if MAX_LINE < line.len() {
+        return case_text::put::refuse(out, at);
     }
-    if out.len() - at < MAX_ANSWER {
-        return at;
+    let kind = kind_of(text::part(line, b'\t', 0));
+    match kind {
+        Kind::Number => case_numbers::number(line, out, at),
+        Kind::Standalone => case_numbers::standalone(line, out, at),
+        Kind::Path => case_paths::plain(line, out, at),
+        Kind::PathPath => case_paths::relative(line, out, at, Encoding::Against),
+        Kind::PathExtends => case_paths::relative(line, out, at, Encoding::Extends),
+        Kind::Raw => case_paths::raw::raw(line, out, at),
+        Kind::Unknown => case_text::put::refuse(out, at),
     }
-    respond(line, out, at)
 }
 
 // Answers the whole lines of a text, one after another, while MAX_ANSWER bytes of the buffer are free.
@@ -116,7 +85,7 @@ pub fn answer_lines(s: &[u8], out: &mut [u8]) -> Answered
         if k == rest.len() {
             break;
         }
-        put = respond(&rest[..k], out, put);
+        put = answer(&rest[..k], out, put);
         at += k + 1;
     }
     Answered {

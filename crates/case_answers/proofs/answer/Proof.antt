@@ -1,30 +1,159 @@
 use native.Mathlib.Omega.{arith}
-use mathlib.Core.Path.{_∙_}
 use denote.Ref.{now}
-use Rattle.case_answers.proofs.Answering.{answer-fits, answer-full}
+use Rattle.case_answers.proofs.Answering.{long-refused, kind-told, answered}
 use borrow.Author.Needs.{needs}
 use Rattle.case_answers.proofs.answer.Statement.{statement}
 use Rattle.case_answers.proofs.answer.Tie as tie
 
-returns : tie.Need-returns
-returns c = answer-full (c .before .before .before .args .at) (now (c .before .before .before .args .line)) (now (c .before .before .before .args .out)) (omega arith)
-
-sub-if2 : tie.Need-sub-if2
-sub-if2 c = search needs
-
-returns-2 : tie.Need-returns-2
-returns-2 c = answer-full (c .before .before .before .before .args .at) (now (c .before .before .before .before .args .line)) (now (c .before .before .before .before .args .out)) (omega arith)
-
-respond-requires : tie.Need-respond-requires
-respond-requires c κs = search needs
+refuse-requires : tie.Need-refuse-requires
+refuse-requires c κs = search needs
 
 same-length : tie.Need-same-length
 same-length c = search needs
 
+returns : tie.Need-returns
+returns c =
+    let line = now (c .before .before .before .before .before .before .before .args .line) in
+    answered (long-refused line (c .before .before .before .before .if1 .taken)) (c .before .before .refuse .ensures)
+
+part-requires : tie.Need-part-requires
+part-requires c κs = search needs
+
+kind-of-requires : tie.Need-kind-of-requires
+kind-of-requires c κs = search needs
+
+enum-told : tie.Need-enum-told
+enum-told c = search needs
+
+number-requires : tie.Need-number-requires
+number-requires c κs = search needs
+
+enum-told-2 : tie.Need-enum-told-2
+enum-told-2 c = search needs
+
+standalone-requires : tie.Need-standalone-requires
+standalone-requires c κs = search needs
+
+enum-told-3 : tie.Need-enum-told-3
+enum-told-3 c = search needs
+
+plain-requires : tie.Need-plain-requires
+plain-requires c κs = search needs
+
+enum-told-4 : tie.Need-enum-told-4
+enum-told-4 c = search needs
+
+relative-requires : tie.Need-relative-requires
+relative-requires c κs = search needs
+
+enum-told-5 : tie.Need-enum-told-5
+enum-told-5 c = search needs
+
+relative-requires-2 : tie.Need-relative-requires-2
+relative-requires-2 c κs = search needs
+
+enum-told-6 : tie.Need-enum-told-6
+enum-told-6 c = search needs
+
+raw-requires : tie.Need-raw-requires
+raw-requires c κs = search needs
+
+enum-told-7 : tie.Need-enum-told-7
+enum-told-7 c = search needs
+
+refuse-requires-2 : tie.Need-refuse-requires-2
+refuse-requires-2 c κs = search needs
+
+same-length-2 : tie.Need-same-length-2
+same-length-2 c = search needs
+
+returns-2 : tie.Need-returns-2
+returns-2 c =
+    let line = now (c .before .before .before .before .before .before .before .before .before .before .before .args .line) in
+    answered (kind-told line (omega arith) (c .before .before .before .before .before .before .before .part .ensures) (c .before .before .before .before .before .before .kind-of .ensures) (c .before .before .before .before .enum-told .given .1)) (c .before .before .number .ensures)
+
+same-length-3 : tie.Need-same-length-3
+same-length-3 c = search needs
+
 returns-3 : tie.Need-returns-3
 returns-3 c =
-    let f = answer-fits (c .before .before .before .before .before .before .before .before .args .at) (now (c .before .before .before .before .before .before .before .before .args .line)) (now (c .before .before .before .before .before .before .before .before .args .out)) (omega arith) in
-    (c .before .before .respond .ensures .0 .place ∙ f .0, c .before .before .respond .ensures .0 .buffer ∙ f .1)
+    let line = now (c .before .before .before .before .before .before .before .before .before .before .before .args .line) in
+    answered (kind-told line (omega arith) (c .before .before .before .before .before .before .before .part .ensures) (c .before .before .before .before .before .before .kind-of .ensures) (c .before .before .before .before .enum-told2 .given .1)) (c .before .before .standalone .ensures)
+
+same-length-4 : tie.Need-same-length-4
+same-length-4 c = search needs
+
+returns-4 : tie.Need-returns-4
+returns-4 c =
+    let line = now (c .before .before .before .before .before .before .before .before .before .before .before .args .line) in
+    answered (kind-told line (omega arith) (c .before .before .before .before .before .before .before .part .ensures) (c .before .before .before .before .before .before .kind-of .ensures) (c .before .before .before .before .enum-told3 .given .1)) (c .before .before .plain .ensures)
+
+same-length-5 : tie.Need-same-length-5
+same-length-5 c = search needs
+
+returns-5 : tie.Need-returns-5
+returns-5 c =
+    let line = now (c .before .before .before .before .before .before .before .before .before .before .before .args .line) in
+    answered (kind-told line (omega arith) (c .before .before .before .before .before .before .before .part .ensures) (c .before .before .before .before .before .before .kind-of .ensures) (c .before .before .before .before .enum-told4 .given .1)) (c .before .before .relative .ensures)
+
+same-length-6 : tie.Need-same-length-6
+same-length-6 c = search needs
+
+returns-6 : tie.Need-returns-6
+returns-6 c =
+    let line = now (c .before .before .before .before .before .before .before .before .before .before .before .args .line) in
+    answered (kind-told line (omega arith) (c .before .before .before .before .before .before .before .part .ensures) (c .before .before .before .before .before .before .kind-of .ensures) (c .before .before .before .before .enum-told5 .given .1)) (c .before .before .relative2 .ensures)
+
+same-length-7 : tie.Need-same-length-7
+same-length-7 c = search needs
+
+returns-7 : tie.Need-returns-7
+returns-7 c =
+    let line = now (c .before .before .before .before .before .before .before .before .before .before .before .args .line) in
+    answered (kind-told line (omega arith) (c .before .before .before .before .before .before .before .part .ensures) (c .before .before .before .before .before .before .kind-of .ensures) (c .before .before .before .before .enum-told6 .given .1)) (c .before .before .raw .ensures)
+
+same-length-8 : tie.Need-same-length-8
+same-length-8 c = search needs
+
+returns-8 : tie.Need-returns-8
+returns-8 c =
+    let line = now (c .before .before .before .before .before .before .before .before .before .before .before .args .line) in
+    answered (kind-told line (omega arith) (c .before .before .before .before .before .before .before .part .ensures) (c .before .before .before .before .before .before .kind-of .ensures) (c .before .before .before .before .enum-told7 .given .1)) (c .before .before .refuse2 .ensures)
 
 pub answer-spec : {M : Type 1} → statement M
-answer-spec = tie.close (tie.spec returns sub-if2 returns-2 respond-requires same-length returns-3)
+answer-spec =
+    tie.close
+    (tie.spec
+    refuse-requires
+    same-length
+    returns
+    part-requires
+    kind-of-requires
+    enum-told
+    number-requires
+    enum-told-2
+    standalone-requires
+    enum-told-3
+    plain-requires
+    enum-told-4
+    relative-requires
+    enum-told-5
+    relative-requires-2
+    enum-told-6
+    raw-requires
+    enum-told-7
+    refuse-requires-2
+    same-length-2
+    returns-2
+    same-length-3
+    returns-3
+    same-length-4
+    returns-4
+    same-length-5
+    returns-5
+    same-length-6
+    returns-6
+    same-length-7
+    returns-7
+    same-length-8
+    returns-8)

@@ -12,7 +12,9 @@ use Rattle.text.proofs.Buffer.{overAt-start, overAt-none, overAt-then}
 use Rattle.lines.specs.Lines.{span, answers, fittingLines}
 use Rattle.lines.proofs.Lines.{span-none, span-next, answers-none, answers-next}
 use Rattle.lines.proofs.Fitting.{fitting-short, fitting-end, fitting-turn}
+use Rattle.case_text.proofs.Puts.{within-puts}
 use Rattle.case_answers.specs.Lines.{answerTo}
+use Rattle.case_answers.proofs.Answering.{ends-inside}
 use borrow.Author.Needs.{needs}
 use Rattle.case_answers.proofs.answer_lines.Statement.{statement}
 use Rattle.case_answers.proofs.answer_lines.Tie as tie
@@ -49,11 +51,11 @@ part-rest-end c = omega arith
 find-requires : tie.Need-find-requires Inv-loop μ-loop
 find-requires c κs = search needs
 
-slice-aggregate-respond : tie.Need-slice-aggregate-respond Inv-loop μ-loop
-slice-aggregate-respond c = sym (length-take-le (c .before .before .find .result) _ (omega (arith, c .before .before .find .ensures .1)))
+slice-aggregate-answer : tie.Need-slice-aggregate-answer Inv-loop μ-loop
+slice-aggregate-answer c = sym (length-take-le (c .before .before .find .result) _ (omega (arith, c .before .before .find .ensures .1)))
 
-respond-requires : tie.Need-respond-requires Inv-loop μ-loop
-respond-requires c κs = search needs
+answer-requires : tie.Need-answer-requires Inv-loop μ-loop
+answer-requires c κs = search needs
 
 add-at : tie.Need-add-at Inv-loop μ-loop
 add-at c = omega arith
@@ -79,15 +81,16 @@ loop-again c =
     let h : k < length r = omega (arith, g, ne) in
     let t = fitting-turn answerTo 16640 s n (l .at) (l .put) k (omega (arith, l .inv .2)) e h in
     let rest = fittingLines answerTo 16640 (n - (l .put + length (answerTo line))) (drop (l .at + (k + 1)) s) in
-    let p : c .before .before .respond .result ≡ l .put + length (answerTo line) = rw (to-end (l .at) s) at (c .before .before .respond .ensures .0 .place) in
-    let o = rw (to-end (l .at) s) at (c .before .before .respond .ensures .0 .buffer) in
+    let w = within-puts (c .before .before .answer .ensures) (omega arith) in
+    let p : c .before .before .answer .result ≡ l .put + length (answerTo line) = rw (to-end (l .at) s) at (w .place) in
+    let o = rw (to-end (l .at) s) at (w .buffer) in
     let a = ap (answers answerTo) t ∙ answers-next answerTo line rest in
     let b : length (answers answerTo (fittingLines answerTo 16640 (n - l .put) r)) ≡ length (answerTo line) + length (answers answerTo rest) = ap length a ∙ length-append (answerTo line) (answers answerTo rest) in
     let sp = ap span t ∙ span-next line rest in
     let lk = length-take-le k r (omega (arith, h)) in
-    let kept = c .before .before .respond .kept .1 .0 in (
+    let kept = c .before .before .answer .kept .1 .0 in (
       omega (arith, h, m),
-      c .before .before .respond .ensures .1,
+      ends-inside w (omega arith) kept,
       kept ∙ l .inv .2,
       rw p (omega (arith, l .inv .3, sp, lk)),
       rw p (omega (arith, l .inv .4, b)),
@@ -138,8 +141,8 @@ answer-lines-spec =
     part-rest-start
     part-rest-end
     find-requires
-    slice-aggregate-respond
-    respond-requires
+    slice-aggregate-answer
+    answer-requires
     add-at
     add-at-2
     loop-less

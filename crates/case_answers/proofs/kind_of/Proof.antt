@@ -1,7 +1,7 @@
 use borrow.Author.Needs.{needs}
 use Rattle.case_answers.specs.Lines.{kindOf}
-use Rattle.case_answers.proofs.fields.kind.Statement.{statement}
-use Rattle.case_answers.proofs.fields.kind.Tie as tie
+use Rattle.case_answers.proofs.kind_of.Statement.{statement}
+use Rattle.case_answers.proofs.kind_of.Tie as tie
 
 slice-aggregate-same : tie.Need-slice-aggregate-same
 slice-aggregate-same c = search needs
@@ -146,8 +146,8 @@ returns-7 c =
       c .if6 .left,
     )
 
-pub kind-spec : {M : Type 1} → statement M
-kind-spec =
+pub kind-of-spec : {M : Type 1} → statement M
+kind-of-spec =
     tie.close
     (tie.spec
     slice-aggregate-same
