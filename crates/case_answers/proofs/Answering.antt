@@ -9,7 +9,7 @@ use lib.Seq.{length-take-le}
 use Rattle.text.specs.Parts.{partAt}
 use Rattle.text.specs.Buffer.{overAt}
 use Rattle.case_text.specs.Texts.{six, ended}
-use Rattle.case_text.specs.Answers.{Puts, PutsWithin}
+use Rattle.case_text.specs.Answers.{Puts}
 use Rattle.case_answers.specs.declared.Kind.{Kind}
 use Rattle.case_answers.specs.Lines.{kindOf, kindLine, answerTo}
 
@@ -23,10 +23,6 @@ module _ (line : List ℕ) where
   pub kind-told : {s : List ℕ} {k x : Kind} → length line ≤ 16384 → s ≡ partAt 9 0 line → k ≡ kindOf s → k ≡ x → answerTo line ≡ ended (kindLine x line)
   unfolding answerTo
   kind-told h part told e = rw (le-leb _ _ h, ← part, ← told, e)
-
--- an answer that was put answers a line whose text is the same
-pub answered : {room at : ℕ} {a b l l' : List ℕ} {r : ℕ} → b ≡ a → PutsWithin room at a l l' r → PutsWithin room at b l l' r
-answered e p = rw e p
 
 -- ---- a text that was put into a buffer, which kept its length, ends inside it
 over-long : (at : ℕ) (t l : List ℕ) → at ≤ length l → length (overAt at t l) ≡ at + (length t + (length l - at - length t))

@@ -52,6 +52,9 @@ module _ {room at : ℕ} {t l : List ℕ} where
     pub within-fits : Puts at t l l' r → at + room ≤ length l → PutsWithin room at t l l' r
     within-fits p h = record { place = rw (le-leb _ _ h) (p .place); buffer = rw (le-leb _ _ h) (p .buffer) }
 
+    pub within-same : {s : List ℕ} → s ≡ t → PutsWithin room at t l l' r → PutsWithin room at s l l' r
+    within-same e p = rw e p
+
     pub within-puts : PutsWithin room at t l l' r → at + room ≤ length l → Puts at t l l' r
     within-puts p h = record { place = rw (le-leb _ _ h) at (p .place); buffer = rw (le-leb _ _ h) at (p .buffer) }
 

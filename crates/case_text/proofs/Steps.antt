@@ -20,10 +20,11 @@ use Rattle.case_text.specs.declared.Op.{Op}
 use Rattle.case_text.specs.Texts.{six, ended}
 use Rattle.case_text.specs.Fields.{exactly, decimalField, hexFieldIn, pathField, opOf}
 use Rattle.case_text.specs.Answers.{PutsWithin, ReadsHex}
+use Rattle.case_text.proofs.Puts.{within-same}
 
 -- an answer that was put answers a line whose text is the same
 pub puts : {room at : ℕ} {a b l l' : List ℕ} {r : ℕ} → b ≡ a → PutsWithin room at (ended a) l l' r → PutsWithin room at (ended b) l l' r
-puts e p = rw e p
+puts e p = within-same (ap ended e) p
 
 -- ---- the number of fields, which was counted
 module _ (line : List ℕ) {m : ℕ} (counted : m ≡ length (parts 9 line)) where

@@ -28,14 +28,6 @@ hex-refused a room x e k = by-cases (isHex a) (ltb room (length (unhex a))) e
     by-cases true false e = let g = rw e at k in absurd (⊎-elim (λ q. omega arith) (λ q. omega arith) g)
     by-cases false d e = refl
 
--- no hex, where there is room
-pub no-hex : (a : List ℕ) (room : ℕ) → length (unhex a) ≤ room → cond (isHex a) (ltb room (length (unhex a))) true ≡ true → isHex a ≡ false
-no-hex a room fit h = by-cases (isHex a) (rw (le-ltb room (length (unhex a)) fit) at h)
-  where
-    by-cases : (t : Bool) → cond t false true ≡ true → t ≡ false
-    by-cases true h = sym h
-    by-cases false h = refl
-
 module _ (a : List ℕ) (n : ℕ) where
   pub some-bytes : (room : ℕ) → Bytes n ≡ readHex a room → (isHex a ≡ true) × (n ≡ length (unhex a)) × (n ≤ room)
   unfolding readHex

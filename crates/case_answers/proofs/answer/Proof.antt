@@ -1,6 +1,7 @@
 use native.Mathlib.Omega.{arith}
 use denote.Ref.{now}
-use Rattle.case_answers.proofs.Answering.{long-refused, kind-told, answered}
+use Rattle.case_text.proofs.Puts.{within-same}
+use Rattle.case_answers.proofs.Answering.{long-refused, kind-told}
 use borrow.Author.Needs.{needs}
 use Rattle.case_answers.proofs.answer.Statement.{statement}
 use Rattle.case_answers.proofs.answer.Tie as tie
@@ -14,7 +15,7 @@ same-length c = search needs
 returns : tie.Need-returns
 returns c =
     let line = now (c .before .before .before .before .before .before .before .args .line) in
-    answered (long-refused line (c .before .before .before .before .if1 .taken)) (c .before .before .refuse .ensures)
+    within-same (long-refused line (c .before .before .before .before .if1 .taken)) (c .before .before .refuse .ensures)
 
 part-requires : tie.Need-part-requires
 part-requires c κs = search needs
@@ -70,7 +71,7 @@ same-length-2 c = search needs
 returns-2 : tie.Need-returns-2
 returns-2 c =
     let line = now (c .before .before .before .before .before .before .before .before .before .before .before .args .line) in
-    answered (kind-told line (omega arith) (c .before .before .before .before .before .before .before .part .ensures) (c .before .before .before .before .before .before .kind-of .ensures) (c .before .before .before .before .enum-told .given .1)) (c .before .before .number .ensures)
+    within-same (kind-told line (omega arith) (c .before .before .before .before .before .before .before .part .ensures) (c .before .before .before .before .before .before .kind-of .ensures) (c .before .before .before .before .enum-told .given .1)) (c .before .before .number .ensures)
 
 same-length-3 : tie.Need-same-length-3
 same-length-3 c = search needs
@@ -78,7 +79,7 @@ same-length-3 c = search needs
 returns-3 : tie.Need-returns-3
 returns-3 c =
     let line = now (c .before .before .before .before .before .before .before .before .before .before .before .args .line) in
-    answered (kind-told line (omega arith) (c .before .before .before .before .before .before .before .part .ensures) (c .before .before .before .before .before .before .kind-of .ensures) (c .before .before .before .before .enum-told2 .given .1)) (c .before .before .standalone .ensures)
+    within-same (kind-told line (omega arith) (c .before .before .before .before .before .before .before .part .ensures) (c .before .before .before .before .before .before .kind-of .ensures) (c .before .before .before .before .enum-told2 .given .1)) (c .before .before .standalone .ensures)
 
 same-length-4 : tie.Need-same-length-4
 same-length-4 c = search needs
@@ -86,7 +87,7 @@ same-length-4 c = search needs
 returns-4 : tie.Need-returns-4
 returns-4 c =
     let line = now (c .before .before .before .before .before .before .before .before .before .before .before .args .line) in
-    answered (kind-told line (omega arith) (c .before .before .before .before .before .before .before .part .ensures) (c .before .before .before .before .before .before .kind-of .ensures) (c .before .before .before .before .enum-told3 .given .1)) (c .before .before .plain .ensures)
+    within-same (kind-told line (omega arith) (c .before .before .before .before .before .before .before .part .ensures) (c .before .before .before .before .before .before .kind-of .ensures) (c .before .before .before .before .enum-told3 .given .1)) (c .before .before .plain .ensures)
 
 same-length-5 : tie.Need-same-length-5
 same-length-5 c = search needs
@@ -94,7 +95,7 @@ same-length-5 c = search needs
 returns-5 : tie.Need-returns-5
 returns-5 c =
     let line = now (c .before .before .before .before .before .before .before .before .before .before .before .args .line) in
-    answered (kind-told line (omega arith) (c .before .before .before .before .before .before .before .part .ensures) (c .before .before .before .before .before .before .kind-of .ensures) (c .before .before .before .before .enum-told4 .given .1)) (c .before .before .relative .ensures)
+    within-same (kind-told line (omega arith) (c .before .before .before .before .before .before .before .part .ensures) (c .before .before .before .before .before .before .kind-of .ensures) (c .before .before .before .before .enum-told4 .given .1)) (c .before .before .relative .ensures)
 
 same-length-6 : tie.Need-same-length-6
 same-length-6 c = search needs
@@ -102,7 +103,7 @@ same-length-6 c = search needs
 returns-6 : tie.Need-returns-6
 returns-6 c =
     let line = now (c .before .before .before .before .before .before .before .before .before .before .before .args .line) in
-    answered (kind-told line (omega arith) (c .before .before .before .before .before .before .before .part .ensures) (c .before .before .before .before .before .before .kind-of .ensures) (c .before .before .before .before .enum-told5 .given .1)) (c .before .before .relative2 .ensures)
+    within-same (kind-told line (omega arith) (c .before .before .before .before .before .before .before .part .ensures) (c .before .before .before .before .before .before .kind-of .ensures) (c .before .before .before .before .enum-told5 .given .1)) (c .before .before .relative2 .ensures)
 
 same-length-7 : tie.Need-same-length-7
 same-length-7 c = search needs
@@ -110,7 +111,7 @@ same-length-7 c = search needs
 returns-7 : tie.Need-returns-7
 returns-7 c =
     let line = now (c .before .before .before .before .before .before .before .before .before .before .before .args .line) in
-    answered (kind-told line (omega arith) (c .before .before .before .before .before .before .before .part .ensures) (c .before .before .before .before .before .before .kind-of .ensures) (c .before .before .before .before .enum-told6 .given .1)) (c .before .before .raw .ensures)
+    within-same (kind-told line (omega arith) (c .before .before .before .before .before .before .before .part .ensures) (c .before .before .before .before .before .before .kind-of .ensures) (c .before .before .before .before .enum-told6 .given .1)) (c .before .before .raw .ensures)
 
 same-length-8 : tie.Need-same-length-8
 same-length-8 c = search needs
@@ -118,7 +119,7 @@ same-length-8 c = search needs
 returns-8 : tie.Need-returns-8
 returns-8 c =
     let line = now (c .before .before .before .before .before .before .before .before .before .before .before .args .line) in
-    answered (kind-told line (omega arith) (c .before .before .before .before .before .before .before .part .ensures) (c .before .before .before .before .before .before .kind-of .ensures) (c .before .before .before .before .enum-told7 .given .1)) (c .before .before .refuse2 .ensures)
+    within-same (kind-told line (omega arith) (c .before .before .before .before .before .before .before .part .ensures) (c .before .before .before .before .before .before .kind-of .ensures) (c .before .before .before .before .enum-told7 .given .1)) (c .before .before .refuse2 .ensures)
 
 pub answer-spec : {M : Type 1} → statement M
 answer-spec =
