@@ -13,45 +13,39 @@ use Rattle.text.specs.Parts.{parts}
 use Rattle.text.specs.Decimal.{decimalText}
 use Rattle.case_text.specs.declared.HexField.{HexField}
 use Rattle.case_text.specs.declared.HexField.the-variants as hex
+use Rattle.case_text.specs.declared.MessageField.{MessageField}
+use Rattle.case_text.specs.declared.MessageField.the-variants as message
 use Rattle.case_text.specs.Texts.{six, readText, lengthText, writtenNumberText}
 use Rattle.case_text.specs.Fields.{decimalField}
 use Rattle.case_numbers.specs.Lines.{readNumberLine, writeNumberLine, lengthNumberLine}
-use Rattle.case_text.specs.Answers.{ReadsHex}
-use Rattle.case_text.proofs.Steps.{fields-not, fields-are, hex-refused, hex-bytes, lent-back}
+use Rattle.case_text.specs.Answers.{ReadsHex, ReadsMessage}
+use Rattle.case_text.proofs.Steps.{fields-not, fields-are, hex-refused, hex-bytes, lent-back, message-refused, message-is}
+
+-- ---- reading: tag, start and message
+module _ (w : ℕ) (line : List ℕ) (canonic : Bool) where
+  abbrev said : ℕ → ℕ → List ℕ → List ℕ
+  said tag start message = readText decimalText (readNumber canonic w tag (drop start message))
+
+  pub read-tag : ((k : ℕ → List ℕ) → decimalField 3 line k ≡ six) → readNumberLine w canonic line ≡ six
+  read-tag tag = tag _
+
+  module _ (t : ℕ) (tag : (k : ℕ → List ℕ) → decimalField 3 line k ≡ k t) {limit : ℕ} (says : limit ≡ 2 ^ w) where
+    pub read-over : limit ≤ t → readNumberLine w canonic line ≡ six
+    read-over h = tag _ ∙ rw (le-ltb t (2 ^ w) (rw says at h))
+
+    module _ (fits : t < limit) where
+      below : (a : List ℕ) → cond (ltb t (2 ^ w)) a six ≡ a
+      below a = rw (lt-ltb t (2 ^ w) (rw says at fits))
+
+      module _ {buffer : List ℕ} {r : MessageField} (read : ReadsMessage 8192 4 line buffer r) where
+        pub read-refused : r ≡ message.Refused → readNumberLine w canonic line ≡ six
+        read-refused e = tag _ ∙ below _ ∙ message-refused 4 line read (said t) e
+
+        pub read-answer : {s n : ℕ} {x : Answer ℕ} → r ≡ message.Message s n → x ≡ readNumber canonic w t (drop s (take n buffer))
+            → readNumberLine w canonic line ≡ readText decimalText x
+        read-answer e h = tag _ ∙ below _ ∙ message-is 4 line read e (said t) ∙ ap (readText decimalText) (sym h)
 
 module _ (w : ℕ) (line : List ℕ) {m : ℕ} (counted : m ≡ length (parts 9 line)) where
-  -- ---- reading: tag, start and message
-  module _ (canonic : Bool) where
-    abbrev said : ℕ → ℕ → List ℕ → List ℕ
-    said tag start message = readText decimalText (readNumber canonic w tag (drop start message))
-
-    pub read-fields : (m ≡ 6 → ⊥) → readNumberLine w canonic line ≡ six
-    read-fields h = fields-not line counted 6 _ h
-
-    module _ (many : m ≡ 6) where
-      pub read-tag : ((k : ℕ → List ℕ) → decimalField 3 line k ≡ six) → readNumberLine w canonic line ≡ six
-      read-tag tag = fields-are line counted 6 _ many ∙ tag _
-
-      module _ (t : ℕ) (tag : (k : ℕ → List ℕ) → decimalField 3 line k ≡ k t) {limit : ℕ} (says : limit ≡ 2 ^ w) where
-        pub read-over : limit ≤ t → readNumberLine w canonic line ≡ six
-        read-over h = fields-are line counted 6 _ many ∙ tag _ ∙ rw (le-ltb t (2 ^ w) (rw says at h))
-
-        module _ (fits : t < limit) where
-          below : (a : List ℕ) → cond (ltb t (2 ^ w)) a six ≡ a
-          below a = rw (lt-ltb t (2 ^ w) (rw says at fits))
-
-          pub read-start : ((k : ℕ → List ℕ) → decimalField 4 line k ≡ six) → readNumberLine w canonic line ≡ six
-          read-start start = fields-are line counted 6 _ many ∙ tag _ ∙ below _ ∙ start _
-
-          module _ (s : ℕ) (start : (k : ℕ → List ℕ) → decimalField 4 line k ≡ k s) {buffer : List ℕ} {r : HexField} (read : ReadsHex 8192 5 line buffer r) where
-            pub read-message : r ≡ hex.Refused → readNumberLine w canonic line ≡ six
-            read-message e = fields-are line counted 6 _ many ∙ tag _ ∙ below _ ∙ start _ ∙ hex-refused 5 line read (said t s) e
-
-            pub read-answer : {n : ℕ} {x : Answer ℕ} → r ≡ hex.Bytes n → x ≡ readNumber canonic w t (drop s (take n buffer))
-                → readNumberLine w canonic line ≡ readText decimalText x
-            read-answer e h =
-                fields-are line counted 6 _ many ∙ tag _ ∙ below _ ∙ start _ ∙ hex-bytes 5 line read e (said t s) ∙ ap (readText decimalText) (sym h)
-
   -- ---- writing: a value, then the lent buffer
   abbrev put : ℕ → List ℕ → List ℕ
   put v lent = writtenNumberText (putAnswer allowed (numberBytes w v) (length lent)) (minTag w v) (putBuffer allowed (numberBytes w v) lent)

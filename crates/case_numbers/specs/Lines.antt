@@ -11,19 +11,17 @@ use Rattle.text.specs.Decimal.{decimalText}
 use Rattle.case_text.specs.declared.Op.{Op}
 use Rattle.case_text.specs.declared.Op.the-variants as op
 use Rattle.case_text.specs.Texts.{six, okText, readText, writtenNumberText}
-use Rattle.case_text.specs.Fields.{field, exactly, decimalField, hexField, opOf}
+use Rattle.case_text.specs.Fields.{field, exactly, decimalField, hexField, messageField, opOf}
 use Rattle.case_text.specs.Records.{recordLine}
 
 -- ---- numbers after a tag of w bits; the tag stands before the start
 abbrev pub readNumberLine : ℕ → Bool → List ℕ → List ℕ
 readNumberLine w canonic line =
-    exactly 6 line (
     decimalField 3 line (λ tag.
     cond (ltb tag (2 ^ w)) (
-    decimalField 4 line (λ start.
-    hexField 5 line (λ message.
-    readText decimalText (readNumber canonic w tag (drop start message)))))
-    six))
+    messageField 4 line (λ start message.
+    readText decimalText (readNumber canonic w tag (drop start message))))
+    six)
 
 abbrev pub writeNumberLine : ℕ → List ℕ → List ℕ
 writeNumberLine w line =

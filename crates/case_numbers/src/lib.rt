@@ -13,6 +13,7 @@ ghost use Rattle.case_numbers.specs.Lines.{readNumberLine, writeNumberLi
 ghost use Rattle.case_numbers.specs.Answers.{onWidthField};
 use case_text::HexField;
 use case_text::MAX_BYTES;
+use case_text::MessageField;
 use case_text::Op;
 use case_text::fields;
 use case_text::put;
@@ -58,9 +59,6 @@ fn tag_limit(width: TagWidth) -> u64
 fn read_number(line: &[u8], out: &mut [u8], at: usize, width: TagWidth, canonic: bool) -> usize
     ensures { λ r. ⌜ PutsWithin 16640 at (ended (readNumberLine (bits width) canonic (now (line .entry)))) (now (out .entry)) (now (out .exit)) r ⌝ }
 {
-    if text::part_count(line, b'\t') != 6 {
-        return put::refuse(out, at);
-    }
     let tag = text::read_decimal(text::part(line, b'\t', 3));
     let Decimal::Value(t) = tag else {
         return put::refuse(out, at);
@@ -68,19 +66,15 @@ fn read_number(line: &[u8], out: &mut [u8], at: usize, width: TagWidth, canonic:
     if tag_limit(width) <= t {
         return put::refuse(out, at);
     }
-    let start = text::read_decimal(text::part(line, b'\t', 4));
-    let Decimal::Value(s) = start else {
-        return put::refuse(out, at);
-    };
-    let mut message = [0u8; MAX_BYTES];
-    let hex = fields::hex(line, 5, &mut message);
-    let HexField::Bytes(n) = hex else {
+    let mut bytes = [0u8; MAX_BYTES];
+    let message = fields::message(line, 4, &mut bytes);
+    let MessageField::Message(s, n) = message else {
         return put::refuse(out, at);
     };
     put::number(
         out,
         at,
-        compact_u64::relative_decode(&message[..n], s as usize, width, t as u8, canonic),
+        compact_u64::relative_decode(&bytes[..n], s, width, t as u8, canonic),
     )
 }
 
@@ -142,23 +136,12 @@ pub fn number(line: &[u8], out: &mut [u8], at: usize) -> usize
 fn read_standalone(line: &[u8], out: &mut [u8], at: usize, canonic: bool) -> usize
     ensures { λ r. ⌜ PutsWithin 16640 at (ended (readLine decimalText (readStandalone canonic) 2 (now (line .entry)))) (now (out .entry)) (now (out .exit)) r ⌝ }
 {
-    if text::part_count(line, b'\t') != 4 {
-        return put::refuse(out, at);
-    }
-    let start = text::read_decimal(text::part(line, b'\t', 2));
-    let Decimal::Value(s) = start else {
+    let mut bytes = [0u8; MAX_BYTES];
+    let message = fields::message(line, 2, &mut bytes);
+    let MessageField::Message(s, n) = message else {
         return put::refuse(out, at);
     };
-    let mut message = [0u8; MAX_BYTES];
-    let hex = fields::hex(line, 3, &mut message);
-    let HexField::Bytes(n) = hex else {
-        return put::refuse(out, at);
-    };
-    put::number(
-        out,
-        at,
-        compact_u64::decode(&message[..n], s as usize, canonic),
-    )
+    put::number(out, at, compact_u64::decode(&bytes[..n], s, canonic))
 }
 
 fn write_standalone(line: &[u8], out: &mut [u8], at: usize) -> usize

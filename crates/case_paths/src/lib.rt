@@ -13,6 +13,7 @@ ghost use Rattle.case_text.specs.Answers.{PutsWithin};
 ghost use Rattle.case_paths.specs.Lines.{encodingReader, encodingFormat, encodingLine, plainLine, relativeLine};
 use case_text::HexField;
 use case_text::MAX_BYTES;
+use case_text::MessageField;
 use case_text::Op;
 use case_text::fields;
 use case_text::put;
@@ -20,7 +21,6 @@ use codec::Encoded;
 use path::Path;
 use path_codec::DecodedPath;
 use path_text::Found;
-use text::Decimal;
 
 pub mod raw;
 
@@ -87,25 +87,17 @@ fn read_path(
     reference: Path,
     canonic: bool,
 ) -> usize
-    requires { ⌜ i ≤ 3 ⌝ }
     ensures { λ r. ⌜ PutsWithin 16640 at (ended (readLine pathTextOf (encodingReader encoding reference canonic) i (now (line .entry)))) (now (out .entry)) (now (out .exit)) r ⌝ }
 {
-    if text::part_count(line, b'\t') != i + 2 {
-        return put::refuse(out, at);
-    }
-    let start = text::read_decimal(text::part(line, b'\t', i));
-    let Decimal::Value(s) = start else {
-        return put::refuse(out, at);
-    };
-    let mut message = [0u8; MAX_BYTES];
-    let hex = fields::hex(line, i + 1, &mut message);
-    let HexField::Bytes(n) = hex else {
+    let mut bytes = [0u8; MAX_BYTES];
+    let message = fields::message(line, i, &mut bytes);
+    let MessageField::Message(s, n) = message else {
         return put::refuse(out, at);
     };
     put::path(
         out,
         at,
-        decode(encoding, &message[..n], s as usize, canonic, reference),
+        decode(encoding, &bytes[..n], s, canonic, reference),
     )
 }
 

@@ -1,21 +1,25 @@
--- What reading a field of a line in hex answers.
+-- What reading a field of a line in hex answers, and a message.
 use mathlib.Core.Path.{_≡_, refl, sym, _∙_}
 use mathlib.Core.List.{List, [], _∷_}
 use mathlib.Core.Logic.{⊎-elim}
-use Prim.Native.Nat.{ℕ}
+use Prim.Native.Nat.{ℕ, _+_}
 use types.Run.{OneOf}
 use denote.Enum.Declared.{tagOf}
 use native.Mathlib.Omega.{arith}
 use lib.ListN.{length}
 use Rattle.text.specs.Hex.{unhex}
+use Rattle.text.specs.Parts.{parts}
 use Rattle.text.specs.Fields.{readHex, hexBuffer}
 use Rattle.text.specs.declared.Hex.{Hex}
 use Rattle.text.specs.declared.Hex.the-variants as text
 use Rattle.text.proofs.HexAnswers.{some-bytes, bytes-are}
+use Rattle.case_text.specs.declared.HexField.{HexField}
 use Rattle.case_text.specs.declared.HexField.the-variants as hex
+use Rattle.case_text.specs.declared.MessageField.the-variants as message
 use Rattle.case_text.specs.Texts.{six}
-use Rattle.case_text.specs.Fields.{field, onHexRead, hexFieldIn}
-use Rattle.case_text.specs.Answers.{ReadsHex}
+use Rattle.case_text.specs.Fields.{field, onHexRead, decimalField, hexFieldIn}
+use Rattle.case_text.specs.Answers.{ReadsHex, ReadsMessage}
+use Rattle.case_text.proofs.Steps.{fields-not, fields-are, hex-refused, hex-bytes, hex-inside}
 
 -- an answer other than bytes
 no-bytes : (x : Hex) → OneOf (1 ∷ 2 ∷ []) (tagOf Rattle.text.proofs.Hex.the-type x) → (bytes : List ℕ) (k : List ℕ → List ℕ) → onHexRead x bytes k ≡ six
@@ -42,3 +46,19 @@ module _ (i : ℕ) (line : List ℕ) where
     hex-taken n e l f long =
         let s = some-bytes (field i line) n (length buffer) e in
         record { text = λ k. sym (hex-some (length buffer) n e k ∙ rw (f, bytes-are (field i line) n buffer e)); inside = omega (arith, s .2) }
+
+-- ---- a start and a message
+module _ (room i : ℕ) (line : List ℕ) {m : ℕ} (counted : m ≡ length (parts 9 line)) where
+  pub message-fields : (m ≡ i + 2 → ⊥) → (l : List ℕ) → ReadsMessage room i line l message.Refused
+  message-fields h l = record { text = λ k. sym (fields-not line counted (i + 2) _ h); inside = tt }
+
+  module _ (many : m ≡ i + 2) where
+    pub message-start : ((k : ℕ → List ℕ) → decimalField i line k ≡ six) → (l : List ℕ) → ReadsMessage room i line l message.Refused
+    message-start start l = record { text = λ k. sym (fields-are line counted (i + 2) _ many ∙ start _); inside = tt }
+
+    module _ (s : ℕ) (start : (k : ℕ → List ℕ) → decimalField i line k ≡ k s) {l : List ℕ} {r : HexField} (read : ReadsHex room (i + 1) line l r) where
+      pub message-none : r ≡ hex.Refused → ReadsMessage room i line l message.Refused
+      message-none e = record { text = λ k. sym (fields-are line counted (i + 2) _ many ∙ start _ ∙ hex-refused (i + 1) line read (k s) e); inside = tt }
+
+      pub message-some : {n : ℕ} → r ≡ hex.Bytes n → ReadsMessage room i line l (message.Message s n)
+      message-some e = record { text = λ k. sym (fields-are line counted (i + 2) _ many ∙ start _ ∙ hex-bytes (i + 1) line read e (k s)); inside = hex-inside (i + 1) line read e }

@@ -9,30 +9,23 @@ use Rattle.codec.specs.Reader.{Reader}
 use Rattle.text.specs.Parts.{parts}
 use Rattle.case_text.specs.declared.HexField.{HexField}
 use Rattle.case_text.specs.declared.HexField.the-variants as hex
+use Rattle.case_text.specs.declared.MessageField.{MessageField}
+use Rattle.case_text.specs.declared.MessageField.the-variants as message
 use Rattle.case_text.specs.Texts.{six, readText, writtenText, lengthText}
-use Rattle.case_text.specs.Fields.{decimalField}
 use Rattle.case_text.specs.Records.{readLine, writeLine, lengthLine}
-use Rattle.case_text.specs.Answers.{ReadsHex}
-use Rattle.case_text.proofs.Steps.{fields-not, fields-are, hex-refused, hex-bytes, lent-back}
+use Rattle.case_text.specs.Answers.{ReadsHex, ReadsMessage}
+use Rattle.case_text.proofs.Steps.{fields-not, fields-are, hex-refused, hex-bytes, lent-back, message-refused, message-is}
 
 -- ---- reading: start and message from the i-th field on
-module _ {A : Type 0} (print : A → List ℕ) (reader : Reader A) (i : ℕ) (line : List ℕ) {m : ℕ} (counted : m ≡ length (parts 9 line)) where
+module _ {A : Type 0} (print : A → List ℕ) (reader : Reader A) (i : ℕ) (line : List ℕ) {buffer : List ℕ} {r : MessageField} (read : ReadsMessage 8192 i line buffer r) where
   abbrev said : ℕ → List ℕ → List ℕ
   said start message = readText print (reader (drop start message))
 
-  pub read-fields : (m ≡ i + 2 → ⊥) → readLine print reader i line ≡ six
-  read-fields h = fields-not line counted (i + 2) _ h
+  pub read-refused : r ≡ message.Refused → readLine print reader i line ≡ six
+  read-refused e = message-refused i line read said e
 
-  module _ (many : m ≡ i + 2) where
-    pub read-start : ((k : ℕ → List ℕ) → decimalField i line k ≡ six) → readLine print reader i line ≡ six
-    read-start start = fields-are line counted (i + 2) _ many ∙ start _
-
-    module _ (s : ℕ) (start : (k : ℕ → List ℕ) → decimalField i line k ≡ k s) {buffer : List ℕ} {r : HexField} (read : ReadsHex 8192 (i + 1) line buffer r) where
-      pub read-message : r ≡ hex.Refused → readLine print reader i line ≡ six
-      read-message e = fields-are line counted (i + 2) _ many ∙ start _ ∙ hex-refused (i + 1) line read (said s) e
-
-      pub read-answer : {n : ℕ} {x : Answer A} → r ≡ hex.Bytes n → x ≡ reader (drop s (take n buffer)) → readLine print reader i line ≡ readText print x
-      read-answer e h = fields-are line counted (i + 2) _ many ∙ start _ ∙ hex-bytes (i + 1) line read e (said s) ∙ ap (readText print) (sym h)
+  pub read-answer : {s n : ℕ} {x : Answer A} → r ≡ message.Message s n → x ≡ reader (drop s (take n buffer)) → readLine print reader i line ≡ readText print x
+  read-answer e h = message-is i line read e said ∙ ap (readText print) (sym h)
 
 -- ---- writing: a value in the i-th field, then the lent buffer
 module _ {A : Type 0} (parse : ℕ → List ℕ → (A → List ℕ) → List ℕ) (format : Format A) (i : ℕ) (line : List ℕ) {m : ℕ} (counted : m ≡ length (parts 9 line)) where

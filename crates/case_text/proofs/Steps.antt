@@ -16,10 +16,12 @@ use Rattle.text.specs.declared.Decimal.{Decimal}
 use Rattle.text.specs.declared.Decimal.the-variants as decimal
 use Rattle.case_text.specs.declared.HexField.{HexField}
 use Rattle.case_text.specs.declared.HexField.the-variants as hex
+use Rattle.case_text.specs.declared.MessageField.{MessageField}
+use Rattle.case_text.specs.declared.MessageField.the-variants as message
 use Rattle.case_text.specs.declared.Op.{Op}
 use Rattle.case_text.specs.Texts.{six, ended}
-use Rattle.case_text.specs.Fields.{exactly, decimalField, hexFieldIn, pathField, opOf}
-use Rattle.case_text.specs.Answers.{PutsWithin, ReadsHex}
+use Rattle.case_text.specs.Fields.{exactly, decimalField, hexFieldIn, messageFieldIn, pathField, opOf}
+use Rattle.case_text.specs.Answers.{PutsWithin, ReadsHex, ReadsMessage}
 use Rattle.case_text.proofs.Puts.{within-same}
 
 -- an answer that was put answers a line whose text is the same
@@ -69,6 +71,22 @@ module _ {room : ℕ} (i : ℕ) (line : List ℕ) {buffer : List ℕ} {r : HexFi
     -- the bytes, lent and come back as ys
     pub lent-back : (ys : List ℕ) → length ys ≡ length (take n buffer) → take n (ys ++ drop n buffer) ≡ ys
     lent-back ys kept = take-at ys (drop n buffer) n (kept ∙ hex-long)
+
+-- ---- the i-th field and the next as a start and a message, which was read into a buffer
+module _ {room : ℕ} (i : ℕ) (line : List ℕ) {buffer : List ℕ} {r : MessageField} (read : ReadsMessage room i line buffer r) where
+  pub message-refused : (k : ℕ → List ℕ → List ℕ) → r ≡ message.Refused → messageFieldIn room i line k ≡ six
+  message-refused k e = rw e at (sym (read .text k))
+
+  module _ {s n : ℕ} (e : r ≡ message.Message s n) where
+    pub message-is : (k : ℕ → List ℕ → List ℕ) → messageFieldIn room i line k ≡ k s (take n buffer)
+    message-is k = rw e at (sym (read .text k))
+
+    pub message-inside : n ≤ length buffer
+    message-inside = rw e at (read .inside)
+
+    -- as long as it says
+    pub message-long : length (take n buffer) ≡ n
+    message-long = length-take-le n buffer message-inside
 
 -- ---- the operation, which was told from its field
 pub op-told : (line : List ℕ) {s : List ℕ} {r x : Op} → s ≡ partAt 9 1 line → r ≡ opOf s → r ≡ x → (f : Op → List ℕ) → f (opOf (partAt 9 1 line)) ≡ f x

@@ -1,7 +1,7 @@
 -- The fields of a line, parted by tabs. What is not in its form is answered 6.
 use mathlib.Core.List.{List, [], _∷_}
 use mathlib.Core.Bool.{cond}
-use Prim.Native.Nat.{ℕ}
+use Prim.Native.Nat.{ℕ, _+_}
 use lib.Dec.{eqb}
 use lib.ListN.{length}
 use Rattle.path.specs.declared.Path.{Path}
@@ -46,6 +46,13 @@ hexFieldIn room i line k = onHexRead (readHex (field i line) room) (unhex (field
 -- a message or a lent buffer: at most 8,192 bytes, all that a line can hold
 abbrev pub hexField : ℕ → List ℕ → (List ℕ → List ℕ) → List ℕ
 hexField i line k = hexFieldIn 8192 i line k
+
+-- a start and a message: the i-th field and the next, which is the last
+abbrev pub messageFieldIn : ℕ → ℕ → List ℕ → (ℕ → List ℕ → List ℕ) → List ℕ
+messageFieldIn room i line k = exactly (i + 2) line (decimalField i line (λ start. hexFieldIn room (i + 1) line (k start)))
+
+abbrev pub messageField : ℕ → List ℕ → (ℕ → List ℕ → List ℕ) → List ℕ
+messageField i line k = messageFieldIn 8192 i line k
 
 -- a path
 abbrev pub onPath : Found → Path → (Path → List ℕ) → List ℕ

@@ -8,15 +8,13 @@ use Rattle.codec.specs.Reader.{Reader}
 use Rattle.case_text.specs.declared.Op.{Op}
 use Rattle.case_text.specs.declared.Op.the-variants as op
 use Rattle.case_text.specs.Texts.{six, readText, lengthText, writtenText}
-use Rattle.case_text.specs.Fields.{exactly, decimalField, hexField}
+use Rattle.case_text.specs.Fields.{exactly, hexField, messageField}
 
 -- start and message from the i-th field on
 abbrev pub readLine : {A : Type 0} → (A → List ℕ) → Reader A → ℕ → List ℕ → List ℕ
 readLine print reader i line =
-    exactly (i + 2) line (
-    decimalField i line (λ start.
-    hexField (i + 1) line (λ message.
-    readText print (reader (drop start message)))))
+    messageField i line (λ start message.
+    readText print (reader (drop start message)))
 
 -- a value in the i-th field, then the lent buffer
 abbrev pub writeLine : {A : Type 0} → (ℕ → List ℕ → (A → List ℕ) → List ℕ) → Format A → ℕ → List ℕ → List ℕ

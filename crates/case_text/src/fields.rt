@@ -2,9 +2,11 @@
 ghost use mathlib.Core.Path.{_≡_};
 ghost use lib.ListN.{length};
 ghost use Rattle.case_text.specs.Fields.{opOf};
-ghost use Rattle.case_text.specs.Answers.{ReadsHex};
+ghost use Rattle.case_text.specs.Answers.{ReadsHex, ReadsMessage};
 use crate::HexField;
+use crate::MessageField;
 use crate::Op;
+use text::Decimal;
 use text::Hex;
 
 // The operation that a field names.
@@ -35,4 +37,26 @@ pub fn hex(line: &[u8], i: usize, buffer: &mut [u8]) -> HexField
         return HexField::Refused;
     };
     HexField::Bytes(n)
+}
+
+// Reads the i-th field of a line as a start, and the next, which is the last, as a message in hex, no longer than the buffer.
+pub fn message(line: &[u8], i: usize, buffer: &mut [u8]) -> MessageField
+    ensures { λ r. ⌜ ReadsMessage (length (now (buffer .entry))) i (now (line .entry)) (now (buffer .exit)) r ⌝ }
+{
+    let count = text::part_count(line, b'\t');
+    if count < 2 {
+        return MessageField::Refused;
+    }
+    if count - 2 != i {
+        return MessageField::Refused;
+    }
+    let start = text::read_decimal(text::part(line, b'\t', i));
+    let Decimal::Value(s) = start else {
+        return MessageField::Refused;
+    };
+    let bytes = hex(line, i + 1, buffer);
+    let HexField::Bytes(n) = bytes else {
+        return MessageField::Refused;
+    };
+    MessageField::Message(s as usize, n)
 }

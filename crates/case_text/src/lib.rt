@@ -17,6 +17,12 @@ pub enum HexField {
     Refused,
 }
 
+// Where a message is read from, and how many bytes it put into a buffer.
+pub enum MessageField {
+    Message(usize, usize),
+    Refused,
+}
+
 // The bytes of a message or a lent buffer: all that a line can hold.
 pub const MAX_BYTES: usize = 8192;
 
