@@ -1,5 +1,5 @@
 -- What stands beside a reader's answer, at its exits, and after bytes that were read before.
-use mathlib.Core.Path.{_≡_, sym, _∙_}
+use mathlib.Core.Path.{_≡_, refl, sym, _∙_}
 use mathlib.Core.List.{[], _∷_}
 use mathlib.Core.Logic.{⊎-elim}
 use Prim.Native.Nat.{ℕ, _+_}
@@ -44,3 +44,14 @@ bind-refused f (decoded.Consumed m) h g = absurd (⊎-elim (λ e. omega arith) (
 bind-refused f decoded.EndOfInput h g = rw (stays f 1 (g .answer)) g
 bind-refused f decoded.TheirFault h g = rw (stays f 2 (g .answer)) g
 bind-refused f decoded.Malformed h g = rw (stays f 5 (g .answer)) g
+
+-- an answer that is no value is the same refusal, whatever stands beside it
+pub record NoValue (d : Decoded) : Type 1 where
+  pub why : ℕ
+  pub beside : {A : Type 0} (a : A) → answerOf d a ≡ refused why
+
+pub no-value : (d : Decoded) → OneOf (1 ∷ 2 ∷ 3 ∷ []) (declared.tagOf Rattle.codec.proofs.Decoded.the-type d) → NoValue d
+no-value (decoded.Consumed m) h = absurd (⊎-elim (λ e. omega arith) (⊎-elim (λ e. omega arith) (λ e. omega arith)) h)
+no-value decoded.EndOfInput h = record { why = 1; beside = λ a. refl }
+no-value decoded.TheirFault h = record { why = 2; beside = λ a. refl }
+no-value decoded.Malformed h = record { why = 5; beside = λ a. refl }

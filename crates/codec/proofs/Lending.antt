@@ -2,13 +2,14 @@
 use mathlib.Core.Path.{_≡_, refl, sym, ap, _∙_}
 use mathlib.Core.List.{List, [], _∷_, _++_, append-assoc, append-nil}
 use mathlib.Core.Bool.{true, false}
-use Prim.Native.Nat.{ℕ, _+_, _-_, _≤_, _<_}
+use Prim.Native.Nat.{ℕ, suc, _+_, _-_, _≤_, _<_}
 use native.Mathlib.Omega.{arith}
 use lib.Dec.{leb}
 use borrow.Author.Tests.{le-leb, lt-leb}
 use borrow.Rule.Slice.PartMut.{putMid}
-use lib.ListN.{length, take, drop, set, length-append, length-drop, drop-of-length-le}
-use lib.Seq.{take-all, take-at, drop-at, drop-drop, length-take-le, take-append-add, drop-append-add}
+use native.Mathlib.Numerals.{add-one}
+use lib.ListN.{length, take, drop, getD, set, length-append, length-drop, drop-of-length-le}
+use lib.Seq.{take-all, take-at, take-suc, drop-at, drop-cons, drop-drop, set-at, length-take-le, take-append-add, drop-append-add}
 use mathlib.Core.Logic.{⊎-elim}
 use denote.Enum.Declared as declared
 use types.Run.{OneOf}
@@ -127,3 +128,10 @@ over-turn l a b at h =
 pub over-cons : (l bs : List ℕ) (x : ℕ) → 1 ≤ length l → take 1 (set l 0 x) ++ over bs (drop 1 (set l 0 x)) ≡ over (x ∷ bs) l
 over-cons [] bs x h = absurd (omega arith)
 over-cons (y ∷ l) bs x h = refl
+
+-- a copy of s over the start of d, one element more
+pub copy-next : (d s : List ℕ) (j : ℕ) → j < length d → j < length s → set (take j s ++ drop j d) j (getD s j 0) ≡ take (j + 1) s ++ drop (j + 1) d
+copy-next d s j hd hs =
+    let l : length (take j s) ≡ j = length-take-le j s (omega arith) in
+    rw (drop-cons d j 0 hd, set-at (take j s) (getD d j 0) (drop (suc j) d) (getD s j 0) j l, add-one j, take-suc s j 0 hs)
+    (sym (append-assoc (take j s) (getD s j 0 ∷ []) (drop (suc j) d)))

@@ -9,3 +9,5 @@ pub mod Writings
 pub mod Demand3
 pub mod Header
 pub mod Lending
+pub mod Tests
+pub mod SameBytes

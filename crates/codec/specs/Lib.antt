@@ -6,3 +6,4 @@ pub mod Reads
 pub mod Lawful
 pub mod Demand3
 pub mod Header
+pub mod Bytes

@@ -1,4 +1,11 @@
-// The answers that all layers share. Their numbers stand in specs/Answers.antt.
+// What all layers share: the answers of readers and writers, whose numbers stand in specs/Answers.antt, and functions on bytes.
+ghost use mathlib.Core.Path.{_≡_};
+ghost use Prim.Native.Nat.{_≤_};
+ghost use lib.ListN.{length};
+ghost use Rattle.codec.specs.Answers.{outcomeOf};
+ghost use Rattle.codec.specs.Bytes.{sameBytes};
+ghost use Rattle.codec.specs.Format.{allowed, putAnswer, putBuffer};
+ghost use Rattle.codec.specs.Header.{bit};
 
 // What a reader says of a record: how many bytes it took, or why it gives no value.
 pub enum Decoded {
@@ -14,4 +21,45 @@ pub enum Encoded {
     Outside,
     NoRoom,
     Malformed,
+}
+
+// A flag as the number in its bit.
+pub fn bit(flag: bool) -> u8
+    ensures { λ r. ⌜ (r ≡ bit flag) × (r ≤ 1) ⌝ }
+{
+    if flag {
+        return 1;
+    }
+    0
+}
+
+pub fn same_bytes(s: &[u8], t: &[u8]) -> bool
+    ensures { λ r. ⌜ r ≡ sameBytes (now (s .entry)) (now (t .entry)) ⌝ }
+{
+    if s.len() != t.len() {
+        return false;
+    }
+    let mut i: usize = 0;
+    while i < s.len() {
+        if s[i] != t[i] {
+            return false;
+        }
+        i += 1;
+    }
+    true
+}
+
+// Writes bytes as they are.
+pub fn put_bytes(buffer: &mut [u8], s: &[u8]) -> Encoded
+    ensures { λ r. ⌜ (outcomeOf r ≡ putAnswer allowed (now (s .entry)) (length (now (buffer .entry)))) × (now (buffer .exit) ≡ putBuffer allowed (now (s .entry)) (now (buffer .entry))) ⌝ }
+{
+    if buffer.len() < s.len() {
+        return Encoded::NoRoom;
+    }
+    let mut i: usize = 0;
+    while i < s.len() {
+        buffer[i] = s[i];
+        i += 1;
+    }
+    Encoded::Length(i)
 }

@@ -70,10 +70,10 @@ pub standalone-some : (canonic : Bool) (s : List ℕ) (i : ℕ) → i < length s
 standalone-some canonic s i h = rw (drop-cons s i 0 h, add-one i)
 
 -- a refusal is the same, one byte later
-pub no-value : (x : DecodedU64) (k : ℕ) → OneOf (1 ∷ 2 ∷ []) (declared.tagOf Rattle.compact_u64.proofs.DecodedU64.the-type x) → shift k (numberAnswer x) ≡ numberAnswer x
-no-value (decoded.Value n u) k h = absurd (⊎-elim (λ e. omega arith) (λ e. omega arith) h)
-no-value decoded.EndOfInput k h = refl
-no-value decoded.TheirFault k h = refl
+pub refusal-shifted : (x : DecodedU64) (k : ℕ) → OneOf (1 ∷ 2 ∷ []) (declared.tagOf Rattle.compact_u64.proofs.DecodedU64.the-type x) → shift k (numberAnswer x) ≡ numberAnswer x
+refusal-shifted (decoded.Value n u) k h = absurd (⊎-elim (λ e. omega arith) (λ e. omega arith) h)
+refusal-shifted decoded.EndOfInput k h = refl
+refusal-shifted decoded.TheirFault k h = refl
 
 -- a number that is no value, and its refusal as a record's
 pub record Refused {A : Type 0} (blank : A) (x : DecodedU64) : Type 0 where

@@ -14,7 +14,7 @@ use Rattle.path.specs.declared.Appended.the-variants as appended
 use Rattle.path.specs.Limits.{totalOf, PathOk}
 use Rattle.path.specs.Record.{sumOf, used, joined, componentsOf, pathFrom, wellFormed, lengthAt}
 use Rattle.path.specs.Builder.{builderFrom, isBuilder, fitsAfter, growth, appendComponent, grown, pushComponent, Extendable}
-use Rattle.path.proofs.Tests.{and-left, and-right}
+use Rattle.codec.proofs.Tests.{and-left, and-right}
 use Rattle.path.proofs.Lists.{drop-zeros, length-joined}
 use Rattle.path.proofs.Limits.{total-append, total-snoc, total-grows}
 use Rattle.path.proofs.Record.{well-formed, formed-well, remade, made, count-of, components-of, sum-of}

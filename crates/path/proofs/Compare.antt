@@ -12,10 +12,12 @@ use Rattle.path.specs.declared.Path.{Path}
 use Rattle.path.specs.declared.ComponentCount.the-variants as count
 use Rattle.path.specs.declared.Compared.the-variants as compared
 use Rattle.path.specs.Record.{componentsOf, wellFormed, TypedPath, lengthAt, startAt}
-use Rattle.path.specs.Prefix.{sameBytes, shared, isPrefix, samePath}
+use Rattle.codec.specs.Bytes.{sameBytes}
+use Rattle.codec.proofs.SameBytes.{same-refl, different}
+use Rattle.path.specs.Prefix.{shared, isPrefix, samePath}
 use Rattle.path.specs.Answers.{commonPrefix, verdict, prefixOf, equalTo}
-use Rattle.path.proofs.Tests.{and-left, and-right}
-use Rattle.path.proofs.Prefix.{same-refl, different, shared-nil, shared-sym}
+use Rattle.codec.proofs.Tests.{and-left, and-right}
+use Rattle.path.proofs.Prefix.{shared-nil, shared-sym}
 use Rattle.path.proofs.Components.{Formed, formed, bytesAt, count-is, next-start, ends, component}
 
 -- ---- parts of two lists, from at on: i elements that agree and one more; parts that differ

@@ -10,7 +10,7 @@ use lib.ListN.{length, take, drop, length-take, take-append-drop}
 use lib.Seq.{take-take}
 use Rattle.codec.specs.Writings.{All}
 use Rattle.path.specs.Limits.{totalOf, limits, allShort, pathOk, Component, PathOk, TypedComponents}
-use Rattle.path.proofs.Tests.{and-left, and-right}
+use Rattle.codec.proofs.Tests.{and-left, and-right}
 
 -- ---- totals
 pub total-append : (a b : List (List ℕ)) → totalOf (a ++ b) ≡ totalOf a + totalOf b

@@ -8,11 +8,11 @@ use native.Mathlib.Numerals.{add-one}
 use native.Mathlib.Omega.{arith}
 use lib.Dec.{leb}
 use borrow.Author.Tests.{leb-true}
-use lib.ListN.{length, take, drop, getD, set, replicate, length-append, length-drop, drop-of-length-le, take-append-drop}
-use lib.Seq.{take-append-seam, drop-append-seam, length-take-le, take-add, take-suc, take-all, drop-cons, drop-drop, set-at, paste}
+use lib.ListN.{length, take, drop, getD, replicate, length-append, length-drop, drop-of-length-le, take-append-drop}
+use lib.Seq.{take-append-seam, drop-append-seam, length-take-le, take-add, take-all, drop-cons, drop-drop, paste}
 use Rattle.path.specs.Limits.{totalOf}
 use Rattle.path.specs.Record.{sumOf, joined, cutUp, allAtMost}
-use Rattle.path.proofs.Tests.{and-left, and-right}
+use Rattle.codec.proofs.Tests.{and-left, and-right}
 
 -- ---- sums
 pub sum-snoc : (ls : List ℕ) (n : ℕ) → sumOf (ls ++ (n ∷ [])) ≡ sumOf ls + n
@@ -113,13 +113,6 @@ take-more (suc i) (c ∷ cs) x rest e = ap (λ (l : List (List ℕ)). c ∷ l) (
 -- a part of an array of k elements that goes to its end
 pub rest-part : (n k : ℕ) (l : List ℕ) → length l ≡ k → take (k - n) (drop n l) ≡ drop n l
 rest-part n k l h = take-all (k - n) (drop n l) (rw length-drop (omega arith))
-
--- a copy of s over the start of d, one element more
-pub copy-next : (d s : List ℕ) (j : ℕ) → j < length d → j < length s → set (take j s ++ drop j d) j (getD s j 0) ≡ take (j + 1) s ++ drop (j + 1) d
-copy-next d s j hd hs =
-    let l : length (take j s) ≡ j = length-take-le j s (omega arith) in
-    rw (drop-cons d j 0 hd, set-at (take j s) (getD d j 0) (drop (suc j) d) (getD s j 0) j l, add-one j, take-suc s j 0 hs)
-    (sym (append-assoc (take j s) (getD s j 0 ∷ []) (drop (suc j) d)))
 
 -- a copy of the whole of s into d
 pub paste-whole : (d s : List ℕ) (at n : ℕ) → n ≡ length s → paste d at s n ≡ take at d ++ (s ++ drop (at + length s) d)

@@ -8,26 +8,10 @@ use lib.Dec.{eqb}
 use borrow.Author.Tests.{eqb-true, eqb-false, eq-eqb, ne-eqb}
 use lib.ListN.{length, take}
 use lib.Seq.{take-all}
-use Rattle.path.specs.Prefix.{sameBytes, shared, isPrefix, samePath}
-use Rattle.path.proofs.Tests.{and-left, and-right, and-not}
-
--- ---- bytes
-pub same-eq : (s t : List ℕ) → sameBytes s t ≡ true → s ≡ t
-same-eq [] [] e = refl
-same-eq [] (b ∷ t) e = let z : false ≡ true = e in cc
-same-eq (a ∷ s) [] e = let z : false ≡ true = e in cc
-same-eq (a ∷ s) (b ∷ t) e = cc (eqb-true a b (and-left _ _ e), same-eq s t (and-right (eqb a b) _ e))
-
-pub same-refl : (a : List ℕ) → sameBytes a a ≡ true
-same-refl [] = refl
-same-refl (x ∷ a) = rw (eq-eqb x x refl) (same-refl a)
-
-pub different : (a b : List ℕ) → (a ≡ b → ⊥) → sameBytes a b ≡ false
-different [] [] h = absurd (h refl)
-different [] (y ∷ b) h = refl
-different (x ∷ a) [] h = refl
-different (x ∷ a) (y ∷ b) h =
-    and-not (eqb x y) (sameBytes a b) (λ e. different a b (λ q. h (let g : x ≡ y = eqb-true x y e in cc)))
+use Rattle.codec.specs.Bytes.{sameBytes}
+use Rattle.codec.proofs.SameBytes.{same-eq, same-refl}
+use Rattle.path.specs.Prefix.{shared, isPrefix, samePath}
+use Rattle.codec.proofs.Tests.{and-left, and-right}
 
 -- ---- components
 pub shared-nil : (a : List (List ℕ)) → shared a [] ≡ 0

@@ -14,7 +14,7 @@ use Rattle.codec.proofs.Bytes.{AllBytes·drop, AllBytes·take, AllBytes·append
 use Rattle.path.specs.declared.Path.{Path}
 use Rattle.path.specs.Limits.{totalOf, Component, PathOk}
 use Rattle.path.specs.Record.{sumOf, joined, cutUp, used, componentsOf, pathFrom, allAtMost, wellFormed, TypedPath}
-use Rattle.path.proofs.Tests.{and-left, and-right}
+use Rattle.codec.proofs.Tests.{and-left, and-right}
 use Rattle.path.proofs.Lists.{all-zeros, zero-rest, cut, cut-joined, length-joined, sum-lengths}
 
 -- ---- a well-formed record, by its parts

@@ -14,7 +14,8 @@ use Rattle.codec.specs.Answers.{AllBytes}
 use Rattle.path.specs.declared.Path.{Path}
 use Rattle.path.specs.Record.{TypedPath}
 
-each-byte : (bs : List ℕ) (us : List Val) → shadow (each ℕ (UInt w8 .own) (map (λ (b : ℕ). b) bs) us) → AllBytes bs
+-- the elements of an array of bytes
+pub each-byte : (bs : List ℕ) (us : List Val) → shadow (each ℕ (UInt w8 .own) (map (λ (b : ℕ). b) bs) us) → AllBytes bs
 each-byte [] us h i = omega arith
 each-byte (b ∷ bs) [] h i = absurd h
 each-byte (b ∷ bs) (u ∷ us) h zero = omega (arith, h .0 .1)

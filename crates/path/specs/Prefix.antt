@@ -4,12 +4,7 @@ use mathlib.Core.Bool.{Bool, true, false, cond, _&&_}
 use Prim.Native.Nat.{ℕ, suc}
 use lib.Dec.{eqb}
 use lib.ListN.{length}
-
-abbrev pub sameBytes : List ℕ → List ℕ → Bool
-sameBytes [] [] = true
-sameBytes [] (b ∷ t) = false
-sameBytes (a ∷ s) [] = false
-sameBytes (a ∷ s) (b ∷ t) = eqb a b && sameBytes s t
+use Rattle.codec.specs.Bytes.{sameBytes}
 
 -- how many components the longest common prefix has
 abbrev pub shared : List (List ℕ) → List (List ℕ) → ℕ

@@ -18,12 +18,8 @@ fn put(buffer: &mut [u8], s: &[u8]) -> usize
     requires { ⌜ length (now s) ≤ length (now buffer) ⌝ }
     ensures { λ r. ⌜ (r ≡ length (now (s .entry))) × (now (buffer .exit) ≡ over (now (s .entry)) (now (buffer .entry))) ⌝ }
 {
-    let mut i: usize = 0;
-    while i < s.len() {
-        buffer[i] = s[i];
-        i += 1;
-    }
-    i
+    codec::put_bytes(buffer, s);
+    s.len()
 }
 
 // A component after its length.

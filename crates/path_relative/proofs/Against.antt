@@ -18,7 +18,7 @@ use Rattle.compact_u64.specs.Laws.{StandaloneAs}
 use Rattle.compact_u64.proofs.Standalone.{standalone-reads, standalone-relaxes, standalone-bounded, standalone-short}
 use Rattle.path.specs.Limits.{totalOf, limits, Component, PathOk}
 use Rattle.path.specs.Prefix.{shared}
-use Rattle.path.proofs.Tests.{and-left, and-right}
+use Rattle.codec.proofs.Tests.{and-left, and-right}
 use Rattle.path.proofs.Limits.{total-append, total-split, all-append, all-take, all-drop, limits-total, limits-count, limits-of}
 use Rattle.path.proofs.Prefix.{Shares, shares}
 use Rattle.path_codec.specs.Suffix.{suffixBytes}

@@ -16,7 +16,7 @@ use Rattle.path.specs.declared.ComponentCount.the-variants as count
 use Rattle.path.specs.Record.{componentsOf, wellFormed, TypedPath}
 use Rattle.path.specs.Prefix.{shared, isPrefix}
 use Rattle.path.specs.Answers.{commonPrefix, prefixOf, verdict}
-use Rattle.path.proofs.Tests.{and-left, and-right}
+use Rattle.codec.proofs.Tests.{and-left, and-right}
 use Rattle.path.proofs.Components.{Formed, formed, count-is, rest-count, rest-small}
 use Rattle.path.proofs.Prefix.{shares}
 use Rattle.path_codec.specs.Suffix.{suffixBytes}

@@ -9,7 +9,8 @@ use borrow.Author.Tests.{ne-eqb}
 use lib.ListN.{length}
 use Rattle.io.specs.Digits.{glyph}
 use Rattle.codec.specs.Writings.{All}
-use Rattle.text.specs.Parts.{parts, sameText}
+use Rattle.codec.specs.Bytes.{sameBytes}
+use Rattle.text.specs.Parts.{parts}
 use Rattle.text.specs.Hex.{unhex, hexText}
 use Rattle.text.proofs.Back.{hex-back}
 use Rattle.path.specs.declared.Path.{Path}
@@ -62,10 +63,10 @@ components-back c cs h =
     rw (text-parts c cs, b .0, b .1, field-ok (c ∷ cs) (ok-path (c ∷ cs) h))
 
 -- ---- no components' text is `-`
-no-dash : (d : ℕ) (s : List ℕ) → sameText (glyph d ∷ s) (45 ∷ []) ≡ false
+no-dash : (d : ℕ) (s : List ℕ) → sameBytes (glyph d ∷ s) (45 ∷ []) ≡ false
 no-dash d s = rw (ne-eqb (glyph d) 45 (λ e. omega (arith, digit d, e)))
 
-other-text : (c : List ℕ) (cs : List (List ℕ)) → sameText (componentsText (c ∷ cs)) (45 ∷ []) ≡ false
+other-text : (c : List ℕ) (cs : List (List ℕ)) → sameBytes (componentsText (c ∷ cs)) (45 ∷ []) ≡ false
 unfolding componentsText hexText tailText
 other-text [] [] = refl
 other-text [] (d ∷ cs) = refl

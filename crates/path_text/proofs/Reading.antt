@@ -21,7 +21,7 @@ use Rattle.path.specs.declared.Growth.{Growth}
 use Rattle.path.specs.Limits.{totalOf, limits, allShort, pathOk}
 use Rattle.path.specs.Record.{pathFrom}
 use Rattle.path.specs.Builder.{builderFrom, fitsAfter, growth, grown, pushComponent}
-use Rattle.path.proofs.Tests.{and-left, and-right}
+use Rattle.codec.proofs.Tests.{and-left, and-right}
 use Rattle.path.proofs.Limits.{total-append, total-snoc, limits-total, limits-count, limits-of}
 use Rattle.path.proofs.Builder.{Fitting, fitting, pushed, built-count, built-total}
 use Rattle.path_text.specs.PathText.{readField, refusedField, allHex, fieldOf, readTexts, pushText}

@@ -2,7 +2,8 @@
 use mathlib.Core.List.{List, [], _∷_, _++_, map}
 use mathlib.Core.Bool.{Bool, true, false, cond}
 use Prim.Native.Nat.{ℕ}
-use Rattle.text.specs.Parts.{parts, sameText}
+use Rattle.codec.specs.Bytes.{sameBytes}
+use Rattle.text.specs.Parts.{parts}
 use Rattle.text.specs.Hex.{isHex, unhex, hexText}
 use Rattle.path.specs.declared.Path.{Path}
 use Rattle.path.specs.declared.PathBuilder.{PathBuilder}
@@ -64,7 +65,7 @@ readComponentsText s = readTexts [] (parts 47 s)
 
 -- a path
 unfoldable pub readPathText : List ℕ → PathField
-readPathText s = cond (sameText s (45 ∷ [])) (readField (pathFrom [])) (readComponentsText s)
+readPathText s = cond (sameBytes s (45 ∷ [])) (readField (pathFrom [])) (readComponentsText s)
 
 -- a builder grown by a component's text: what is no hex does not fit
 unfoldable pub pushText : PathBuilder → List ℕ → Growth

@@ -1,7 +1,6 @@
 pub mod Tests
 pub mod Buffer
 pub mod Parts
-pub mod SameText
 pub mod HexSteps
 pub mod HexAnswers
 pub mod DecimalSteps

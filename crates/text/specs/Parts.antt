@@ -1,6 +1,6 @@
 -- A text taken apart at a byte.
 use mathlib.Core.List.{List, [], _∷_}
-use mathlib.Core.Bool.{Bool, true, false, cond}
+use mathlib.Core.Bool.{cond}
 use Prim.Native.Nat.{ℕ}
 use lib.Dec.{eqb}
 use lib.ListN.{getD}
@@ -23,10 +23,3 @@ parts x (b ∷ s) = cond (eqb b x) ([] ∷ parts x s) (onFirst b (parts x s))
 -- the i-th of them, from 0; no bytes where there is none
 unfoldable pub partAt : ℕ → ℕ → List ℕ → List ℕ
 partAt x i s = getD (parts x s) i []
-
--- two texts are the same
-abbrev pub sameText : List ℕ → List ℕ → Bool
-sameText [] [] = true
-sameText [] (b ∷ t) = false
-sameText (a ∷ s) [] = false
-sameText (a ∷ s) (b ∷ t) = cond (eqb a b) (sameText s t) false

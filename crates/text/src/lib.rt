@@ -5,7 +5,7 @@ ghost use Prim.Native.Nat.{_+_, _*_, _≤_, _<_};
 ghost use lib.ListN.{length};
 ghost use Rattle.io.specs.Digits.{glyph};
 ghost use Rattle.codec.specs.Format.{over};
-ghost use Rattle.text.specs.Parts.{before, parts, partAt, sameText};
+ghost use Rattle.text.specs.Parts.{before, parts, partAt};
 ghost use Rattle.text.specs.Hex.{hexValue, isHex, unhex, hexText};
 ghost use Rattle.text.specs.Decimal.{decimalValue, decimalText};
 ghost use Rattle.text.specs.Buffer.{overAt, putAt, placeAfter};
@@ -79,23 +79,6 @@ pub fn part(s: &[u8], x: u8, i: usize) -> &[u8]
     let rest = &s[at..];
     let k = find(rest, x);
     &rest[..k]
-}
-
-// Whether two texts are the same.
-pub fn same(s: &[u8], t: &[u8]) -> bool
-    ensures { λ r. ⌜ r ≡ sameText (now (s .entry)) (now (t .entry)) ⌝ }
-{
-    if s.len() != t.len() {
-        return false;
-    }
-    let mut i: usize = 0;
-    while i < s.len() {
-        if s[i] != t[i] {
-            return false;
-        }
-        i += 1;
-    }
-    true
 }
 
 // 10 for a byte that is no digit.

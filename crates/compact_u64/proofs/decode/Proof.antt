@@ -7,7 +7,7 @@ use lib.ListN.{drop, length-drop}
 use Rattle.codec.specs.Reader.{shift}
 use Rattle.compact_u64.specs.Number.{readStandalone}
 use Rattle.compact_u64.specs.Answers.{numberAnswer}
-use Rattle.compact_u64.proofs.Exits.{standalone-none, standalone-some, no-value}
+use Rattle.compact_u64.proofs.Exits.{standalone-none, standalone-some, refusal-shifted}
 use borrow.Author.Needs.{needs}
 use Rattle.compact_u64.proofs.decode.Statement.{statement}
 use Rattle.compact_u64.proofs.decode.Tie as tie
@@ -31,7 +31,7 @@ enum-known-number : tie.Need-enum-known-number
 enum-known-number c = search needs
 
 returns-2 : tie.Need-returns-2
-returns-2 c = sym (told (c .before) ∙ no-value (c .before .relative-decode .result) 1 (c .match .keys2))
+returns-2 c = sym (told (c .before) ∙ refusal-shifted (c .before .relative-decode .result) 1 (c .match .keys2))
 
 add-t8 : tie.Need-add-t8
 add-t8 c =

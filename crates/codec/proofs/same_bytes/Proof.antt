@@ -1,22 +1,22 @@
 use Prim.Native.Nat.{_-_, _≤_}
-use mathlib.Core.Path.{_≡_, refl, _∙_, sym}
+use mathlib.Core.Path.{_≡_, refl, sym, ap, _∙_}
 use denote.Ref.{now}
 use native.Mathlib.Omega.{arith}
 use borrow.Author.Tests.{eq-eqb, ne-eqb}
 use lib.ListN.{length, drop, getD}
-use Rattle.text.specs.Parts.{sameText}
-use Rattle.text.proofs.SameText.{same-next, same-end, other-length}
-use Rattle.text.proofs.same.Statement.{statement}
-use Rattle.text.proofs.same.Tie as tie
+use Rattle.codec.specs.Bytes.{sameBytes}
+use Rattle.codec.proofs.SameBytes.{same-next, same-end, different}
+use Rattle.codec.proofs.same_bytes.Statement.{statement}
+use Rattle.codec.proofs.same_bytes.Tie as tie
 
 abbrev Inv-loop : tie.InvT-loop
-Inv-loop s t i₀ i = (i ≤ length s) × (length s ≡ length t) × (sameText s t ≡ sameText (drop i s) (drop i t))
+Inv-loop s t i₀ i = (i ≤ length s) × (length s ≡ length t) × (sameBytes s t ≡ sameBytes (drop i s) (drop i t))
 
 abbrev μ-loop : tie.MeasureT-loop
 μ-loop s t i₀ i = length s - i
 
 returns : tie.Need-returns Inv-loop μ-loop
-returns c = sym (other-length (now (c .before .args .s)) (now (c .before .args .t)) (λ e. omega arith))
+returns c = sym (different (now (c .before .args .s)) (now (c .before .args .t)) (λ e. omega (arith, ap length e)))
 
 loop-holds : tie.Need-loop-holds Inv-loop μ-loop
 loop-holds c = (omega arith, omega arith, refl)
@@ -56,8 +56,8 @@ returns-3 c =
     let l = c .before .loop in
     sym (l .inv .2 ∙ same-end (now (c .before .before .before .args .s)) (now (c .before .before .before .args .t)) (l .i) (omega arith) (omega arith))
 
-pub same-spec : {M : Type 1} → statement M
-same-spec =
+pub same-bytes-spec : {M : Type 1} → statement M
+same-bytes-spec =
     tie.close
     (tie.spec
     Inv-loop
