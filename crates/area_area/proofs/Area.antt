@@ -1,0 +1,186 @@
+-- The laws of an area against an area, on plain values.
+use mathlib.Core.Path.{_≡_, refl, _∙_}
+use mathlib.Core.List.{List, [], _∷_, _++_}
+use mathlib.Core.Bool.{Bool, true, false, cond, _&&_, _||_, not}
+use Prim.Native.Nat.{ℕ}
+use native.Mathlib.Omega.{arith}
+use lib.Dec.{eqb}
+use borrow.Author.Tests.{not-true}
+use Rattle.codec.specs.Answers.{refused}
+use Rattle.codec.specs.Header.{readHeader, HeaderAs}
+use Rattle.codec.specs.Reader.{oneByte}
+use Rattle.codec.specs.Reads.{Reads, ReadsBack, Relaxes, Bounded, Tested, Mapped, Joined}
+use Rattle.codec.proofs.Tests.{and-left, and-right}
+use Rattle.codec.proofs.Header.{header-reads}
+use Rattle.codec.proofs.Readers.{reads-as, then-reads, guard-reads, mapped-reads}
+use Rattle.codec.proofs.Relaxes.{relaxes-back, relaxes-self, then-relaxes, guard-relaxes, mapped-relaxes}
+use Rattle.codec.proofs.Bounded.{oneByte-bounded, then-bounded, guard-bounded, mapped-bounded}
+use Rattle.compact_u64.specs.Number.{minTag}
+use Rattle.compact_u64.proofs.Tags.{min-tag-fits}
+use Rattle.path.specs.Limits.{PathOk}
+use Rattle.path.specs.Prefix.{isPrefix}
+use Rattle.path.proofs.Prefix.{prefix-takes, takes-prefix}
+use Rattle.path_relative.specs.Extension.{extensionBytes, ExtensionAs}
+use Rattle.path_relative.proofs.Extension.{extension-reads, extension-relaxes, extension-bounded}
+use Rattle.grouping.specs.declared.RangeEnd.{RangeEnd}
+use Rattle.grouping.specs.declared.RangeEnd.the-variants.{Closed, Open}
+use Rattle.grouping.specs.Range.{TypedRange, endValue, isOpen, bounds, includesRange}
+use Rattle.grouping.specs.Area.{AreaValue, TypedSubspace, includesSubspace, includesArea, liesInside}
+use Rattle.time_relative.specs.Difference.{endDifference}
+use Rattle.area_area.specs.declared.Header.{Header}
+use Rattle.area_area.specs.Header.{unpackHeader, packHeader, HeaderFits, spareBits}
+use Rattle.area_area.specs.Area.{idWritten, headerOf, subspaceBytes, timesBytes, areaBytes, valueFrom, readSubspace, readTimes, readParts, readArea}
+use Rattle.area_area.specs.Relations.{SubspaceAs, TimesAs, AreaAs}
+use Rattle.area_area.proofs.HeaderLayout.{header-layout}
+use Rattle.area_area.proofs.Subspace.{subspace-reads, subspace-relaxes, subspace-bounded}
+use Rattle.area_area.proofs.Times.{times-reads, times-relaxes, times-bounded}
+
+-- ---- the header that writing gives
+pub header-fits : (r a : AreaValue) → HeaderFits (headerOf r a)
+unfolding headerOf
+header-fits r a = record { start = min-tag-fits 2 _ (omega arith); end = min-tag-fits 2 _ (omega arith) }
+
+header-spares : (r a : AreaValue) → not (spareBits (headerOf r a)) ≡ true
+unfolding headerOf spareBits minTag
+header-spares r a = go (a .times .end)
+  where
+    go : (end : RangeEnd) → not (isOpen end && (endDifference (r .times) end .added || not (eqb (minTag 2 (endDifference (r .times) end .difference)) 0))) ≡ true
+    go (Closed x) = refl
+    go Open = refl
+
+header-is : (r a : AreaValue) (h : Header) → idWritten (r .subspace) (a .subspace) ≡ h .«id_written» → {e : List ℕ} → TimesAs (r .times) h (a .times) e → headerOf r a ≡ h
+unfolding headerOf
+header-is r a h i t = rw (i, t .endOpen, t .startAdded, t .endAdded, t .startTag, t .endTag)
+
+-- ---- lies inside, part by part
+pub record Inside (r a : AreaValue) : Type 0 where
+  pub subspace : includesSubspace (r .subspace) (a .subspace) ≡ true
+  pub prefix : isPrefix (r .path) (a .path) ≡ true
+  pub included : includesRange (r .times) (a .times) ≡ true
+  pub start : bounds (r .times) (a .times .start) ≡ true
+  pub end : bounds (r .times) (endValue (a .times .end)) ≡ true
+
+pub inside : (r a : AreaValue) → liesInside r a ≡ true → Inside r a
+unfolding liesInside includesArea
+inside r a e =
+    let i = and-left (includesArea r a) _ e in
+    let b = and-right (includesArea r a) _ e in
+    let p = and-right (includesSubspace (r .subspace) (a .subspace)) _ i in
+    record {
+      subspace = and-left _ _ i;
+      prefix = and-left _ _ p;
+      included = and-right (isPrefix (r .path) (a .path)) _ p;
+      start = and-left _ _ b;
+      end = and-right (bounds (r .times) (a .times .start)) _ b;
+    }
+
+inside-of : (r a : AreaValue) → Inside r a → liesInside r a ≡ true
+unfolding liesInside includesArea
+inside-of r a i = rw (i .subspace, i .prefix, i .included, i .start, i .end)
+
+-- ---- reading
+module _ (r : AreaValue) where
+  PartsRel : Header → AreaValue → List ℕ → Type 0
+  PartsRel h = Joined (SubspaceAs (r .subspace) (h .«id_written»)) (λ s. Joined (TimesAs (r .times) h) (λ t. Mapped (valueFrom s t) (ExtensionAs (r .path))))
+
+  Rel : AreaValue → List ℕ → Type 0
+  Rel = Joined (HeaderAs HeaderFits packHeader) (λ h. Tested (λ a. not (spareBits h)) (PartsRel h))
+
+  area-there : (a : AreaValue) (e : List ℕ) → Rel a e → AreaAs r a e
+  unfolding Rel PartsRel areaBytes
+  area-there a e j =
+      let h = j .value in
+      let p = j .second .1 in
+      let s = p .first in
+      let t = p .second .first in
+      let m = p .second .second in
+      let x = m .stands in
+      let v = valueFrom (p .value) (p .second .value) (m .value) in
+      let is : headerOf r v ≡ h = header-is r v h (s .id) t in
+      rw (← (m .named)) (record {
+        typed = s .typed;
+        path = x .ok;
+        inside = inside-of r v (record { subspace = s .inside; prefix = takes-prefix (r .path) (m .value) (x .extends); included = t .included; start = t .start; end = t .end });
+        bytes = j .whole ∙ rw (j .first .1, p .whole, p .second .whole, s .bytes, t .bytes, x .bytes, is);
+      })
+
+  area-back : (a : AreaValue) (e : List ℕ) → AreaAs r a e → Rel a e
+  unfolding Rel PartsRel areaBytes headerOf
+  area-back a e x =
+      let i = inside r a (x .inside) in
+      let h = headerOf r a in
+      record {
+        value = h;
+        front = packHeader h ∷ [];
+        rear = subspaceBytes (r .subspace) (a .subspace) ++ (timesBytes (r .times) (a .times) ++ extensionBytes (r .path) (a .path));
+        whole = x .bytes;
+        first = (header-fits r a, refl);
+        second = (
+          header-spares r a,
+          record {
+            value = a .subspace;
+            front = subspaceBytes (r .subspace) (a .subspace);
+            rear = timesBytes (r .times) (a .times) ++ extensionBytes (r .path) (a .path);
+            whole = refl;
+            first = record { typed = x .typed; inside = i .subspace; id = refl; bytes = refl };
+            second = record {
+              value = a .times;
+              front = timesBytes (r .times) (a .times);
+              rear = extensionBytes (r .path) (a .path);
+              whole = refl;
+              first = record {
+                startAdded = refl;
+                startTag = refl;
+                endOpen = refl;
+                endAdded = refl;
+                endTag = refl;
+                included = i .included;
+                start = i .start;
+                end = i .end;
+                bytes = refl;
+              };
+              second = record { value = a .path; named = refl; stands = record { ok = x .path; extends = prefix-takes (r .path) (a .path) (i .prefix); bytes = refl } };
+            };
+          },
+        );
+      }
+
+  pub area-reads : TypedSubspace (r .subspace) → TypedRange (r .times) → PathOk (r .path) → Reads (readArea true r) (AreaAs r)
+  unfolding readArea readParts Rel PartsRel
+  area-reads sub times path = reads-as _ _ _
+      (then-reads (readHeader unpackHeader) (HeaderAs HeaderFits packHeader) _ _ (header-reads HeaderFits unpackHeader packHeader header-layout) (λ h e x.
+      guard-reads (not (spareBits h)) _ _ (λ ok.
+      then-reads (readSubspace true (r .subspace) (h .«id_written»)) _ _ _ (subspace-reads (r .subspace) (h .«id_written») sub) (λ s e y.
+      then-reads (readTimes true (r .times) h) _ _ _ (times-reads (r .times) h times (not-true (spareBits h) ok)) (λ t e z.
+      mapped-reads (valueFrom s t) _ _ (extension-reads (r .path) path))))))
+      area-there area-back
+
+  pub area-relaxes : Relaxes (readArea true r) (readArea false r)
+  unfolding readArea readParts
+  area-relaxes =
+      then-relaxes (readHeader unpackHeader) (readHeader unpackHeader) _ _ (relaxes-self (readHeader unpackHeader)) (λ h.
+      guard-relaxes (not (spareBits h)) true _ _ (λ ok. refl) (λ ok.
+      then-relaxes (readSubspace true (r .subspace) (h .«id_written»)) (readSubspace false (r .subspace) (h .«id_written»)) _ _ (subspace-relaxes (r .subspace) (h .«id_written»)) (λ s.
+      then-relaxes (readTimes true (r .times) h) (readTimes false (r .times) h) _ _ (times-relaxes (r .times) h) (λ t.
+      mapped-relaxes (valueFrom s t) _ _ (extension-relaxes (r .path))))))
+
+  pub parts-bounded : (h : Header) (canonic : Bool) → Bounded (readParts canonic r h)
+  unfolding readParts
+  parts-bounded h canonic =
+      then-bounded (readSubspace canonic (r .subspace) (h .«id_written»)) _ (subspace-bounded (r .subspace) (h .«id_written») canonic) (λ s.
+      then-bounded (readTimes canonic (r .times) h) _ (times-bounded (r .times) h canonic) (λ t.
+      mapped-bounded (valueFrom s t) _ (extension-bounded (r .path) canonic)))
+
+  pub area-bounded : (canonic : Bool) → Bounded (readArea canonic r)
+  unfolding readArea
+  area-bounded canonic =
+      then-bounded (readHeader unpackHeader) _ (mapped-bounded unpackHeader oneByte oneByte-bounded) (λ h.
+      guard-bounded (cond canonic (not (spareBits h)) true) _ (parts-bounded h canonic))
+
+  pub area-empty : (canonic : Bool) → readArea canonic r [] ≡ refused 1
+  unfolding readArea
+  area-empty canonic = refl
+
+  pub area-reads-back : TypedSubspace (r .subspace) → TypedRange (r .times) → PathOk (r .path) → (canonic : Bool) → ReadsBack (readArea canonic r) (AreaAs r)
+  area-reads-back sub times path true = area-reads sub times path .back
+  area-reads-back sub times path false = relaxes-back _ _ _ area-relaxes (area-reads sub times path .back)

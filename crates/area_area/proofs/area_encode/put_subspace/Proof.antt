@@ -1,0 +1,51 @@
+use mathlib.Core.Path.{sym, ap, _∙_}
+use native.Mathlib.Omega.{arith}
+use mathlib.Core.List.{List}
+use Prim.Native.Nat.{ℕ}
+use denote.Ref.{now}
+use lib.ListN.{length}
+use Rattle.codec.specs.Format.{over}
+use Rattle.codec.proofs.Lending.{put-over}
+use Rattle.grouping.proofs.Typed.{typed-id}
+use Rattle.area_area.proofs.Writing.{written-bytes, no-bytes}
+use borrow.Author.Needs.{needs}
+use Rattle.area_area.proofs.area_encode.put_subspace.Statement.{statement}
+use Rattle.area_area.proofs.area_encode.put_subspace.Tie as tie
+
+id-written-requires : tie.Need-id-written-requires
+id-written-requires c κs = search needs
+
+slice-aggregate-put-bytes : tie.Need-slice-aggregate-put-bytes
+slice-aggregate-put-bytes c = search needs
+
+put-bytes-requires : tie.Need-put-bytes-requires
+put-bytes-requires c κs = search needs
+
+same-length : tie.Need-same-length
+same-length c = search needs
+
+returns : tie.Need-returns
+returns c =
+    let a = c .before .before .before .before .before .before .before .before .before .args in
+    let l = now (a .buffer) in
+    let id = a .subspace .id in
+    let e = written-bytes (a .subspace) (a .reference) (sym (c .before .before .before .before .before .before .before .id-written .ensures) ∙ c .before .before .before .before .before .before .if1 .taken) in
+    let long = typed-id (a .subspace) (c .before .before .before .before .before .before .before .before .before .good .1 .0) .0 in
+    (sym (ap length e ∙ long), c .before .before .put-bytes .ensures .1 ∙ put-over id l (omega (arith, c .before .before .before .before .before .before .before .before .before .pre, ap length e)) ∙ ap (λ (bs : List ℕ). over bs l) (sym e))
+
+returns-2 : tie.Need-returns-2
+returns-2 c =
+    let a = c .before .before .before .args in
+    let e = no-bytes (a .subspace) (a .reference) (sym (c .before .id-written .ensures) ∙ c .if1 .left) in
+    (sym (ap length e), rw e)
+
+pub put-subspace-spec : {M : Type 1} → statement M
+put-subspace-spec =
+    tie.close
+    (tie.spec
+    id-written-requires
+    slice-aggregate-put-bytes
+    put-bytes-requires
+    same-length
+    returns
+    returns-2)

@@ -1,0 +1,25 @@
+use mathlib.Core.Path.{sym, ap, _∙_}
+use native.Mathlib.Omega.{arith}
+use lib.ListN.{length}
+use Rattle.grouping.proofs.Typed.{typed-id}
+use Rattle.area_area.proofs.Writing.{written-bytes, no-bytes}
+use borrow.Author.Needs.{needs}
+use Rattle.area_area.proofs.area_encode.subspace_len.Statement.{statement}
+use Rattle.area_area.proofs.area_encode.subspace_len.Tie as tie
+
+id-written-requires : tie.Need-id-written-requires
+id-written-requires c κs = search needs
+
+returns : tie.Need-returns
+returns c =
+    let a = c .before .before .args in
+    let e = written-bytes (a .subspace) (a .reference) (sym (c .before .id-written .ensures) ∙ c .if1 .taken) in
+    (sym (ap length e ∙ typed-id (a .subspace) (c .before .before .good .0) .0), omega arith)
+
+returns-2 : tie.Need-returns-2
+returns-2 c =
+    let a = c .before .before .args in
+    (sym (ap length (no-bytes (a .subspace) (a .reference) (sym (c .before .id-written .ensures) ∙ c .if1 .left))), omega arith)
+
+pub subspace-len-spec : {M : Type 1} → statement M
+subspace-len-spec = tie.close (tie.spec id-written-requires returns returns-2)

@@ -1,0 +1,102 @@
+-- docs/FORMAT.md, "Areas": an area against an area, on plain values.
+use mathlib.Core.List.{List, [], _∷_, _++_}
+use mathlib.Core.Bool.{Bool, true, false, cond, _&&_, not}
+use mathlib.Core.Option.{Option, none, some}
+use Prim.Native.Nat.{ℕ}
+use Rattle.codec.specs.Bytes.{sameBytes}
+use Rattle.codec.specs.Header.{readHeader}
+use Rattle.codec.specs.Reader.{Reader, give, someBytes, andThen, guard, checked, mapped, choose}
+use Rattle.compact_u64.specs.Number.{minTag, numberBytes}
+use Rattle.path_relative.specs.Extension.{extensionBytes, readExtension}
+use Rattle.grouping.specs.declared.RangeEnd.{RangeEnd}
+use Rattle.grouping.specs.declared.RangeEnd.the-variants.{Closed, Open}
+use Rattle.grouping.specs.declared.TimeRange.{TimeRange}
+use Rattle.grouping.specs.Range.{isOpen, includesRange}
+use Rattle.grouping.specs.Area.{AreaValue, includesSubspace}
+use Rattle.time_relative.specs.Difference.{differenceOf, endDifference, readTime}
+use Rattle.area_area.specs.declared.Header.{Header}
+use Rattle.area_area.specs.Header.{unpackHeader, packHeader, spareBits}
+
+-- ---- writing: header, id, start difference, end difference, path. The id is written where the reference has any subspace
+abbrev pub idWritten : Option (List ℕ) → Option (List ℕ) → Bool
+idWritten none none = false
+idWritten none (some id) = true
+idWritten (some r) s = false
+
+unfoldable pub headerOf : AreaValue → AreaValue → Header
+headerOf r a = record {
+  «id_written» = idWritten (r .subspace) (a .subspace);
+  «end_open» = isOpen (a .times .end);
+  «start_added» = differenceOf (r .times) (a .times .start) .added;
+  «end_added» = endDifference (r .times) (a .times .end) .added;
+  «start_tag» = minTag 2 (differenceOf (r .times) (a .times .start) .difference);
+  «end_tag» = minTag 2 (endDifference (r .times) (a .times .end) .difference);
+}
+
+abbrev pub subspaceBytes : Option (List ℕ) → Option (List ℕ) → List ℕ
+subspaceBytes none none = []
+subspaceBytes none (some id) = id
+subspaceBytes (some r) s = []
+
+-- a time takes the bytes of its difference, an open end none
+abbrev pub endBytes : TimeRange → RangeEnd → List ℕ
+endBytes r (Closed x) = numberBytes 2 (differenceOf r x .difference)
+endBytes r Open = []
+
+unfoldable pub timesBytes : TimeRange → TimeRange → List ℕ
+timesBytes r t = numberBytes 2 (differenceOf r (t .start) .difference) ++ endBytes r (t .end)
+
+abbrev pub startBytes : AreaValue → AreaValue → List ℕ
+startBytes r a = packHeader (headerOf r a) ∷ subspaceBytes (r .subspace) (a .subspace)
+
+abbrev pub restBytes : AreaValue → AreaValue → List ℕ
+restBytes r a = timesBytes (r .times) (a .times) ++ extensionBytes (r .path) (a .path)
+
+unfoldable pub areaBytes : AreaValue → AreaValue → List ℕ
+areaBytes r a = startBytes r a ++ restBytes r a
+
+-- ---- reading
+abbrev pub sameId : Option (List ℕ) → List ℕ → Bool
+sameId none id = false
+sameId (some r) id = sameBytes r id
+
+-- the id, then the id against the reference's; strictly, an id equal to that is refused
+unfoldable pub readSubspace : Bool → Option (List ℕ) → Bool → Reader (Option (List ℕ))
+readSubspace canonic r written =
+    choose written
+    (mapped some (checked (λ id. includesSubspace r (some id) && cond canonic (not (sameId r id)) true) (someBytes 32)))
+    (give r)
+
+-- an open end has no difference to add
+unfoldable pub readEnd : Bool → TimeRange → Header → Reader RangeEnd
+readEnd canonic r h =
+    choose (h .«end_open»)
+    (guard (not (h .«end_added»)) (give Open))
+    (mapped Closed (readTime canonic r (h .«end_added») (h .«end_tag»)))
+
+abbrev pub timesFrom : ℕ → RangeEnd → TimeRange
+timesFrom start end = record { start = start; end = end }
+
+unfoldable pub readTimes : Bool → TimeRange → Header → Reader TimeRange
+readTimes canonic r h =
+    checked (includesRange r) (
+    andThen (readTime canonic r (h .«start_added») (h .«start_tag»)) (λ start.
+    mapped (timesFrom start) (
+    readEnd canonic r h)))
+
+abbrev pub valueFrom : Option (List ℕ) → TimeRange → List (List ℕ) → AreaValue
+valueFrom subspace times path = record { subspace = subspace; path = path; times = times }
+
+unfoldable pub readParts : Bool → AreaValue → Header → Reader AreaValue
+readParts canonic r h =
+    andThen (readSubspace canonic (r .subspace) (h .«id_written»)) (λ subspace.
+    andThen (readTimes canonic (r .times) h) (λ times.
+    mapped (valueFrom subspace times) (
+    readExtension canonic (r .path))))
+
+-- strictly, spare bits are refused before anything else
+unfoldable pub readArea : Bool → AreaValue → Reader AreaValue
+readArea canonic r =
+    andThen (readHeader unpackHeader) (λ h.
+    guard (cond canonic (not (spareBits h)) true) (
+    readParts canonic r h))

@@ -1,0 +1,5 @@
+pub mod Header
+pub mod Area
+pub mod Records
+pub mod Answers
+pub mod Relations

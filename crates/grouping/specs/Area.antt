@@ -1,0 +1,41 @@
+-- docs/FORMAT.md, "Areas": an area on plain values: any subspace or one id, the components of a path, and a range of times.
+use mathlib.Core.Path.{_≡_}
+use mathlib.Core.List.{List}
+use mathlib.Core.Bool.{Bool, true, false, _&&_}
+use mathlib.Core.Option.{Option, none, some}
+use Prim.Native.Nat.{ℕ}
+use lib.ListN.{length}
+use Rattle.codec.specs.Answers.{AllBytes}
+use Rattle.codec.specs.Bytes.{sameBytes}
+use Rattle.path.specs.Limits.{TypedComponents}
+use Rattle.path.specs.Prefix.{isPrefix}
+use Rattle.grouping.specs.declared.TimeRange.{TimeRange}
+use Rattle.grouping.specs.Range.{TypedRange, endValue, includesRange, bounds}
+
+pub record AreaValue : Type 0 where
+  pub subspace : Option (List ℕ)
+  pub path : List (List ℕ)
+  pub times : TimeRange
+
+-- what the language says of a value
+abbrev pub TypedSubspace : Option (List ℕ) → Type 0
+TypedSubspace none = Unit {0}
+TypedSubspace (some id) = (length id ≡ 32) × AllBytes id
+
+pub record TypedValue (v : AreaValue) : Type 0 where
+  pub subspace : TypedSubspace (v .subspace)
+  pub path : TypedComponents (v .path)
+  pub times : TypedRange (v .times)
+
+-- none is any subspace
+abbrev pub includesSubspace : Option (List ℕ) → Option (List ℕ) → Bool
+includesSubspace none s = true
+includesSubspace (some r) none = false
+includesSubspace (some r) (some s) = sameBytes r s
+
+unfoldable pub includesArea : AreaValue → AreaValue → Bool
+includesArea r a = includesSubspace (r .subspace) (a .subspace) && (isPrefix (r .path) (a .path) && includesRange (r .times) (a .times))
+
+-- a lies inside r: included, and its start and end, an open one counted as top, lie between those of r
+unfoldable pub liesInside : AreaValue → AreaValue → Bool
+liesInside r a = includesArea r a && (bounds (r .times) (a .times .start) && bounds (r .times) (endValue (a .times .end)))

@@ -1,0 +1,117 @@
+// Groupings of entries: ranges of times, and areas: docs/FORMAT.md, "Areas". A port of grouping/range.rs and grouping/area.rs.
+ghost use mathlib.Core.Path.{_≡_};
+ghost use Rattle.grouping.specs.Record.{wellFormedSubspace, subspaceIncludes, wellFormedArea, areaIncludes, areaInside};
+use path::Compared;
+use path::Path;
+
+mod range;
+
+// Where a range of times ends: before a time, or nowhere.
+pub enum RangeEnd {
+    Closed(u64),
+    Open,
+}
+
+// The times from a start on, before an end.
+pub struct TimeRange {
+    pub start: u64,
+    pub end: RangeEnd,
+}
+
+// One subspace, or any: then the id is zero.
+pub struct AreaSubspace {
+    pub any: bool,
+    pub id: [u8; 32],
+}
+
+pub struct Area {
+    pub subspace: AreaSubspace,
+    pub path: Path,
+    pub times: TimeRange,
+}
+
+impl AreaSubspace {
+    pub fn well_formed(self) -> bool
+        ensures { λ r. ⌜ r ≡ wellFormedSubspace self ⌝ }
+    {
+        if self.any {
+            let id = self.id;
+            let zero = [0u8; 32];
+            return codec::same_bytes(&id, &zero);
+        }
+        true
+    }
+
+    pub fn includes_area_subspace(self, other: AreaSubspace) -> bool
+        ensures { λ r. ⌜ r ≡ subspaceIncludes self other ⌝ }
+    {
+        if self.any {
+            return true;
+        }
+        if other.any {
+            return false;
+        }
+        let id = self.id;
+        let other_id = other.id;
+        codec::same_bytes(&id, &other_id)
+    }
+}
+
+impl Area {
+    pub fn well_formed(self) -> bool
+        ensures { λ r. ⌜ r ≡ wellFormedArea self ⌝ }
+    {
+        let subspace = self.subspace.well_formed();
+        if !subspace {
+            return false;
+        }
+        self.path.well_formed()
+    }
+
+    pub fn includes_area(self, area: Area) -> Compared
+        ensures { λ r. ⌜ r ≡ areaIncludes self area ⌝ }
+    {
+        let well = self.subspace.well_formed();
+        if !well {
+            return Compared::Malformed;
+        }
+        let area_well = area.subspace.well_formed();
+        if !area_well {
+            return Compared::Malformed;
+        }
+        let prefix = self.path.is_prefix_of(area.path);
+        let Compared::Yes = prefix else {
+            return prefix;
+        };
+        let subspace = self.subspace.includes_area_subspace(area.subspace);
+        if !subspace {
+            return Compared::No;
+        }
+        let times = self.times.includes_range(area.times);
+        if !times {
+            return Compared::No;
+        }
+        Compared::Yes
+    }
+
+    // Whether an area lies inside: it is included, and its start and end lie between the start and the end.
+    pub fn contains(self, area: Area) -> Compared
+        ensures { λ r. ⌜ r ≡ areaInside self area ⌝ }
+    {
+        let included = self.includes_area(area);
+        let Compared::Yes = included else {
+            return included;
+        };
+        let first = self.times.bounds(area.times.start);
+        if !first {
+            return Compared::No;
+        }
+        let times = area.times;
+        let end = times.end;
+        let last = self.times.bounds(end.value());
+        if !last {
+            return Compared::No;
+        }
+        Compared::Yes
+    }
+}

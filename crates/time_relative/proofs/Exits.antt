@@ -1,0 +1,57 @@
+-- What the reader's definition answers at each exit of the code.
+use mathlib.Core.Path.{_≡_, refl, ap}
+use mathlib.Core.List.{List}
+use mathlib.Core.Bool.{Bool, true, false}
+use Prim.Native.Nat.{ℕ, _+_, _-_, _<_}
+use native.Mathlib.Omega.{arith}
+use borrow.Author.Tests.{le-leb, lt-leb, ne-eqb}
+use Rattle.codec.specs.Answers.{accepted, refused}
+use Rattle.compact_u64.specs.Number.{readNumber}
+use Rattle.grouping.specs.declared.TimeRange.{TimeRange}
+use Rattle.grouping.specs.Range.{TypedRange, endValue, bounds}
+use Rattle.time_relative.specs.Difference.{differenceOf, timeAt, isNearest, readTime, reachOf}
+
+-- ---- whether a difference is one that writing gives
+module _ (canonic : Bool) (r : TimeRange) (added : Bool) (d x : ℕ) where
+  pub outside : bounds r x ≡ false → isNearest canonic r added d x ≡ false
+  unfolding isNearest
+  outside e = rw e
+
+  module _ (b : bounds r x ≡ true) where
+    pub farther : (differenceOf r x .difference ≡ d → ⊥) → isNearest canonic r added d x ≡ false
+    unfolding isNearest
+    farther n = rw (b, ne-eqb _ d n)
+
+-- a difference that says no time
+pub past-reach : (canonic : Bool) (r : TimeRange) → TypedRange r → (added : Bool) (d : ℕ) → reachOf r added < d → isNearest canonic r added d (timeAt r added d) ≡ false
+unfolding bounds timeAt differenceOf
+past-reach canonic r t true d h =
+    outside canonic r true d (timeAt r true d) (rw (le-leb (r .start) (r .start + d) (omega arith), lt-leb (r .start + d) (endValue (r .end)) (omega (arith, h, t .start, t .end))))
+past-reach canonic r t false d h = go (bounds r (timeAt r false d)) refl
+  where
+    nought : timeAt r false d ≡ 0
+    nought = omega (arith, h)
+
+    at-nought : differenceOf r 0 .difference ≡ 0
+    at-nought =
+        let z : 0 - r .start ≡ 0 = omega arith in
+        rw (z, le-leb 0 (endValue (r .end) - 0) (omega arith))
+
+    go : (b : Bool) → bounds r (timeAt r false d) ≡ b → isNearest canonic r false d (timeAt r false d) ≡ false
+    go true e = farther canonic r false d (timeAt r false d) e (λ q. omega (arith, h, ap (λ (x : ℕ). differenceOf r x .difference) nought, at-nought, q))
+    go false e = outside canonic r false d (timeAt r false d) e
+
+-- ---- reading
+module _ (canonic : Bool) (r : TimeRange) (added : Bool) (tag : ℕ) (s : List ℕ) where
+  pub time-refused : (k : ℕ) → readNumber canonic 2 tag s ≡ refused k → readTime canonic r added tag s ≡ refused k
+  unfolding readTime
+  time-refused k e = rw e
+
+  module _ (d n : ℕ) (e : readNumber canonic 2 tag s ≡ accepted d n) where
+    pub time-fault : isNearest canonic r added d (timeAt r added d) ≡ false → readTime canonic r added tag s ≡ refused 2
+    unfolding readTime
+    time-fault f = rw (e, f)
+
+    pub time-read : isNearest canonic r added d (timeAt r added d) ≡ true → readTime canonic r added tag s ≡ accepted (timeAt r added d) n
+    unfolding readTime
+    time-read f = rw (e, f)

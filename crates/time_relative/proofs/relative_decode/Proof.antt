@@ -1,0 +1,70 @@
+use mathlib.Core.Path.{sym, ap, _∙_}
+use denote.Ref.{now}
+use borrow.Author.Tests.{not-true, not-false}
+use lib.ListN.{drop}
+use native.Mathlib.Omega.{arith}
+use Prim.Native.Nat.{ℕ}
+use Rattle.compact_u64.specs.Answers.{numberAnswer}
+use Rattle.compact_u64.proofs.Exits.{refused-number}
+use Rattle.grouping.proofs.Typed.{typed-range}
+use Rattle.time_relative.proofs.Exits.{past-reach, time-refused, time-fault, time-read}
+use borrow.Author.Needs.{needs}
+use Rattle.time_relative.proofs.relative_decode.Statement.{statement}
+use Rattle.time_relative.proofs.relative_decode.Tie as tie
+
+relative-decode-requires : tie.Need-relative-decode-requires
+relative-decode-requires c κs = search needs
+
+enum-known-number : tie.Need-enum-known-number
+enum-known-number c = search needs
+
+returns : tie.Need-returns
+returns c =
+    let a = c .before .before .before .args in
+    let s = drop (a .start) (now (a .message)) in
+    let n = refused-number {A = ℕ} 0 (c .before .relative-decode .result) (c .match .keys2) in
+    n .number ∙ sym (time-refused (a .canonic) (a .range) (a .added) (a .tag) s (n .why) (sym (c .before .relative-decode .ensures) ∙ n .number))
+
+reach-requires : tie.Need-reach-requires
+reach-requires c κs = search needs
+
+returns-2 : tie.Need-returns-2
+returns-2 c =
+    let a = c .before .before .before .before .before .before .before .args in
+    let s = drop (a .start) (now (a .message)) in
+    let e = sym (c .before .before .before .before .before .relative-decode .ensures) ∙ ap numberAnswer (c .before .before .before .number .given .1) in
+    sym (time-fault (a .canonic) (a .range) (a .added) (a .tag) s _ _ e (past-reach (a .canonic) (a .range) (typed-range (a .range) (c .before .before .before .before .before .before .before .good .1 .1 .1 .0)) (a .added) _ (omega (arith, c .before .reach .ensures, c .if1 .taken))))
+
+time-at-requires : tie.Need-time-at-requires
+time-at-requires c κs = omega (arith, c .before .reach .ensures, c .if1 .left)
+
+is-nearest-requires : tie.Need-is-nearest-requires
+is-nearest-requires c κs = search needs
+
+returns-3 : tie.Need-returns-3
+returns-3 c =
+    let a = c .before .before .before .before .before .before .before .before .before .before .args in
+    let s = drop (a .start) (now (a .message)) in
+    let e = sym (c .before .before .before .before .before .before .before .before .relative-decode .ensures) ∙ ap numberAnswer (c .before .before .before .before .before .before .number .given .1) in
+    sym (time-fault (a .canonic) (a .range) (a .added) (a .tag) s _ _ e (rw (c .before .before .time-at .ensures) at (sym (c .before .is-nearest .ensures) ∙ not-true _ (c .if2 .taken))))
+
+returns-4 : tie.Need-returns-4
+returns-4 c =
+    let a = c .before .before .before .before .before .before .before .before .before .before .args in
+    let s = drop (a .start) (now (a .message)) in
+    let e = sym (c .before .before .before .before .before .before .before .before .relative-decode .ensures) ∙ ap numberAnswer (c .before .before .before .before .before .before .number .given .1) in
+    rw (c .before .before .time-at .ensures) (sym (time-read (a .canonic) (a .range) (a .added) (a .tag) s _ _ e (rw (c .before .before .time-at .ensures) at (sym (c .before .is-nearest .ensures) ∙ not-false _ (c .if2 .left)))))
+
+pub relative-decode-spec : {M : Type 1} → statement M
+relative-decode-spec =
+    tie.close
+    (tie.spec
+    relative-decode-requires
+    enum-known-number
+    returns
+    reach-requires
+    returns-2
+    time-at-requires
+    is-nearest-requires
+    returns-3
+    returns-4)

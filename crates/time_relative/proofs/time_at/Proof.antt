@@ -1,0 +1,25 @@
+use native.Mathlib.Omega.{arith}
+use Rattle.time_relative.specs.Difference.{timeAt}
+use borrow.Author.Needs.{needs}
+use Rattle.time_relative.proofs.time_at.Statement.{statement}
+use Rattle.time_relative.proofs.time_at.Tie as tie
+
+add-result : tie.Need-add-result
+add-result c = omega (arith, rw (c .before .if1 .taken) at (c .before .before .pre))
+
+returns : tie.Need-returns
+unfolding timeAt
+returns c = rw (c .before .if1 .taken)
+
+value-requires : tie.Need-value-requires
+value-requires c κs = search needs
+
+sub-result : tie.Need-sub-result
+sub-result c = rw (c .value .ensures) (rw (c .before .if1 .left) at (c .before .before .pre))
+
+returns-2 : tie.Need-returns-2
+unfolding timeAt
+returns-2 c = rw (c .before .if1 .left, c .value .ensures)
+
+pub time-at-spec : {M : Type 1} → statement M
+time-at-spec = tie.close (tie.spec add-result returns value-requires sub-result returns-2)

@@ -1,0 +1,52 @@
+-- docs/FORMAT.md, "Times": a time against a range is the smaller of the differences from the range's start and to its end, an open end counting as top; a tie adds.
+use mathlib.Core.Path.{_≡_}
+use mathlib.Core.List.{List}
+use mathlib.Core.Bool.{Bool, true, false, cond, _&&_, not}
+use Prim.Native.Nat.{ℕ, _+_, _-_}
+use lib.Dec.{leb, eqb}
+use Rattle.codec.specs.Reader.{Reader, checked, mapped}
+use Rattle.compact_u64.specs.Number.{minTag, numberBytes, readNumber}
+use Rattle.grouping.specs.declared.RangeEnd.{RangeEnd}
+use Rattle.grouping.specs.declared.RangeEnd.the-variants.{Closed, Open}
+use Rattle.grouping.specs.declared.TimeRange.{TimeRange}
+use Rattle.grouping.specs.Range.{top, endValue, bounds}
+use Rattle.time_relative.specs.declared.TimeDifference.{TimeDifference}
+
+unfoldable pub differenceOf : TimeRange → ℕ → TimeDifference
+differenceOf r x =
+    cond (leb (x - r .start) (endValue (r .end) - x))
+    (record { added = true; difference = x - r .start })
+    (record { added = false; difference = endValue (r .end) - x })
+
+-- an open end has no difference
+abbrev pub endDifference : TimeRange → RangeEnd → TimeDifference
+endDifference r (Closed x) = differenceOf r x
+endDifference r Open = record { added = false; difference = 0 }
+
+-- ---- reading
+
+-- the time that a difference says
+unfoldable pub timeAt : TimeRange → Bool → ℕ → ℕ
+timeAt r added d = cond added (r .start + d) (endValue (r .end) - d)
+
+-- the time lies in the range, and d is its difference; strictly, a tie adds
+unfoldable pub isNearest : Bool → TimeRange → Bool → ℕ → ℕ → Bool
+isNearest canonic r added d x =
+    bounds r x && (eqb (differenceOf r x .difference) d && cond canonic (cond (differenceOf r x .added) added (not added)) true)
+
+unfoldable pub readTime : Bool → TimeRange → Bool → ℕ → Reader ℕ
+readTime canonic r added tag =
+    mapped (timeAt r added) (
+    checked (λ d. isNearest canonic r added d (timeAt r added d)) (
+    readNumber canonic 2 tag))
+
+-- ---- inside the reader: the largest difference that says a time at all
+abbrev pub reachOf : TimeRange → Bool → ℕ
+reachOf r added = cond added (top - r .start) (endValue (r .end))
+
+-- ---- the laws: the bytes e after the flag and the tag are what writing the time x gives
+pub record TimeAs (r : TimeRange) (added : Bool) (tag x : ℕ) (e : List ℕ) : Type 0 where
+  pub inside : bounds r x ≡ true
+  pub near : differenceOf r x .added ≡ added
+  pub tagged : minTag 2 (differenceOf r x .difference) ≡ tag
+  pub bytes : e ≡ numberBytes 2 (differenceOf r x .difference)

@@ -1,0 +1,127 @@
+// A time against a range of times: docs/FORMAT.md, "Times".
+ghost use mathlib.Core.Path.{_≡_};
+ghost use Prim.Native.Nat.{_-_, _≤_};
+ghost use lib.ListN.{drop};
+ghost use Rattle.compact_u64.specs.Answers.{numberAnswer};
+ghost use Rattle.time_relative.specs.Difference.{differenceOf, endDifference, reachOf, timeAt, isNearest, readTime};
+use compact_u64::DecodedU64;
+use compact_u64::TagWidth;
+use grouping::RangeEnd;
+use grouping::TimeRange;
+
+// The smaller of the differences from a range's start, to which it is added, and to the range's end.
+pub struct TimeDifference {
+    pub added: bool,
+    pub difference: u64,
+}
+
+// How far a is above b.
+fn above(a: u64, b: u64) -> u64
+    ensures { λ r. ⌜ r ≡ a - b ⌝ }
+{
+    if a < b {
+        return 0;
+    }
+    a - b
+}
+
+pub fn difference(range: TimeRange, time: u64) -> TimeDifference
+    ensures { λ r. ⌜ r ≡ differenceOf range time ⌝ }
+{
+    let end = range.end;
+    let from_start = above(time, range.start);
+    let to_end = above(end.value(), time);
+    if from_start <= to_end {
+        return TimeDifference {
+            added: true,
+            difference: from_start,
+        };
+    }
+    TimeDifference {
+        added: false,
+        difference: to_end,
+    }
+}
+
+// An open end has no difference.
+pub fn end_difference(range: TimeRange, end: RangeEnd) -> TimeDifference
+    ensures { λ r. ⌜ r ≡ endDifference range end ⌝ }
+{
+    match end {
+        RangeEnd::Closed(time) => difference(range, time),
+        RangeEnd::Open => TimeDifference {
+            added: false,
+            difference: 0,
+        },
+    }
+}
+
+// The largest difference that says a time.
+fn reach(range: TimeRange, added: bool) -> u64
+    ensures { λ r. ⌜ r ≡ reachOf range added ⌝ }
+{
+    if added {
+        return 18446744073709551615 - range.start;
+    }
+    let end = range.end;
+    end.value()
+}
+
+// The time that a difference says.
+fn time_at(range: TimeRange, added: bool, difference: u64) -> u64
+    requires { ⌜ difference ≤ reachOf range added ⌝ }
+    ensures { λ r. ⌜ r ≡ timeAt range added difference ⌝ }
+{
+    if added {
+        return range.start + difference;
+    }
+    let end = range.end;
+    end.value() - difference
+}
+
+// Whether a time lies in the range and this is its difference; strictly, also whether it is rightly added.
+fn is_nearest(canonic: bool, range: TimeRange, added: bool, told: u64, time: u64) -> bool
+    ensures { λ r. ⌜ r ≡ isNearest canonic range added told time ⌝ }
+{
+    let inside = range.bounds(time);
+    if !inside {
+        return false;
+    }
+    let nearest = difference(range, time);
+    if nearest.difference != told {
+        return false;
+    }
+    if !canonic {
+        return true;
+    }
+    if nearest.added {
+        return added;
+    }
+    !added
+}
+
+// Reads the difference after its tag, which starts at `start`, and answers the time.
+pub fn relative_decode(
+    message: &[u8],
+    start: usize,
+    canonic: bool,
+    range: TimeRange,
+    added: bool,
+    tag: u8,
+) -> DecodedU64
+    ensures { λ r. ⌜ numberAnswer r ≡ readTime canonic range added tag (drop start (now (message .entry))) ⌝ }
+{
+    let number = compact_u64::relative_decode(message, start, TagWidth::Two, tag, canonic);
+    let DecodedU64::Value(told, n) = number else {
+        return number;
+    };
+    if reach(range, added) < told {
+        return DecodedU64::TheirFault;
+    }
+    let time = time_at(range, added, told);
+    let nearest = is_nearest(canonic, range, added, told, time);
+    if !nearest {
+        return DecodedU64::TheirFault;
+    }
+    DecodedU64::Value(time, n)
+}
