@@ -7,6 +7,7 @@ import sys
 from pathlib import Path
 
 sys.dont_write_bytecode = True
+import area_lists
 import case_lists
 from case_lists import KINDS, TOP, tabbed, text, write
 
@@ -27,8 +28,8 @@ def examples():
         if kind in KINDS:
             lines.append(line)
             if op == "s" and answer.startswith("ok"):
-                _, length, value = answer.split("\t")
-                lines += write(kind, fields[:-2], value, int(length))
+                _, length, *value = answer.split("\t")
+                lines += write(kind, fields[:-2], tabbed(*value), int(length))
     return lines
 
 
@@ -105,7 +106,7 @@ def answers(lines):
 def main():
     env = {**os.environ, "CARGO_TARGET_DIR": str(TARGET)}
     subprocess.run(["cargo", "build", "--release", "--offline", "-q"], cwd=ROOT / "oracle", env=env, check=True)
-    malformed = case_lists.malformed()
+    malformed = case_lists.malformed() + area_lists.malformed()
     if set(answers(malformed)) != {"no\t6"}:
         sys.exit("a malformed line is answered")
     lines = [
@@ -118,6 +119,7 @@ def main():
         *case_lists.forms(),
         *case_lists.writing(),
         *case_lists.raw_lines(),
+        *area_lists.areas(),
         *malformed,
         *case_lists.long_lines(),
         *other_kinds(),

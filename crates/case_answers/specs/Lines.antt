@@ -4,26 +4,28 @@ use mathlib.Core.Bool.{cond}
 use Prim.Native.Nat.{ℕ}
 use lib.Dec.{leb}
 use lib.ListN.{length}
-use Rattle.text.specs.Parts.{sameText}
+use Rattle.codec.specs.Bytes.{sameBytes}
 use Rattle.case_text.specs.Texts.{six, ended}
 use Rattle.case_text.specs.Fields.{field}
 use Rattle.case_numbers.specs.Lines.{taggedLine, standaloneLine}
 use Rattle.case_paths.specs.declared.Encoding.the-variants as encoding
 use Rattle.case_paths.specs.Lines.{plainLine, relativeLine}
 use Rattle.case_paths.specs.Raw.{rawLine}
+use Rattle.case_areas.specs.Lines.{areaLine}
 use Rattle.case_answers.specs.declared.Kind.{Kind}
 use Rattle.case_answers.specs.declared.Kind.the-variants as kind
 
 -- the kind in the first field
 unfoldable pub kindOf : List ℕ → Kind
 kindOf f =
-    -- number, standalone, path, path_path, path_extends, raw
-    cond (sameText f (110 ∷ 117 ∷ 109 ∷ 98 ∷ 101 ∷ 114 ∷ [])) kind.Number
-    (cond (sameText f (115 ∷ 116 ∷ 97 ∷ 110 ∷ 100 ∷ 97 ∷ 108 ∷ 111 ∷ 110 ∷ 101 ∷ [])) kind.Standalone
-    (cond (sameText f (112 ∷ 97 ∷ 116 ∷ 104 ∷ [])) kind.Path
-    (cond (sameText f (112 ∷ 97 ∷ 116 ∷ 104 ∷ 95 ∷ 112 ∷ 97 ∷ 116 ∷ 104 ∷ [])) kind.PathPath
-    (cond (sameText f (112 ∷ 97 ∷ 116 ∷ 104 ∷ 95 ∷ 101 ∷ 120 ∷ 116 ∷ 101 ∷ 110 ∷ 100 ∷ 115 ∷ [])) kind.PathExtends
-    (cond (sameText f (114 ∷ 97 ∷ 119 ∷ [])) kind.Raw kind.Unknown)))))
+    -- number, standalone, path, path_path, path_extends, area_area, raw
+    cond (sameBytes f (110 ∷ 117 ∷ 109 ∷ 98 ∷ 101 ∷ 114 ∷ [])) kind.Number
+    (cond (sameBytes f (115 ∷ 116 ∷ 97 ∷ 110 ∷ 100 ∷ 97 ∷ 108 ∷ 111 ∷ 110 ∷ 101 ∷ [])) kind.Standalone
+    (cond (sameBytes f (112 ∷ 97 ∷ 116 ∷ 104 ∷ [])) kind.Path
+    (cond (sameBytes f (112 ∷ 97 ∷ 116 ∷ 104 ∷ 95 ∷ 112 ∷ 97 ∷ 116 ∷ 104 ∷ [])) kind.PathPath
+    (cond (sameBytes f (112 ∷ 97 ∷ 116 ∷ 104 ∷ 95 ∷ 101 ∷ 120 ∷ 116 ∷ 101 ∷ 110 ∷ 100 ∷ 115 ∷ [])) kind.PathExtends
+    (cond (sameBytes f (97 ∷ 114 ∷ 101 ∷ 97 ∷ 95 ∷ 97 ∷ 114 ∷ 101 ∷ 97 ∷ [])) kind.AreaArea
+    (cond (sameBytes f (114 ∷ 97 ∷ 119 ∷ [])) kind.Raw kind.Unknown))))))
 
 abbrev pub kindLine : Kind → List ℕ → List ℕ
 kindLine kind.Number line = taggedLine line
@@ -31,6 +33,7 @@ kindLine kind.Standalone line = standaloneLine line
 kindLine kind.Path line = plainLine line
 kindLine kind.PathPath line = relativeLine encoding.Against line
 kindLine kind.PathExtends line = relativeLine encoding.Extends line
+kindLine kind.AreaArea line = areaLine line
 kindLine kind.Raw line = rawLine line
 kindLine kind.Unknown line = six
 

@@ -15,6 +15,7 @@ pub enum Kind {
     Path,
     PathPath,
     PathExtends,
+    AreaArea,
     Raw,
     Unknown,
 }
@@ -31,22 +32,25 @@ pub struct Answered {
 fn kind_of(field: &[u8]) -> Kind
     ensures { λ r. ⌜ r ≡ kindOf (now (field .entry)) ⌝ }
 {
-    if text::same(field, b"number") {
+    if codec::same_bytes(field, b"number") {
         return Kind::Number;
     }
-    if text::same(field, b"standalone") {
+    if codec::same_bytes(field, b"standalone") {
         return Kind::Standalone;
     }
-    if text::same(field, b"path") {
+    if codec::same_bytes(field, b"path") {
         return Kind::Path;
     }
-    if text::same(field, b"path_path") {
+    if codec::same_bytes(field, b"path_path") {
         return Kind::PathPath;
     }
-    if text::same(field, b"path_extends") {
+    if codec::same_bytes(field, b"path_extends") {
         return Kind::PathExtends;
     }
-    if text::same(field, b"raw") {
+    if codec::same_bytes(field, b"area_area") {
+        return Kind::AreaArea;
+    }
+    if codec::same_bytes(field, b"raw") {
         return Kind::Raw;
     }
     Kind::Unknown
@@ -66,6 +70,7 @@ pub fn answer(line: &[u8], out: &mut [u8], at: usize) -> usize
         Kind::Path => case_paths::plain(line, out, at),
         Kind::PathPath => case_paths::relative(line, out, at, Encoding::Against),
         Kind::PathExtends => case_paths::relative(line, out, at, Encoding::Extends),
+        Kind::AreaArea => case_areas::area(line, out, at),
         Kind::Raw => case_paths::raw::raw(line, out, at),
         Kind::Unknown => case_text::put::refuse(out, at),
     }

@@ -6,7 +6,7 @@ use lib.Dec.{ltb}
 use lib.ListN.{length, drop}
 use Rattle.codec.specs.Format.{allowed, putAnswer, putBuffer}
 use Rattle.compact_u64.specs.Number.{minTag, numberBytes, readNumber, readStandalone, standalone}
-use Rattle.text.specs.Parts.{sameText}
+use Rattle.codec.specs.Bytes.{sameBytes}
 use Rattle.text.specs.Decimal.{decimalText}
 use Rattle.case_text.specs.declared.Op.{Op}
 use Rattle.case_text.specs.declared.Op.the-variants as op
@@ -43,14 +43,14 @@ numberLine w op.Unknown line = six
 -- the width in the third field
 unfoldable pub onWidth : List ℕ → (ℕ → List ℕ) → List ℕ
 onWidth f k =
-    cond (sameText f (50 ∷ [])) (k 2)
-    (cond (sameText f (51 ∷ [])) (k 3)
-    (cond (sameText f (52 ∷ [])) (k 4)
-    (cond (sameText f (56 ∷ [])) (k 8) six)))
+    cond (sameBytes f (50 ∷ [])) (k 2)
+    (cond (sameBytes f (51 ∷ [])) (k 3)
+    (cond (sameBytes f (52 ∷ [])) (k 4)
+    (cond (sameBytes f (56 ∷ [])) (k 8) six)))
 
 -- ---- the two kinds
 abbrev pub taggedLine : List ℕ → List ℕ
 taggedLine line = onWidth (field 2 line) (λ w. numberLine w (opOf (field 1 line)) line)
 
 abbrev pub standaloneLine : List ℕ → List ℕ
-standaloneLine line = recordLine decimalField decimalText readStandalone standalone 2 (opOf (field 1 line)) line
+standaloneLine line = recordLine decimalField decimalText readStandalone standalone 2 3 (opOf (field 1 line)) line

@@ -29,16 +29,16 @@ pub enum WidthField {
 fn width(field: &[u8]) -> WidthField
     ensures { λ r. ⌜ ((k : ℕ → List ℕ) → onWidthField r k ≡ onWidth (now (field .entry)) k) ⌝ }
 {
-    if text::same(field, b"2") {
+    if codec::same_bytes(field, b"2") {
         return WidthField::Width(TagWidth::Two);
     }
-    if text::same(field, b"3") {
+    if codec::same_bytes(field, b"3") {
         return WidthField::Width(TagWidth::Three);
     }
-    if text::same(field, b"4") {
+    if codec::same_bytes(field, b"4") {
         return WidthField::Width(TagWidth::Four);
     }
-    if text::same(field, b"8") {
+    if codec::same_bytes(field, b"8") {
         return WidthField::Width(TagWidth::Eight);
     }
     WidthField::Refused
@@ -145,7 +145,7 @@ fn read_standalone(line: &[u8], out: &mut [u8], at: usize, canonic: bool) -> usi
 }
 
 fn write_standalone(line: &[u8], out: &mut [u8], at: usize) -> usize
-    ensures { λ r. ⌜ PutsWithin 16640 at (ended (writeLine decimalField standalone 2 (now (line .entry)))) (now (out .entry)) (now (out .exit)) r ⌝ }
+    ensures { λ r. ⌜ PutsWithin 16640 at (ended (writeLine decimalField standalone 2 3 (now (line .entry)))) (now (out .entry)) (now (out .exit)) r ⌝ }
 {
     if text::part_count(line, b'\t') != 4 {
         return put::refuse(out, at);
@@ -164,7 +164,7 @@ fn write_standalone(line: &[u8], out: &mut [u8], at: usize) -> usize
 }
 
 fn len_standalone(line: &[u8], out: &mut [u8], at: usize) -> usize
-    ensures { λ r. ⌜ PutsWithin 16640 at (ended (lengthLine decimalField standalone 2 (now (line .entry)))) (now (out .entry)) (now (out .exit)) r ⌝ }
+    ensures { λ r. ⌜ PutsWithin 16640 at (ended (lengthLine decimalField standalone 2 3 (now (line .entry)))) (now (out .entry)) (now (out .exit)) r ⌝ }
 {
     if text::part_count(line, b'\t') != 3 {
         return put::refuse(out, at);

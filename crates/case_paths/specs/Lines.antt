@@ -1,7 +1,7 @@
 -- Case lines of paths: docs/CASES.md.
 use mathlib.Core.List.{List}
 use mathlib.Core.Bool.{Bool}
-use Prim.Native.Nat.{ℕ}
+use Prim.Native.Nat.{ℕ, _+_}
 use Rattle.codec.specs.Format.{Format}
 use Rattle.codec.specs.Reader.{Reader}
 use Rattle.path.specs.declared.Path.{Path}
@@ -25,11 +25,11 @@ encodingFormat encoding.Against r = againstPath r
 encodingFormat encoding.Extends r = extendsPath r
 
 abbrev pub encodingLine : Encoding → Path → ℕ → List ℕ → List ℕ
-encodingLine e r i line = recordLine pathField pathTextOf (encodingReader e r) (encodingFormat e r) i (opOf (field 1 line)) line
+encodingLine e r i line = recordLine pathField pathTextOf (encodingReader e r) (encodingFormat e r) i (i + 1) (opOf (field 1 line)) line
 
 -- ---- the lines
 abbrev pub plainLine : List ℕ → List ℕ
-plainLine line = recordLine pathField pathTextOf readPath plainPath 2 (opOf (field 1 line)) line
+plainLine line = recordLine pathField pathTextOf readPath plainPath 2 3 (opOf (field 1 line)) line
 
 -- the reference stands before the other fields
 abbrev pub relativeLine : Encoding → List ℕ → List ℕ

@@ -1,7 +1,7 @@
 // Case lines of paths: docs/CASES.md. A line is answered where MAX_ANSWER bytes are free; elsewhere nothing changes.
 ghost use mathlib.Core.Path.{_≡_};
-ghost use Prim.Native.Nat.{_≤_};
-ghost use lib.ListN.{length, drop};
+ghost use Prim.Native.Nat.{_+_, _≤_};
+ghost use lib.ListN.{length, take, drop};
 ghost use Rattle.codec.specs.Answers.{outcomeOf};
 ghost use Rattle.codec.specs.Format.{writeAnswer, writeBuffer, lengthAnswer};
 ghost use Rattle.path_codec.specs.Answers.{GivesPath};
@@ -78,6 +78,13 @@ fn len_of_encoding(encoding: Encoding, path: Path, reference: Path) -> Encoded
     }
 }
 
+// Prints a path from the text's first byte on.
+fn print(path: Path, text: &mut [u8; MAX_BYTES]) -> usize
+    ensures { λ r. ⌜ take r (now (text .exit)) ≡ pathTextOf path ⌝ }
+{
+    path_text::put_path(text, 0, path)
+}
+
 fn read_path(
     line: &[u8],
     out: &mut [u8],
@@ -94,11 +101,11 @@ fn read_path(
     let MessageField::Message(s, n) = message else {
         return put::refuse(out, at);
     };
-    put::path(
-        out,
-        at,
-        decode(encoding, &bytes[..n], s, canonic, reference),
-    )
+    let read = decode(encoding, &bytes[..n], s, canonic, reference);
+    let mut text = [0u8; MAX_BYTES];
+    let k = print(read.path, &mut text);
+    let answer = read.answer;
+    put::value(out, at, answer, &text, k)
 }
 
 fn write_path(
@@ -110,7 +117,7 @@ fn write_path(
     reference: Path,
 ) -> usize
     requires { ⌜ i ≤ 3 ⌝ }
-    ensures { λ r. ⌜ PutsWithin 16640 at (ended (writeLine pathField (encodingFormat encoding reference) i (now (line .entry)))) (now (out .entry)) (now (out .exit)) r ⌝ }
+    ensures { λ r. ⌜ PutsWithin 16640 at (ended (writeLine pathField (encodingFormat encoding reference) i (i + 1) (now (line .entry)))) (now (out .entry)) (now (out .exit)) r ⌝ }
 {
     if text::part_count(line, b'\t') != i + 2 {
         return put::refuse(out, at);
@@ -139,7 +146,7 @@ fn len_path(
     reference: Path,
 ) -> usize
     requires { ⌜ i ≤ 3 ⌝ }
-    ensures { λ r. ⌜ PutsWithin 16640 at (ended (lengthLine pathField (encodingFormat encoding reference) i (now (line .entry)))) (now (out .entry)) (now (out .exit)) r ⌝ }
+    ensures { λ r. ⌜ PutsWithin 16640 at (ended (lengthLine pathField (encodingFormat encoding reference) i (i + 1) (now (line .entry)))) (now (out .entry)) (now (out .exit)) r ⌝ }
 {
     if text::part_count(line, b'\t') != i + 1 {
         return put::refuse(out, at);

@@ -2,16 +2,17 @@
 use mathlib.Core.Path.{_≡_, refl, sym, _∙_}
 use mathlib.Core.List.{List, [], _∷_, _++_}
 use mathlib.Core.Logic.{⊎-elim}
-use Prim.Native.Nat.{ℕ, _+_, _*_, _≤_, _<_}
+use Prim.Native.Nat.{ℕ, _+_, _≤_, _<_}
 use types.Run.{OneOf}
 use denote.Enum.Declared.{tagOf}
 use native.Mathlib.Omega.{arith}
 use borrow.Author.Tests.{le-leb, lt-leb}
-use lib.ListN.{length, length-append}
+use lib.ListN.{length, take, drop, length-append}
+use lib.Seq.{take-at}
 use Rattle.codec.specs.declared.Encoded.{Encoded}
 use Rattle.codec.specs.declared.Encoded.the-variants as encoded
 use Rattle.codec.specs.Answers.{outcomeOf}
-use Rattle.text.specs.Buffer.{putAt, placeAfter}
+use Rattle.text.specs.Buffer.{overAt, putAt, placeAfter}
 use Rattle.text.proofs.Buffer.{overAt-then, overAt-long, putAt-fits}
 use Rattle.case_text.specs.Texts.{writtenText, writtenNumberText}
 use Rattle.case_text.specs.Answers.{Puts, PutsWithin}
@@ -42,6 +43,13 @@ puts-two {at} a b {l} {m} k few h e g =
     let long : length m ≡ length l = rw xb (overAt-long at a l (omega arith)) in
     let y = puts-fits b (omega arith) g in
     (puts-then (omega arith) x y, omega (arith, y .place))
+
+-- a text put from the first byte on
+pub puts-first : {t l l' : List ℕ} {r : ℕ} → Puts 0 t l l' r → take r l' ≡ t
+unfolding overAt
+puts-first {t} {l} {l'} {r} p =
+    let long : r ≡ length t = omega (arith, p .place) in
+    rw (p .buffer, long) (take-at t (drop (length t) l) (length t) refl)
 
 -- ---- a text put where `room` bytes are free
 module _ {room at : ℕ} {t l : List ℕ} where

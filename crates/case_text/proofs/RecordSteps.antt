@@ -1,9 +1,11 @@
 -- The ways out of a line that reads, writes or measures a record, whatever the record: each law takes the line's text to the text that was put.
-use mathlib.Core.Path.{_≡_, sym, ap, _∙_}
+use mathlib.Core.Path.{_≡_, refl, sym, ap, _∙_}
 use mathlib.Core.List.{List, _++_}
 use Prim.Native.Nat.{ℕ, _+_}
 use lib.ListN.{length, take, drop}
-use Rattle.codec.specs.Answers.{Outcome, Answer}
+use Rattle.codec.specs.declared.Decoded.{Decoded}
+use Rattle.codec.specs.declared.Decoded.the-variants as decoded
+use Rattle.codec.specs.Answers.{Outcome, Answer, answerOf}
 use Rattle.codec.specs.Format.{Format, writeAnswer, writeBuffer, lengthAnswer}
 use Rattle.codec.specs.Reader.{Reader}
 use Rattle.text.specs.Parts.{parts}
@@ -27,37 +29,44 @@ module _ {A : Type 0} (print : A → List ℕ) (reader : Reader A) (i : ℕ) (li
   pub read-answer : {s n : ℕ} {x : Answer A} → r ≡ message.Message s n → x ≡ reader (drop s (take n buffer)) → readLine print reader i line ≡ readText print x
   read-answer e h = message-is i line read e said ∙ ap (readText print) (sym h)
 
--- ---- writing: a value in the i-th field, then the lent buffer
-module _ {A : Type 0} (parse : ℕ → List ℕ → (A → List ℕ) → List ℕ) (format : Format A) (i : ℕ) (line : List ℕ) {m : ℕ} (counted : m ≡ length (parts 9 line)) where
+-- what was read, with the value already printed
+pub read-printed : {A : Type 0} (print : A → List ℕ) (d : Decoded) (a : A) {t : List ℕ} → t ≡ print a → readText print (answerOf d a) ≡ readText (λ t. t) (answerOf d t)
+read-printed print (decoded.Consumed n) a e = rw e
+read-printed print decoded.EndOfInput a e = refl
+read-printed print decoded.TheirFault a e = refl
+read-printed print decoded.Malformed a e = refl
+
+-- ---- writing: a value from the i-th field on, then the lent buffer
+module _ {A : Type 0} (parse : ℕ → List ℕ → (A → List ℕ) → List ℕ) (format : Format A) (i j : ℕ) (line : List ℕ) {m : ℕ} (counted : m ≡ length (parts 9 line)) where
   abbrev put : A → List ℕ → List ℕ
   put v lent = writtenText (writeAnswer format v (length lent)) (writeBuffer format v lent)
 
-  pub write-fields : (m ≡ i + 2 → ⊥) → writeLine parse format i line ≡ six
-  write-fields h = fields-not line counted (i + 2) _ h
+  pub write-fields : (m ≡ j + 1 → ⊥) → writeLine parse format i j line ≡ six
+  write-fields h = fields-not line counted (j + 1) _ h
 
-  module _ (many : m ≡ i + 2) where
-    pub write-value : ((k : A → List ℕ) → parse i line k ≡ six) → writeLine parse format i line ≡ six
-    write-value value = fields-are line counted (i + 2) _ many ∙ value _
+  module _ (many : m ≡ j + 1) where
+    pub write-value : ((k : A → List ℕ) → parse i line k ≡ six) → writeLine parse format i j line ≡ six
+    write-value value = fields-are line counted (j + 1) _ many ∙ value _
 
-    module _ (v : A) (value : (k : A → List ℕ) → parse i line k ≡ k v) {buffer : List ℕ} {r : HexField} (read : ReadsHex 8192 (i + 1) line buffer r) where
-      pub write-buffer : r ≡ hex.Refused → writeLine parse format i line ≡ six
-      write-buffer e = fields-are line counted (i + 2) _ many ∙ value _ ∙ hex-refused (i + 1) line read (put v) e
+    module _ (v : A) (value : (k : A → List ℕ) → parse i line k ≡ k v) {buffer : List ℕ} {r : HexField} (read : ReadsHex 8192 j line buffer r) where
+      pub write-buffer : r ≡ hex.Refused → writeLine parse format i j line ≡ six
+      write-buffer e = fields-are line counted (j + 1) _ many ∙ value _ ∙ hex-refused j line read (put v) e
 
       pub write-answer : {n : ℕ} {o : Outcome} {ys : List ℕ} (e : r ≡ hex.Bytes n)
           → o ≡ writeAnswer format v (length (take n buffer)) → ys ≡ writeBuffer format v (take n buffer) → length ys ≡ length (take n buffer)
-          → writeLine parse format i line ≡ writtenText o (take n (ys ++ drop n buffer))
+          → writeLine parse format i j line ≡ writtenText o (take n (ys ++ drop n buffer))
       write-answer {n} {o} {ys} e answer written kept =
-          let b : take n (ys ++ drop n buffer) ≡ ys = lent-back (i + 1) line read e ys kept in
-          fields-are line counted (i + 2) _ many ∙ value _ ∙ hex-bytes (i + 1) line read e (put v) ∙ rw (b, ← answer, ← written)
+          let b : take n (ys ++ drop n buffer) ≡ ys = lent-back j line read e ys kept in
+          fields-are line counted (j + 1) _ many ∙ value _ ∙ hex-bytes j line read e (put v) ∙ rw (b, ← answer, ← written)
 
--- ---- written length: a value in the i-th field
-module _ {A : Type 0} (parse : ℕ → List ℕ → (A → List ℕ) → List ℕ) (format : Format A) (i : ℕ) (line : List ℕ) {m : ℕ} (counted : m ≡ length (parts 9 line)) where
-  pub length-fields : (m ≡ i + 1 → ⊥) → lengthLine parse format i line ≡ six
-  length-fields h = fields-not line counted (i + 1) _ h
+-- ---- written length: a value from the i-th field on
+module _ {A : Type 0} (parse : ℕ → List ℕ → (A → List ℕ) → List ℕ) (format : Format A) (i j : ℕ) (line : List ℕ) {m : ℕ} (counted : m ≡ length (parts 9 line)) where
+  pub length-fields : (m ≡ j → ⊥) → lengthLine parse format i j line ≡ six
+  length-fields h = fields-not line counted j _ h
 
-  module _ (many : m ≡ i + 1) where
-    pub length-value : ((k : A → List ℕ) → parse i line k ≡ six) → lengthLine parse format i line ≡ six
-    length-value value = fields-are line counted (i + 1) _ many ∙ value _
+  module _ (many : m ≡ j) where
+    pub length-value : ((k : A → List ℕ) → parse i line k ≡ six) → lengthLine parse format i j line ≡ six
+    length-value value = fields-are line counted j _ many ∙ value _
 
-    pub length-answer : (v : A) → ((k : A → List ℕ) → parse i line k ≡ k v) → {o : Outcome} → o ≡ lengthAnswer format v → lengthLine parse format i line ≡ lengthText o
-    length-answer v value h = fields-are line counted (i + 1) _ many ∙ value _ ∙ ap lengthText (sym h)
+    pub length-answer : (v : A) → ((k : A → List ℕ) → parse i line k ≡ k v) → {o : Outcome} → o ≡ lengthAnswer format v → lengthLine parse format i j line ≡ lengthText o
+    length-answer v value h = fields-are line counted j _ many ∙ value _ ∙ ap lengthText (sym h)

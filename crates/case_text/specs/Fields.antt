@@ -8,7 +8,8 @@ use Rattle.path.specs.declared.Path.{Path}
 use Rattle.path_text.specs.declared.Found.{Found}
 use Rattle.path_text.specs.declared.Found.the-variants as found
 use Rattle.path_text.specs.PathText.{readPathText}
-use Rattle.text.specs.Parts.{parts, partAt, sameText}
+use Rattle.codec.specs.Bytes.{sameBytes}
+use Rattle.text.specs.Parts.{parts, partAt}
 use Rattle.text.specs.Hex.{unhex}
 use Rattle.text.specs.Fields.{readDecimal, readHex}
 use Rattle.text.specs.declared.Decimal.{Decimal}
@@ -65,7 +66,7 @@ pathField i line k = onPath (readPathText (field i line) .found) (readPathText (
 -- the operation in the second field: `s`, `l`, `w` or `n`
 unfoldable pub opOf : List ℕ → Op
 opOf f =
-    cond (sameText f (115 ∷ [])) op.Strict
-    (cond (sameText f (108 ∷ [])) op.Lenient
-    (cond (sameText f (119 ∷ [])) op.Write
-    (cond (sameText f (110 ∷ [])) op.Length op.Unknown)))
+    cond (sameBytes f (115 ∷ [])) op.Strict
+    (cond (sameBytes f (108 ∷ [])) op.Lenient
+    (cond (sameBytes f (119 ∷ [])) op.Write
+    (cond (sameBytes f (110 ∷ [])) op.Length op.Unknown)))

@@ -16,25 +16,25 @@ readLine print reader i line =
     messageField i line (λ start message.
     readText print (reader (drop start message)))
 
--- a value in the i-th field, then the lent buffer
-abbrev pub writeLine : {A : Type 0} → (ℕ → List ℕ → (A → List ℕ) → List ℕ) → Format A → ℕ → List ℕ → List ℕ
-writeLine parse format i line =
-    exactly (i + 2) line (
+-- a value from the i-th field on, then the lent buffer, which is the j-th field and the last
+abbrev pub writeLine : {A : Type 0} → (ℕ → List ℕ → (A → List ℕ) → List ℕ) → Format A → ℕ → ℕ → List ℕ → List ℕ
+writeLine parse format i j line =
+    exactly (j + 1) line (
     parse i line (λ v.
-    hexField (i + 1) line (λ lent.
+    hexField j line (λ lent.
     writtenText (writeAnswer format v (length lent)) (writeBuffer format v lent))))
 
--- a value in the i-th field
-abbrev pub lengthLine : {A : Type 0} → (ℕ → List ℕ → (A → List ℕ) → List ℕ) → Format A → ℕ → List ℕ → List ℕ
-lengthLine parse format i line =
-    exactly (i + 1) line (
+-- a value from the i-th field on, j fields in all
+abbrev pub lengthLine : {A : Type 0} → (ℕ → List ℕ → (A → List ℕ) → List ℕ) → Format A → ℕ → ℕ → List ℕ → List ℕ
+lengthLine parse format i j line =
+    exactly j line (
     parse i line (λ v.
     lengthText (lengthAnswer format v)))
 
--- by the operation; `parse` reads a value in a field, `print` prints one
-abbrev pub recordLine : {A : Type 0} → (ℕ → List ℕ → (A → List ℕ) → List ℕ) → (A → List ℕ) → (Bool → Reader A) → Format A → ℕ → Op → List ℕ → List ℕ
-recordLine parse print reader format i op.Strict line = readLine print (reader true) i line
-recordLine parse print reader format i op.Lenient line = readLine print (reader false) i line
-recordLine parse print reader format i op.Write line = writeLine parse format i line
-recordLine parse print reader format i op.Length line = lengthLine parse format i line
-recordLine parse print reader format i op.Unknown line = six
+-- by the operation; `parse` reads a value from a field on, `print` prints one, and j is the field after the value
+abbrev pub recordLine : {A : Type 0} → (ℕ → List ℕ → (A → List ℕ) → List ℕ) → (A → List ℕ) → (Bool → Reader A) → Format A → ℕ → ℕ → Op → List ℕ → List ℕ
+recordLine parse print reader format i j op.Strict line = readLine print (reader true) i line
+recordLine parse print reader format i j op.Lenient line = readLine print (reader false) i line
+recordLine parse print reader format i j op.Write line = writeLine parse format i j line
+recordLine parse print reader format i j op.Length line = lengthLine parse format i j line
+recordLine parse print reader format i j op.Unknown line = six

@@ -13,16 +13,16 @@ use text::Hex;
 pub fn op(field: &[u8]) -> Op
     ensures { λ r. ⌜ r ≡ opOf (now (field .entry)) ⌝ }
 {
-    if text::same(field, b"s") {
+    if codec::same_bytes(field, b"s") {
         return Op::Strict;
     }
-    if text::same(field, b"l") {
+    if codec::same_bytes(field, b"l") {
         return Op::Lenient;
     }
-    if text::same(field, b"w") {
+    if codec::same_bytes(field, b"w") {
         return Op::Write;
     }
-    if text::same(field, b"n") {
+    if codec::same_bytes(field, b"n") {
         return Op::Length;
     }
     Op::Unknown

@@ -7,7 +7,6 @@ ghost use Rattle.codec.specs.Answers.{answerOf, outcomeOf};
 ghost use Rattle.compact_u64.specs.Answers.{numberAnswer};
 ghost use Rattle.text.specs.Decimal.{decimalText};
 ghost use Rattle.text.specs.Hex.{hexText};
-ghost use Rattle.path_text.specs.PathText.{pathTextOf};
 ghost use Rattle.case_text.specs.Texts.{six, noText, afterTab, ended, readText, lengthText, writtenText, writtenNumberText};
 ghost use Rattle.case_text.specs.Answers.{Puts, PutsWithin};
 use crate::MAX_ANSWER;
@@ -15,8 +14,6 @@ use crate::MAX_BYTES;
 use codec::Decoded;
 use codec::Encoded;
 use compact_u64::DecodedU64;
-use path::Path;
-use path_codec::DecodedPath;
 
 // The bytes of a buffer from a place on.
 pub fn free(out: &[u8], at: usize) -> usize
@@ -59,12 +56,16 @@ fn tab_hex(out: &mut [u8], at: usize, buffer: &[u8], n: usize) -> usize
     text::put_hex(out, p, &buffer[..n])
 }
 
-fn tab_path(out: &mut [u8], at: usize, path: Path) -> usize
-    requires { ⌜ at + 1220 ≤ length (now out) ⌝ }
-    ensures { λ r. ⌜ Puts at (afterTab (pathTextOf path)) (now (out .entry)) (now (out .exit)) r × (r ≤ at + 1220) ⌝ }
+// The first n bytes of a text; all of them where it has no more.
+fn tab_bytes(out: &mut [u8], at: usize, bytes: &[u8], n: usize) -> usize
+    requires { ⌜ (at + 8193 ≤ length (now out)) × (length (now bytes) ≤ 8192) ⌝ }
+    ensures { λ r. ⌜ Puts at (afterTab (take n (now (bytes .entry)))) (now (out .entry)) (now (out .exit)) r × (r ≤ at + 8193) ⌝ }
 {
     let p = text::put_bytes(out, at, b"\t");
-    path_text::put_path(out, p, path)
+    if bytes.len() < n {
+        return text::put_bytes(out, p, bytes);
+    }
+    text::put_bytes(out, p, &bytes[..n])
 }
 
 fn end(out: &mut [u8], at: usize) -> usize
@@ -166,18 +167,17 @@ pub fn number(out: &mut [u8], at: usize, answer: DecodedU64) -> usize
     }
 }
 
-// What reading a path answered.
-pub fn path(out: &mut [u8], at: usize, decoded: DecodedPath) -> usize
-    ensures { λ r. ⌜ PutsWithin 16640 at (ended (readText pathTextOf (answerOf (decoded .answer) (decoded .path)))) (now (out .entry)) (now (out .exit)) r ⌝ }
+// What reading a record answered, whose text is the first n bytes of a buffer.
+pub fn value(out: &mut [u8], at: usize, answer: Decoded, value: &[u8; MAX_BYTES], n: usize) -> usize
+    ensures { λ r. ⌜ PutsWithin 16640 at (ended (readText (λ t. t) (answerOf answer (take n (now (value .entry)))))) (now (out .entry)) (now (out .exit)) r ⌝ }
 {
     if free(out, at) < MAX_ANSWER {
         return at;
     }
-    let answer = decoded.answer;
     match answer {
-        Decoded::Consumed(n) => {
-            let p = worded(out, at, b"ok\t", n as u64);
-            let q = tab_path(out, p, decoded.path);
+        Decoded::Consumed(k) => {
+            let p = worded(out, at, b"ok\t", k as u64);
+            let q = tab_bytes(out, p, value, n);
             end(out, q)
         }
         Decoded::EndOfInput => no(out, at, 1),

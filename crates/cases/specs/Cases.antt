@@ -2,6 +2,7 @@
 use mathlib.Core.Path.{_≡_}
 use mathlib.Core.List.{List, [], _∷_}
 use mathlib.Core.Bool.{true, false}
+use mathlib.Core.Option.{none}
 use Prim.Native.Nat.{ℕ}
 use lib.ListN.{length}
 use Rattle.codec.specs.Answers.{Answer, accepted, refused, wrote}
@@ -10,6 +11,12 @@ use Rattle.codec.specs.Reader.{named}
 use Rattle.path.specs.Record.{pathFrom}
 use Rattle.path_codec.specs.Plain.{plainPath, readPath}
 use Rattle.path_relative.specs.Records.{againstPath, readAgainstPath}
+use Rattle.grouping.specs.declared.RangeEnd.{RangeEnd}
+use Rattle.grouping.specs.declared.RangeEnd.the-variants.{Closed, Open}
+use Rattle.grouping.specs.Area.{AreaValue}
+use Rattle.grouping.specs.Record.{areaFrom}
+use Rattle.area_area.specs.Area.{timesFrom, valueFrom}
+use Rattle.area_area.specs.Records.{againstArea, readAgainstArea}
 
 -- components
 abbrev pub a : List ℕ
@@ -18,18 +25,26 @@ a = 0x61 ∷ []
 abbrev pub bc : List ℕ
 bc = 0x62 ∷ 0x63 ∷ []
 
--- a message with the answers of strict and of lenient reading, or a value with the bytes that writing gives; a path stands as its components
+-- an area of any subspace and the empty path
+abbrev pub times : ℕ → RangeEnd → AreaValue
+times start end = valueFrom none (timesFrom start end) []
+
+-- a message with the answers of strict and of lenient reading, or a value with the bytes that writing gives; paths and areas stand as their values
 pub data Case : Type 0 where
   path : List ℕ → Answer (List (List ℕ)) → Answer (List (List ℕ)) → Case
   path-written : List (List ℕ) → List ℕ → Case
   against : List (List ℕ) → List ℕ → Answer (List (List ℕ)) → Answer (List (List ℕ)) → Case
   against-written : List (List ℕ) → List (List ℕ) → List ℕ → Case
+  area : AreaValue → List ℕ → Answer AreaValue → Answer AreaValue → Case
+  area-written : AreaValue → AreaValue → List ℕ → Case
 
 abbrev pub Holds : Case → Type 0
 Holds (path s strict lenient) = (readPath true s ≡ named pathFrom strict) × (readPath false s ≡ named pathFrom lenient)
 Holds (path-written p bytes) = (writeAnswer plainPath (pathFrom p) (length bytes) ≡ wrote (length bytes)) × (plainPath .encode (pathFrom p) ≡ bytes)
 Holds (against r s strict lenient) = (readAgainstPath true (pathFrom r) s ≡ named pathFrom strict) × (readAgainstPath false (pathFrom r) s ≡ named pathFrom lenient)
 Holds (against-written r p bytes) = (writeAnswer (againstPath (pathFrom r)) (pathFrom p) (length bytes) ≡ wrote (length bytes)) × (againstPath (pathFrom r) .encode (pathFrom p) ≡ bytes)
+Holds (area r s strict lenient) = (readAgainstArea true (areaFrom r) s ≡ named areaFrom strict) × (readAgainstArea false (areaFrom r) s ≡ named areaFrom lenient)
+Holds (area-written r a bytes) = (writeAnswer (againstArea (areaFrom r)) (areaFrom a) (length bytes) ≡ wrote (length bytes)) × (againstArea (areaFrom r) .encode (areaFrom a) ≡ bytes)
 
 abbrev pub AllHold : List Case → Type 0
 AllHold [] = Unit {0}
@@ -51,4 +66,7 @@ cases =
     ∷ against-written (a ∷ []) (a ∷ bc ∷ []) (0x01 ∷ 0x21 ∷ 0x62 ∷ 0x63 ∷ [])
     ∷ against (a ∷ []) (0x00 ∷ 0x32 ∷ 0x01 ∷ 0x61 ∷ 0x62 ∷ 0x63 ∷ []) (refused 2) (accepted (a ∷ bc ∷ []) 6)
     ∷ against (a ∷ []) (0x02 ∷ 0x00 ∷ []) (refused 2) (refused 2)
+    ∷ area (times 0 Open) (0x60 ∷ 0x00 ∷ 0x00 ∷ []) (accepted (times 0 Open) 3) (accepted (times 0 Open) 3)
+    ∷ area-written (times 0 Open) (times 0 Open) (0x60 ∷ 0x00 ∷ 0x00 ∷ [])
+    ∷ area (times 100 (Closed 200)) (0x00 ∷ 0x32 ∷ 0x00 ∷ 0x00 ∷ []) (refused 2) (accepted (times 150 (Closed 200)) 4)
     ∷ []

@@ -56,11 +56,17 @@ relative-requires-2 c κs = search needs
 enum-told-6 : tie.Need-enum-told-6
 enum-told-6 c = search needs
 
-raw-requires : tie.Need-raw-requires
-raw-requires c κs = search needs
+area-requires : tie.Need-area-requires
+area-requires c κs = search needs
 
 enum-told-7 : tie.Need-enum-told-7
 enum-told-7 c = search needs
+
+raw-requires : tie.Need-raw-requires
+raw-requires c κs = search needs
+
+enum-told-8 : tie.Need-enum-told-8
+enum-told-8 c = search needs
 
 refuse-requires-2 : tie.Need-refuse-requires-2
 refuse-requires-2 c κs = search needs
@@ -111,7 +117,7 @@ same-length-7 c = search needs
 returns-7 : tie.Need-returns-7
 returns-7 c =
     let line = now (c .before .before .before .before .before .before .before .before .before .before .before .args .line) in
-    within-same (kind-told line (omega arith) (c .before .before .before .before .before .before .before .part .ensures) (c .before .before .before .before .before .before .kind-of .ensures) (c .before .before .before .before .enum-told6 .given .1)) (c .before .before .raw .ensures)
+    within-same (kind-told line (omega arith) (c .before .before .before .before .before .before .before .part .ensures) (c .before .before .before .before .before .before .kind-of .ensures) (c .before .before .before .before .enum-told6 .given .1)) (c .before .before .area .ensures)
 
 same-length-8 : tie.Need-same-length-8
 same-length-8 c = search needs
@@ -119,7 +125,15 @@ same-length-8 c = search needs
 returns-8 : tie.Need-returns-8
 returns-8 c =
     let line = now (c .before .before .before .before .before .before .before .before .before .before .before .args .line) in
-    within-same (kind-told line (omega arith) (c .before .before .before .before .before .before .before .part .ensures) (c .before .before .before .before .before .before .kind-of .ensures) (c .before .before .before .before .enum-told7 .given .1)) (c .before .before .refuse2 .ensures)
+    within-same (kind-told line (omega arith) (c .before .before .before .before .before .before .before .part .ensures) (c .before .before .before .before .before .before .kind-of .ensures) (c .before .before .before .before .enum-told7 .given .1)) (c .before .before .raw .ensures)
+
+same-length-9 : tie.Need-same-length-9
+same-length-9 c = search needs
+
+returns-9 : tie.Need-returns-9
+returns-9 c =
+    let line = now (c .before .before .before .before .before .before .before .before .before .before .before .args .line) in
+    within-same (kind-told line (omega arith) (c .before .before .before .before .before .before .before .part .ensures) (c .before .before .before .before .before .before .kind-of .ensures) (c .before .before .before .before .enum-told8 .given .1)) (c .before .before .refuse2 .ensures)
 
 pub answer-spec : {M : Type 1} → statement M
 answer-spec =
@@ -141,8 +155,10 @@ answer-spec =
     enum-told-5
     relative-requires-2
     enum-told-6
-    raw-requires
+    area-requires
     enum-told-7
+    raw-requires
+    enum-told-8
     refuse-requires-2
     same-length-2
     returns-2
@@ -157,4 +173,6 @@ answer-spec =
     same-length-7
     returns-7
     same-length-8
-    returns-8)
+    returns-8
+    same-length-9
+    returns-9)

@@ -3,33 +3,33 @@ use Rattle.case_answers.specs.Lines.{kindOf}
 use Rattle.case_answers.proofs.kind_of.Statement.{statement}
 use Rattle.case_answers.proofs.kind_of.Tie as tie
 
-slice-aggregate-same : tie.Need-slice-aggregate-same
-slice-aggregate-same c = search needs
+slice-aggregate-same-bytes : tie.Need-slice-aggregate-same-bytes
+slice-aggregate-same-bytes c = search needs
 
-same-requires : tie.Need-same-requires
-same-requires c κs = search needs
+same-bytes-requires : tie.Need-same-bytes-requires
+same-bytes-requires c κs = search needs
 
 returns : tie.Need-returns
 unfolding kindOf
-returns c = rw (← (c .before .same .ensures), c .if1 .taken)
+returns c = rw (← (c .before .same-bytes .ensures), c .if1 .taken)
 
-slice-aggregate-same-2 : tie.Need-slice-aggregate-same-2
-slice-aggregate-same-2 c = search needs
+slice-aggregate-same-bytes-2 : tie.Need-slice-aggregate-same-bytes-2
+slice-aggregate-same-bytes-2 c = search needs
 
-same-requires-2 : tie.Need-same-requires-2
-same-requires-2 c κs = search needs
+same-bytes-requires-2 : tie.Need-same-bytes-requires-2
+same-bytes-requires-2 c κs = search needs
 
 returns-2 : tie.Need-returns-2
 unfolding kindOf
 returns-2 c =
     let c1 = c .before .before .before in
-    rw (← (c1 .before .same .ensures), c1 .if1 .left, ← (c .before .same2 .ensures), c .if2 .taken)
+    rw (← (c1 .before .same-bytes .ensures), c1 .if1 .left, ← (c .before .same-bytes2 .ensures), c .if2 .taken)
 
-slice-aggregate-same-3 : tie.Need-slice-aggregate-same-3
-slice-aggregate-same-3 c = search needs
+slice-aggregate-same-bytes-3 : tie.Need-slice-aggregate-same-bytes-3
+slice-aggregate-same-bytes-3 c = search needs
 
-same-requires-3 : tie.Need-same-requires-3
-same-requires-3 c κs = search needs
+same-bytes-requires-3 : tie.Need-same-bytes-requires-3
+same-bytes-requires-3 c κs = search needs
 
 returns-3 : tie.Need-returns-3
 unfolding kindOf
@@ -37,19 +37,19 @@ returns-3 c =
     let c2 = c .before .before .before in
     let c1 = c2 .before .before .before in
     rw (
-      ← (c1 .before .same .ensures),
+      ← (c1 .before .same-bytes .ensures),
       c1 .if1 .left,
-      ← (c2 .before .same2 .ensures),
+      ← (c2 .before .same-bytes2 .ensures),
       c2 .if2 .left,
-      ← (c .before .same3 .ensures),
+      ← (c .before .same-bytes3 .ensures),
       c .if3 .taken,
     )
 
-slice-aggregate-same-4 : tie.Need-slice-aggregate-same-4
-slice-aggregate-same-4 c = search needs
+slice-aggregate-same-bytes-4 : tie.Need-slice-aggregate-same-bytes-4
+slice-aggregate-same-bytes-4 c = search needs
 
-same-requires-4 : tie.Need-same-requires-4
-same-requires-4 c κs = search needs
+same-bytes-requires-4 : tie.Need-same-bytes-requires-4
+same-bytes-requires-4 c κs = search needs
 
 returns-4 : tie.Need-returns-4
 unfolding kindOf
@@ -58,21 +58,21 @@ returns-4 c =
     let c2 = c3 .before .before .before in
     let c1 = c2 .before .before .before in
     rw (
-      ← (c1 .before .same .ensures),
+      ← (c1 .before .same-bytes .ensures),
       c1 .if1 .left,
-      ← (c2 .before .same2 .ensures),
+      ← (c2 .before .same-bytes2 .ensures),
       c2 .if2 .left,
-      ← (c3 .before .same3 .ensures),
+      ← (c3 .before .same-bytes3 .ensures),
       c3 .if3 .left,
-      ← (c .before .same4 .ensures),
+      ← (c .before .same-bytes4 .ensures),
       c .if4 .taken,
     )
 
-slice-aggregate-same-5 : tie.Need-slice-aggregate-same-5
-slice-aggregate-same-5 c = search needs
+slice-aggregate-same-bytes-5 : tie.Need-slice-aggregate-same-bytes-5
+slice-aggregate-same-bytes-5 c = search needs
 
-same-requires-5 : tie.Need-same-requires-5
-same-requires-5 c κs = search needs
+same-bytes-requires-5 : tie.Need-same-bytes-requires-5
+same-bytes-requires-5 c κs = search needs
 
 returns-5 : tie.Need-returns-5
 unfolding kindOf
@@ -82,23 +82,23 @@ returns-5 c =
     let c2 = c3 .before .before .before in
     let c1 = c2 .before .before .before in
     rw (
-      ← (c1 .before .same .ensures),
+      ← (c1 .before .same-bytes .ensures),
       c1 .if1 .left,
-      ← (c2 .before .same2 .ensures),
+      ← (c2 .before .same-bytes2 .ensures),
       c2 .if2 .left,
-      ← (c3 .before .same3 .ensures),
+      ← (c3 .before .same-bytes3 .ensures),
       c3 .if3 .left,
-      ← (c4 .before .same4 .ensures),
+      ← (c4 .before .same-bytes4 .ensures),
       c4 .if4 .left,
-      ← (c .before .same5 .ensures),
+      ← (c .before .same-bytes5 .ensures),
       c .if5 .taken,
     )
 
-slice-aggregate-same-6 : tie.Need-slice-aggregate-same-6
-slice-aggregate-same-6 c = search needs
+slice-aggregate-same-bytes-6 : tie.Need-slice-aggregate-same-bytes-6
+slice-aggregate-same-bytes-6 c = search needs
 
-same-requires-6 : tie.Need-same-requires-6
-same-requires-6 c κs = search needs
+same-bytes-requires-6 : tie.Need-same-bytes-requires-6
+same-bytes-requires-6 c κs = search needs
 
 returns-6 : tie.Need-returns-6
 unfolding kindOf
@@ -109,63 +109,101 @@ returns-6 c =
     let c2 = c3 .before .before .before in
     let c1 = c2 .before .before .before in
     rw (
-      ← (c1 .before .same .ensures),
+      ← (c1 .before .same-bytes .ensures),
       c1 .if1 .left,
-      ← (c2 .before .same2 .ensures),
+      ← (c2 .before .same-bytes2 .ensures),
       c2 .if2 .left,
-      ← (c3 .before .same3 .ensures),
+      ← (c3 .before .same-bytes3 .ensures),
       c3 .if3 .left,
-      ← (c4 .before .same4 .ensures),
+      ← (c4 .before .same-bytes4 .ensures),
       c4 .if4 .left,
-      ← (c5 .before .same5 .ensures),
+      ← (c5 .before .same-bytes5 .ensures),
       c5 .if5 .left,
-      ← (c .before .same6 .ensures),
+      ← (c .before .same-bytes6 .ensures),
       c .if6 .taken,
     )
+
+slice-aggregate-same-bytes-7 : tie.Need-slice-aggregate-same-bytes-7
+slice-aggregate-same-bytes-7 c = search needs
+
+same-bytes-requires-7 : tie.Need-same-bytes-requires-7
+same-bytes-requires-7 c κs = search needs
 
 returns-7 : tie.Need-returns-7
 unfolding kindOf
 returns-7 c =
-    let c5 = c .before .before .before in
+    let c6 = c .before .before .before in
+    let c5 = c6 .before .before .before in
     let c4 = c5 .before .before .before in
     let c3 = c4 .before .before .before in
     let c2 = c3 .before .before .before in
     let c1 = c2 .before .before .before in
     rw (
-      ← (c1 .before .same .ensures),
+      ← (c1 .before .same-bytes .ensures),
       c1 .if1 .left,
-      ← (c2 .before .same2 .ensures),
+      ← (c2 .before .same-bytes2 .ensures),
       c2 .if2 .left,
-      ← (c3 .before .same3 .ensures),
+      ← (c3 .before .same-bytes3 .ensures),
       c3 .if3 .left,
-      ← (c4 .before .same4 .ensures),
+      ← (c4 .before .same-bytes4 .ensures),
       c4 .if4 .left,
-      ← (c5 .before .same5 .ensures),
+      ← (c5 .before .same-bytes5 .ensures),
       c5 .if5 .left,
-      ← (c .before .same6 .ensures),
-      c .if6 .left,
+      ← (c6 .before .same-bytes6 .ensures),
+      c6 .if6 .left,
+      ← (c .before .same-bytes7 .ensures),
+      c .if7 .taken,
+    )
+
+returns-8 : tie.Need-returns-8
+unfolding kindOf
+returns-8 c =
+    let c6 = c .before .before .before in
+    let c5 = c6 .before .before .before in
+    let c4 = c5 .before .before .before in
+    let c3 = c4 .before .before .before in
+    let c2 = c3 .before .before .before in
+    let c1 = c2 .before .before .before in
+    rw (
+      ← (c1 .before .same-bytes .ensures),
+      c1 .if1 .left,
+      ← (c2 .before .same-bytes2 .ensures),
+      c2 .if2 .left,
+      ← (c3 .before .same-bytes3 .ensures),
+      c3 .if3 .left,
+      ← (c4 .before .same-bytes4 .ensures),
+      c4 .if4 .left,
+      ← (c5 .before .same-bytes5 .ensures),
+      c5 .if5 .left,
+      ← (c6 .before .same-bytes6 .ensures),
+      c6 .if6 .left,
+      ← (c .before .same-bytes7 .ensures),
+      c .if7 .left,
     )
 
 pub kind-of-spec : {M : Type 1} → statement M
 kind-of-spec =
     tie.close
     (tie.spec
-    slice-aggregate-same
-    same-requires
+    slice-aggregate-same-bytes
+    same-bytes-requires
     returns
-    slice-aggregate-same-2
-    same-requires-2
+    slice-aggregate-same-bytes-2
+    same-bytes-requires-2
     returns-2
-    slice-aggregate-same-3
-    same-requires-3
+    slice-aggregate-same-bytes-3
+    same-bytes-requires-3
     returns-3
-    slice-aggregate-same-4
-    same-requires-4
+    slice-aggregate-same-bytes-4
+    same-bytes-requires-4
     returns-4
-    slice-aggregate-same-5
-    same-requires-5
+    slice-aggregate-same-bytes-5
+    same-bytes-requires-5
     returns-5
-    slice-aggregate-same-6
-    same-requires-6
+    slice-aggregate-same-bytes-6
+    same-bytes-requires-6
     returns-6
-    returns-7)
+    slice-aggregate-same-bytes-7
+    same-bytes-requires-7
+    returns-7
+    returns-8)

@@ -22,7 +22,7 @@ returns : tie.Need-returns
 returns c =
     let line = now (c .before .before .before .before .before .before .before .before .args .line) in
     let counted = c .before .before .before .before .before .part-count .ensures in
-    puts (length-fields decimalField standalone 2 line counted (c .before .before .before .before .if1 .taken)) (c .before .before .refuse .ensures)
+    puts (length-fields decimalField standalone 2 3 line counted (c .before .before .before .before .if1 .taken)) (c .before .before .refuse .ensures)
 
 part-requires : tie.Need-part-requires
 part-requires c κs = search needs
@@ -48,7 +48,7 @@ returns-2 c =
     let counted = c .before .before .before .before .before .before .before .before .before .part-count .ensures in
     let many = c .before .before .before .before .before .before .before .before .if1 .left in
     let value = decimal-refused 2 line (c .before .before .before .before .before .before .before .part .ensures) (c .before .before .before .before .before .before .read-decimal .ensures) (c .before .before .before .before .enum-told .given .1) in
-    puts (length-value decimalField standalone 2 line counted many value) (c .before .before .refuse2 .ensures)
+    puts (length-value decimalField standalone 2 3 line counted many value) (c .before .before .refuse2 .ensures)
 
 len-of-encoding-requires : tie.Need-len-of-encoding-requires
 len-of-encoding-requires c κs = search needs
@@ -66,7 +66,7 @@ returns-3 c =
     let many = c .before .before .before .before .before .before .before .before .before .before .if1 .left in
     let value = decimal-value 2 line (c .before .before .before .before .before .before .before .before .before .part .ensures) (c .before .before .before .before .before .before .before .before .read-decimal .ensures) (c .before .before .before .before .before .before .value .given .1) in
     let long = c .before .before .before .len-of-encoding .ensures .0 in
-    puts (length-answer decimalField standalone 2 line counted many _ value (length-allowed standalone _ _ refl long)) (c .before .before .length .ensures)
+    puts (length-answer decimalField standalone 2 3 line counted many _ value (length-allowed standalone _ _ refl long)) (c .before .before .length .ensures)
 
 pub len-standalone-spec : {M : Type 1} → statement M
 len-standalone-spec =

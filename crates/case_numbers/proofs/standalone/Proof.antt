@@ -51,7 +51,7 @@ returns : tie.Need-returns
 returns c =
     let line = now (c .before .before .before .before .before .before .before .before .before .before .args .line) in
     let told = op-told line (c .before .before .before .before .before .before .before .part .ensures) (c .before .before .before .before .before .before .op .ensures) (c .before .before .before .before .enum-told .given .1) in
-    puts (told (λ o. recordLine decimalField decimalText readStandalone standalone 2 o line)) (c .before .before .read-standalone .ensures)
+    puts (told (λ o. recordLine decimalField decimalText readStandalone standalone 2 3 o line)) (c .before .before .read-standalone .ensures)
 
 same-length-2 : tie.Need-same-length-2
 same-length-2 c = search needs
@@ -60,7 +60,7 @@ returns-2 : tie.Need-returns-2
 returns-2 c =
     let line = now (c .before .before .before .before .before .before .before .before .before .before .args .line) in
     let told = op-told line (c .before .before .before .before .before .before .before .part .ensures) (c .before .before .before .before .before .before .op .ensures) (c .before .before .before .before .enum-told2 .given .1) in
-    puts (told (λ o. recordLine decimalField decimalText readStandalone standalone 2 o line)) (c .before .before .read-standalone2 .ensures)
+    puts (told (λ o. recordLine decimalField decimalText readStandalone standalone 2 3 o line)) (c .before .before .read-standalone2 .ensures)
 
 same-length-3 : tie.Need-same-length-3
 same-length-3 c = search needs
@@ -69,7 +69,7 @@ returns-3 : tie.Need-returns-3
 returns-3 c =
     let line = now (c .before .before .before .before .before .before .before .before .before .before .args .line) in
     let told = op-told line (c .before .before .before .before .before .before .before .part .ensures) (c .before .before .before .before .before .before .op .ensures) (c .before .before .before .before .enum-told3 .given .1) in
-    puts (told (λ o. recordLine decimalField decimalText readStandalone standalone 2 o line)) (c .before .before .write-standalone .ensures)
+    puts (told (λ o. recordLine decimalField decimalText readStandalone standalone 2 3 o line)) (c .before .before .write-standalone .ensures)
 
 same-length-4 : tie.Need-same-length-4
 same-length-4 c = search needs
@@ -78,7 +78,7 @@ returns-4 : tie.Need-returns-4
 returns-4 c =
     let line = now (c .before .before .before .before .before .before .before .before .before .before .args .line) in
     let told = op-told line (c .before .before .before .before .before .before .before .part .ensures) (c .before .before .before .before .before .before .op .ensures) (c .before .before .before .before .enum-told4 .given .1) in
-    puts (told (λ o. recordLine decimalField decimalText readStandalone standalone 2 o line)) (c .before .before .len-standalone .ensures)
+    puts (told (λ o. recordLine decimalField decimalText readStandalone standalone 2 3 o line)) (c .before .before .len-standalone .ensures)
 
 same-length-5 : tie.Need-same-length-5
 same-length-5 c = search needs
@@ -87,7 +87,7 @@ returns-5 : tie.Need-returns-5
 returns-5 c =
     let line = now (c .before .before .before .before .before .before .before .before .before .before .args .line) in
     let told = op-told line (c .before .before .before .before .before .before .before .part .ensures) (c .before .before .before .before .before .before .op .ensures) (c .before .before .before .before .enum-told5 .given .1) in
-    puts (told (λ o. recordLine decimalField decimalText readStandalone standalone 2 o line)) (c .before .before .refuse .ensures)
+    puts (told (λ o. recordLine decimalField decimalText readStandalone standalone 2 3 o line)) (c .before .before .refuse .ensures)
 
 pub standalone-spec : {M : Type 1} → statement M
 standalone-spec =

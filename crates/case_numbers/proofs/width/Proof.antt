@@ -3,33 +3,33 @@ use Rattle.case_numbers.specs.Lines.{onWidth}
 use Rattle.case_numbers.proofs.width.Statement.{statement}
 use Rattle.case_numbers.proofs.width.Tie as tie
 
-slice-aggregate-same : tie.Need-slice-aggregate-same
-slice-aggregate-same c = search needs
+slice-aggregate-same-bytes : tie.Need-slice-aggregate-same-bytes
+slice-aggregate-same-bytes c = search needs
 
-same-requires : tie.Need-same-requires
-same-requires c κs = search needs
+same-bytes-requires : tie.Need-same-bytes-requires
+same-bytes-requires c κs = search needs
 
 returns : tie.Need-returns
 unfolding onWidth
-returns c k = rw (← (c .before .same .ensures), c .if1 .taken)
+returns c k = rw (← (c .before .same-bytes .ensures), c .if1 .taken)
 
-slice-aggregate-same-2 : tie.Need-slice-aggregate-same-2
-slice-aggregate-same-2 c = search needs
+slice-aggregate-same-bytes-2 : tie.Need-slice-aggregate-same-bytes-2
+slice-aggregate-same-bytes-2 c = search needs
 
-same-requires-2 : tie.Need-same-requires-2
-same-requires-2 c κs = search needs
+same-bytes-requires-2 : tie.Need-same-bytes-requires-2
+same-bytes-requires-2 c κs = search needs
 
 returns-2 : tie.Need-returns-2
 unfolding onWidth
 returns-2 c k =
     let c1 = c .before .before .before in
-    rw (← (c1 .before .same .ensures), c1 .if1 .left, ← (c .before .same2 .ensures), c .if2 .taken)
+    rw (← (c1 .before .same-bytes .ensures), c1 .if1 .left, ← (c .before .same-bytes2 .ensures), c .if2 .taken)
 
-slice-aggregate-same-3 : tie.Need-slice-aggregate-same-3
-slice-aggregate-same-3 c = search needs
+slice-aggregate-same-bytes-3 : tie.Need-slice-aggregate-same-bytes-3
+slice-aggregate-same-bytes-3 c = search needs
 
-same-requires-3 : tie.Need-same-requires-3
-same-requires-3 c κs = search needs
+same-bytes-requires-3 : tie.Need-same-bytes-requires-3
+same-bytes-requires-3 c κs = search needs
 
 returns-3 : tie.Need-returns-3
 unfolding onWidth
@@ -37,19 +37,19 @@ returns-3 c k =
     let c2 = c .before .before .before in
     let c1 = c2 .before .before .before in
     rw (
-      ← (c1 .before .same .ensures),
+      ← (c1 .before .same-bytes .ensures),
       c1 .if1 .left,
-      ← (c2 .before .same2 .ensures),
+      ← (c2 .before .same-bytes2 .ensures),
       c2 .if2 .left,
-      ← (c .before .same3 .ensures),
+      ← (c .before .same-bytes3 .ensures),
       c .if3 .taken,
     )
 
-slice-aggregate-same-4 : tie.Need-slice-aggregate-same-4
-slice-aggregate-same-4 c = search needs
+slice-aggregate-same-bytes-4 : tie.Need-slice-aggregate-same-bytes-4
+slice-aggregate-same-bytes-4 c = search needs
 
-same-requires-4 : tie.Need-same-requires-4
-same-requires-4 c κs = search needs
+same-bytes-requires-4 : tie.Need-same-bytes-requires-4
+same-bytes-requires-4 c κs = search needs
 
 returns-4 : tie.Need-returns-4
 unfolding onWidth
@@ -58,13 +58,13 @@ returns-4 c k =
     let c2 = c3 .before .before .before in
     let c1 = c2 .before .before .before in
     rw (
-      ← (c1 .before .same .ensures),
+      ← (c1 .before .same-bytes .ensures),
       c1 .if1 .left,
-      ← (c2 .before .same2 .ensures),
+      ← (c2 .before .same-bytes2 .ensures),
       c2 .if2 .left,
-      ← (c3 .before .same3 .ensures),
+      ← (c3 .before .same-bytes3 .ensures),
       c3 .if3 .left,
-      ← (c .before .same4 .ensures),
+      ← (c .before .same-bytes4 .ensures),
       c .if4 .taken,
     )
 
@@ -75,13 +75,13 @@ returns-5 c k =
     let c2 = c3 .before .before .before in
     let c1 = c2 .before .before .before in
     rw (
-      ← (c1 .before .same .ensures),
+      ← (c1 .before .same-bytes .ensures),
       c1 .if1 .left,
-      ← (c2 .before .same2 .ensures),
+      ← (c2 .before .same-bytes2 .ensures),
       c2 .if2 .left,
-      ← (c3 .before .same3 .ensures),
+      ← (c3 .before .same-bytes3 .ensures),
       c3 .if3 .left,
-      ← (c .before .same4 .ensures),
+      ← (c .before .same-bytes4 .ensures),
       c .if4 .left,
     )
 
@@ -89,16 +89,16 @@ pub width-spec : {M : Type 1} → statement M
 width-spec =
     tie.close
     (tie.spec
-    slice-aggregate-same
-    same-requires
+    slice-aggregate-same-bytes
+    same-bytes-requires
     returns
-    slice-aggregate-same-2
-    same-requires-2
+    slice-aggregate-same-bytes-2
+    same-bytes-requires-2
     returns-2
-    slice-aggregate-same-3
-    same-requires-3
+    slice-aggregate-same-bytes-3
+    same-bytes-requires-3
     returns-3
-    slice-aggregate-same-4
-    same-requires-4
+    slice-aggregate-same-bytes-4
+    same-bytes-requires-4
     returns-4
     returns-5)

@@ -21,7 +21,7 @@ returns : tie.Need-returns
 returns c =
     let line = now (c .before .before .before .before .before .before .before .before .args .line) in
     let counted = c .before .before .before .before .before .part-count .ensures in
-    puts (write-fields decimalField standalone 2 line counted (c .before .before .before .before .if1 .taken)) (c .before .before .refuse .ensures)
+    puts (write-fields decimalField standalone 2 3 line counted (c .before .before .before .before .if1 .taken)) (c .before .before .refuse .ensures)
 
 part-requires : tie.Need-part-requires
 part-requires c κs = search needs
@@ -47,7 +47,7 @@ returns-2 c =
     let counted = c .before .before .before .before .before .before .before .before .before .part-count .ensures in
     let many = c .before .before .before .before .before .before .before .before .if1 .left in
     let value = decimal-refused 2 line (c .before .before .before .before .before .before .before .part .ensures) (c .before .before .before .before .before .before .read-decimal .ensures) (c .before .before .before .before .enum-told .given .1) in
-    puts (write-value decimalField standalone 2 line counted many value) (c .before .before .refuse2 .ensures)
+    puts (write-value decimalField standalone 2 3 line counted many value) (c .before .before .refuse2 .ensures)
 
 slice-aggregate-hex : tie.Need-slice-aggregate-hex
 slice-aggregate-hex c = search needs
@@ -74,7 +74,7 @@ returns-3 c =
     let many = c .before .before .before .before .before .before .before .before .before .before .before .before .before .before .if1 .left in
     let value = decimal-value 2 line (c .before .before .before .before .before .before .before .before .before .before .before .before .before .part .ensures) (c .before .before .before .before .before .before .before .before .before .before .before .before .read-decimal .ensures) (c .before .before .before .before .before .before .before .before .before .before .value .given .1) in
     let read = c .before .before .before .before .before .before .before .hex .ensures in
-    puts (write-buffer decimalField standalone 2 line counted many _ value read (c .before .before .before .before .enum-told2 .given .1)) (c .before .before .refuse3 .ensures)
+    puts (write-buffer decimalField standalone 2 3 line counted many _ value read (c .before .before .before .before .enum-told2 .given .1)) (c .before .before .refuse3 .ensures)
 
 array-borrow-prefix-buffer : tie.Need-array-borrow-prefix-buffer
 array-borrow-prefix-buffer c =
@@ -106,7 +106,7 @@ returns-4 c =
     let read = c .before .before .before .before .before .before .before .before .before .before .before .before .hex .ensures in
     let bytes = c .before .before .before .before .before .before .before .before .before .hex2 .given .1 in
     let written = c .before .before .before .before .before .before .encode in
-    puts (write-answer decimalField standalone 2 line counted many _ value read bytes (written .ensures .0) (written .ensures .1) (written .kept .0)) (c .before .before .written .ensures)
+    puts (write-answer decimalField standalone 2 3 line counted many _ value read bytes (written .ensures .0) (written .ensures .1) (written .kept .0)) (c .before .before .written .ensures)
 
 pub write-standalone-spec : {M : Type 1} → statement M
 write-standalone-spec =

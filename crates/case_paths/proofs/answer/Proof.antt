@@ -1,3 +1,4 @@
+use Prim.Native.Nat.{_+_}
 use denote.Ref.{now}
 use Rattle.path_text.specs.PathText.{pathTextOf}
 use Rattle.case_text.specs.Fields.{pathField}
@@ -52,7 +53,7 @@ returns c =
     let a = c .before .before .before .before .before .before .before .before .before .before .args in
     let line = now (a .line) in
     let told = op-told line (c .before .before .before .before .before .before .before .part .ensures) (c .before .before .before .before .before .before .op .ensures) (c .before .before .before .before .enum-told .given .1) in
-    puts (told (λ o. recordLine pathField pathTextOf (encodingReader (a .encoding) (a .reference)) (encodingFormat (a .encoding) (a .reference)) (a .i) o line)) (c .before .before .read-path .ensures)
+    puts (told (λ o. recordLine pathField pathTextOf (encodingReader (a .encoding) (a .reference)) (encodingFormat (a .encoding) (a .reference)) (a .i) (a .i + 1) o line)) (c .before .before .read-path .ensures)
 
 same-length-2 : tie.Need-same-length-2
 same-length-2 c = search needs
@@ -62,7 +63,7 @@ returns-2 c =
     let a = c .before .before .before .before .before .before .before .before .before .before .args in
     let line = now (a .line) in
     let told = op-told line (c .before .before .before .before .before .before .before .part .ensures) (c .before .before .before .before .before .before .op .ensures) (c .before .before .before .before .enum-told2 .given .1) in
-    puts (told (λ o. recordLine pathField pathTextOf (encodingReader (a .encoding) (a .reference)) (encodingFormat (a .encoding) (a .reference)) (a .i) o line)) (c .before .before .read-path2 .ensures)
+    puts (told (λ o. recordLine pathField pathTextOf (encodingReader (a .encoding) (a .reference)) (encodingFormat (a .encoding) (a .reference)) (a .i) (a .i + 1) o line)) (c .before .before .read-path2 .ensures)
 
 same-length-3 : tie.Need-same-length-3
 same-length-3 c = search needs
@@ -72,7 +73,7 @@ returns-3 c =
     let a = c .before .before .before .before .before .before .before .before .before .before .args in
     let line = now (a .line) in
     let told = op-told line (c .before .before .before .before .before .before .before .part .ensures) (c .before .before .before .before .before .before .op .ensures) (c .before .before .before .before .enum-told3 .given .1) in
-    puts (told (λ o. recordLine pathField pathTextOf (encodingReader (a .encoding) (a .reference)) (encodingFormat (a .encoding) (a .reference)) (a .i) o line)) (c .before .before .write-path .ensures)
+    puts (told (λ o. recordLine pathField pathTextOf (encodingReader (a .encoding) (a .reference)) (encodingFormat (a .encoding) (a .reference)) (a .i) (a .i + 1) o line)) (c .before .before .write-path .ensures)
 
 same-length-4 : tie.Need-same-length-4
 same-length-4 c = search needs
@@ -82,7 +83,7 @@ returns-4 c =
     let a = c .before .before .before .before .before .before .before .before .before .before .args in
     let line = now (a .line) in
     let told = op-told line (c .before .before .before .before .before .before .before .part .ensures) (c .before .before .before .before .before .before .op .ensures) (c .before .before .before .before .enum-told4 .given .1) in
-    puts (told (λ o. recordLine pathField pathTextOf (encodingReader (a .encoding) (a .reference)) (encodingFormat (a .encoding) (a .reference)) (a .i) o line)) (c .before .before .len-path .ensures)
+    puts (told (λ o. recordLine pathField pathTextOf (encodingReader (a .encoding) (a .reference)) (encodingFormat (a .encoding) (a .reference)) (a .i) (a .i + 1) o line)) (c .before .before .len-path .ensures)
 
 same-length-5 : tie.Need-same-length-5
 same-length-5 c = search needs
@@ -92,7 +93,7 @@ returns-5 c =
     let a = c .before .before .before .before .before .before .before .before .before .before .args in
     let line = now (a .line) in
     let told = op-told line (c .before .before .before .before .before .before .before .part .ensures) (c .before .before .before .before .before .before .op .ensures) (c .before .before .before .before .enum-told5 .given .1) in
-    puts (told (λ o. recordLine pathField pathTextOf (encodingReader (a .encoding) (a .reference)) (encodingFormat (a .encoding) (a .reference)) (a .i) o line)) (c .before .before .refuse .ensures)
+    puts (told (λ o. recordLine pathField pathTextOf (encodingReader (a .encoding) (a .reference)) (encodingFormat (a .encoding) (a .reference)) (a .i) (a .i + 1) o line)) (c .before .before .refuse .ensures)
 
 pub answer-spec : {M : Type 1} → statement M
 answer-spec =

@@ -1,3 +1,4 @@
+use Prim.Native.Nat.{_+_}
 use denote.Ref.{now}
 use Rattle.case_text.specs.Fields.{pathField}
 use Rattle.case_paths.specs.Lines.{encodingFormat}
@@ -24,7 +25,7 @@ returns c =
     let a = c .before .before .before .before .before .before .before .before .args in
     let line = now (a .line) in
     let counted = c .before .before .before .before .before .part-count .ensures in
-    puts (length-fields pathField (encodingFormat (a .encoding) (a .reference)) (a .i) line counted (c .before .before .before .before .if1 .taken)) (c .before .before .refuse .ensures)
+    puts (length-fields pathField (encodingFormat (a .encoding) (a .reference)) (a .i) (a .i + 1) line counted (c .before .before .before .before .if1 .taken)) (c .before .before .refuse .ensures)
 
 part-requires : tie.Need-part-requires
 part-requires c κs = search needs
@@ -51,7 +52,7 @@ returns-2 c =
     let counted = c .before .before .before .before .before .before .before .before .before .part-count .ensures in
     let many = c .before .before .before .before .before .before .before .before .if1 .left in
     let value = path-refused (a .i) line (c .before .before .before .before .before .before .before .part .ensures) (c .before .before .before .before .before .before .read-path .ensures) (c .before .before .before .before .enum-told2 .given .1) in
-    puts (length-value pathField (encodingFormat (a .encoding) (a .reference)) (a .i) line counted many value) (c .before .before .refuse2 .ensures)
+    puts (length-value pathField (encodingFormat (a .encoding) (a .reference)) (a .i) (a .i + 1) line counted many value) (c .before .before .refuse2 .ensures)
 
 len-of-encoding-requires : tie.Need-len-of-encoding-requires
 len-of-encoding-requires c κs = search needs
@@ -69,7 +70,7 @@ returns-3 c =
     let counted = c .before .before .before .before .before .before .before .before .before .before .before .part-count .ensures in
     let many = c .before .before .before .before .before .before .before .before .before .before .if1 .left in
     let value = path-value (a .i) line (c .before .before .before .before .before .before .before .before .before .part .ensures) (c .before .before .before .before .before .before .before .before .read-path .ensures) (c .before .before .before .before .before .before .enum-told .given .1) in
-    puts (length-answer pathField (encodingFormat (a .encoding) (a .reference)) (a .i) line counted many _ value (c .before .before .before .len-of-encoding .ensures)) (c .before .before .length .ensures)
+    puts (length-answer pathField (encodingFormat (a .encoding) (a .reference)) (a .i) (a .i + 1) line counted many _ value (c .before .before .before .len-of-encoding .ensures)) (c .before .before .length .ensures)
 
 pub len-path-spec : {M : Type 1} → statement M
 len-path-spec =

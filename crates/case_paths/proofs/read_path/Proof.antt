@@ -1,8 +1,8 @@
-use mathlib.Core.Path.{sym}
+use mathlib.Core.Path.{sym, _∙_}
 use denote.Ref.{now}
 use Rattle.path_text.specs.PathText.{pathTextOf}
 use Rattle.case_text.proofs.Steps.{puts, message-inside, message-long}
-use Rattle.case_text.proofs.RecordSteps.{read-refused, read-answer}
+use Rattle.case_text.proofs.RecordSteps.{read-refused, read-answer, read-printed}
 use Rattle.case_paths.specs.Lines.{encodingReader}
 use borrow.Author.Needs.{needs}
 use Rattle.case_paths.proofs.read_path.Statement.{statement}
@@ -34,28 +34,35 @@ returns c =
 
 array-share-prefix-bytes : tie.Need-array-share-prefix-bytes
 array-share-prefix-bytes c =
-    let a = c .before .before .before .before .before .before .before .before .before .args in
-    message-inside (a .i) (now (a .line)) (c .before .before .before .before .before .message .ensures) (c .before .before .message2 .given .1)
+    let a = c .before .before .before .before .before .before .before .before .args in
+    message-inside (a .i) (now (a .line)) (c .before .before .before .before .message .ensures) (c .before .message2 .given .1)
 
 slice-aggregate-decode : tie.Need-slice-aggregate-decode
 slice-aggregate-decode c =
-    let a = c .before .before .before .before .before .before .before .before .before .before .args in
-    sym (message-long (a .i) (now (a .line)) (c .before .before .before .before .before .before .message .ensures) (c .before .before .before .message2 .given .1))
+    let a = c .before .before .before .before .before .before .before .before .before .args in
+    sym (message-long (a .i) (now (a .line)) (c .before .before .before .before .before .message .ensures) (c .before .before .message2 .given .1))
 
 decode-requires : tie.Need-decode-requires
 decode-requires c κs = search needs
 
-path-requires : tie.Need-path-requires
-path-requires c κs = search needs
+print-requires : tie.Need-print-requires
+print-requires c κs = search needs
+
+value-requires : tie.Need-value-requires
+value-requires c κs = search needs
 
 same-length-2 : tie.Need-same-length-2
 same-length-2 c = search needs
 
 returns-2 : tie.Need-returns-2
 returns-2 c =
-    let a = c .before .before .before .before .before .before .before .before .before .before .before .before .before .before .args in
+    let a = c .before .before .before .before .before .before .before .before .before .before .before .before .before .before .before .before .before .args in
     let reader = encodingReader (a .encoding) (a .reference) (a .canonic) in
-    puts (read-answer pathTextOf reader (a .i) (now (a .line)) (c .before .before .before .before .before .before .before .before .before .before .message .ensures) (c .before .before .before .before .before .before .before .message2 .given .1) (c .before .before .before .decode .ensures .answer)) (c .before .before .path .ensures)
+    let read = c .before .before .before .before .before .before .before .decode in
+    puts
+    (read-answer pathTextOf reader (a .i) (now (a .line)) (c .before .before .before .before .before .before .before .before .before .before .before .before .before .message .ensures) (c .before .before .before .before .before .before .before .before .before .before .message2 .given .1) (read .ensures .answer)
+    ∙ read-printed pathTextOf (read .result .answer) (read .result .path) (c .before .before .before .before .before .print .ensures))
+    (c .before .before .value .ensures)
 
 pub read-path-spec : {M : Type 1} → statement M
 read-path-spec =
@@ -71,6 +78,7 @@ read-path-spec =
     array-share-prefix-bytes
     slice-aggregate-decode
     decode-requires
-    path-requires
+    print-requires
+    value-requires
     same-length-2
     returns-2)

@@ -1,5 +1,6 @@
 use mathlib.Core.Path.{sym}
 use Prim.Native.Nat.{_+_}
+use native.Mathlib.Omega.{arith}
 use denote.Ref.{now}
 use Rattle.case_text.specs.Fields.{pathField}
 use Rattle.case_paths.specs.Lines.{encodingFormat}
@@ -26,7 +27,7 @@ returns c =
     let a = c .before .before .before .before .before .before .before .before .args in
     let line = now (a .line) in
     let counted = c .before .before .before .before .before .part-count .ensures in
-    puts (write-fields pathField (encodingFormat (a .encoding) (a .reference)) (a .i) line counted (c .before .before .before .before .if1 .taken)) (c .before .before .refuse .ensures)
+    puts (write-fields pathField (encodingFormat (a .encoding) (a .reference)) (a .i) (a .i + 1) line counted (λ e. c .before .before .before .before .if1 .taken (omega (arith, e)))) (c .before .before .refuse .ensures)
 
 part-requires : tie.Need-part-requires
 part-requires c κs = search needs
@@ -51,9 +52,8 @@ returns-2 c =
     let a = c .before .before .before .before .before .before .before .before .before .before .before .before .args in
     let line = now (a .line) in
     let counted = c .before .before .before .before .before .before .before .before .before .part-count .ensures in
-    let many = c .before .before .before .before .before .before .before .before .if1 .left in
     let value = path-refused (a .i) line (c .before .before .before .before .before .before .before .part .ensures) (c .before .before .before .before .before .before .read-path .ensures) (c .before .before .before .before .enum-told2 .given .1) in
-    puts (write-value pathField (encodingFormat (a .encoding) (a .reference)) (a .i) line counted many value) (c .before .before .refuse2 .ensures)
+    puts (write-value pathField (encodingFormat (a .encoding) (a .reference)) (a .i) (a .i + 1) line counted (omega (arith, c .before .before .before .before .before .before .before .before .if1 .left)) value) (c .before .before .refuse2 .ensures)
 
 add-hex : tie.Need-add-hex
 add-hex c = search needs
@@ -81,10 +81,9 @@ returns-3 c =
     let a = c .before .before .before .before .before .before .before .before .before .before .before .before .before .before .before .before .before .before .args in
     let line = now (a .line) in
     let counted = c .before .before .before .before .before .before .before .before .before .before .before .before .before .before .before .part-count .ensures in
-    let many = c .before .before .before .before .before .before .before .before .before .before .before .before .before .before .if1 .left in
     let value = path-value (a .i) line (c .before .before .before .before .before .before .before .before .before .before .before .before .before .part .ensures) (c .before .before .before .before .before .before .before .before .before .before .before .before .read-path .ensures) (c .before .before .before .before .before .before .before .before .before .before .enum-told .given .1) in
     let read = c .before .before .before .before .before .before .before .hex .ensures in
-    puts (write-buffer pathField (encodingFormat (a .encoding) (a .reference)) (a .i) line counted many _ value read (c .before .before .before .before .enum-told3 .given .1)) (c .before .before .refuse3 .ensures)
+    puts (write-buffer pathField (encodingFormat (a .encoding) (a .reference)) (a .i) (a .i + 1) line counted (omega (arith, c .before .before .before .before .before .before .before .before .before .before .before .before .before .before .if1 .left)) _ value read (c .before .before .before .before .enum-told3 .given .1)) (c .before .before .refuse3 .ensures)
 
 array-borrow-prefix-buffer : tie.Need-array-borrow-prefix-buffer
 array-borrow-prefix-buffer c =
@@ -112,12 +111,11 @@ returns-4 c =
     let a = c .before .before .before .before .before .before .before .before .before .before .before .before .before .before .before .before .before .before .before .before .before .before .before .args in
     let line = now (a .line) in
     let counted = c .before .before .before .before .before .before .before .before .before .before .before .before .before .before .before .before .before .before .before .before .part-count .ensures in
-    let many = c .before .before .before .before .before .before .before .before .before .before .before .before .before .before .before .before .before .before .before .if1 .left in
     let value = path-value (a .i) line (c .before .before .before .before .before .before .before .before .before .before .before .before .before .before .before .before .before .before .part .ensures) (c .before .before .before .before .before .before .before .before .before .before .before .before .before .before .before .before .before .read-path .ensures) (c .before .before .before .before .before .before .before .before .before .before .before .before .before .before .before .enum-told .given .1) in
     let read = c .before .before .before .before .before .before .before .before .before .before .before .before .hex .ensures in
     let bytes = c .before .before .before .before .before .before .before .before .before .hex2 .given .1 in
     let written = c .before .before .before .before .before .before .encode in
-    puts (write-answer pathField (encodingFormat (a .encoding) (a .reference)) (a .i) line counted many _ value read bytes (written .ensures .0) (written .ensures .1) (written .kept .1 .0)) (c .before .before .written .ensures)
+    puts (write-answer pathField (encodingFormat (a .encoding) (a .reference)) (a .i) (a .i + 1) line counted (omega (arith, c .before .before .before .before .before .before .before .before .before .before .before .before .before .before .before .before .before .before .before .if1 .left)) _ value read bytes (written .ensures .0) (written .ensures .1) (written .kept .1 .0)) (c .before .before .written .ensures)
 
 pub write-path-spec : {M : Type 1} → statement M
 write-path-spec =

@@ -2,8 +2,8 @@ use native.Mathlib.Omega.{arith}
 use Rattle.case_text.specs.Texts.{okText}
 use Rattle.case_text.proofs.Puts.{puts-then, within-full, within-fits}
 use borrow.Author.Needs.{needs}
-use Rattle.case_text.proofs.put.path.Statement.{statement}
-use Rattle.case_text.proofs.put.path.Tie as tie
+use Rattle.case_text.proofs.put.value.Statement.{statement}
+use Rattle.case_text.proofs.put.value.Tie as tie
 
 free-requires : tie.Need-free-requires
 free-requires c κs = search needs
@@ -23,8 +23,8 @@ slice-aggregate-worded c = search needs
 worded-requires : tie.Need-worded-requires
 worded-requires c κs = search needs
 
-tab-path-requires : tie.Need-tab-path-requires
-tab-path-requires c κs = search needs
+tab-bytes-requires : tie.Need-tab-bytes-requires
+tab-bytes-requires c κs = search needs
 
 end-requires : tie.Need-end-requires
 end-requires c κs = search needs
@@ -53,9 +53,9 @@ same-length-2 c = search needs
 returns-2 : tie.Need-returns-2
 unfolding okText
 returns-2 c =
-    let ok = c .before .before .before .before .before .before .before .before .before .before .worded .ensures .0 in
-    let value = c .before .before .before .before .before .before .tab-path .ensures .0 in
-    rw (c .before .before .before .before .before .before .before .before .before .before .before .before .before .before .answer .given .1) (within-fits (puts-then (omega arith) (puts-then (omega arith) ok value) (c .before .before .end .ensures)) (omega arith))
+    let ok = c .before .before .before .before .before .before .before .before .before .before .before .worded .ensures .0 in
+    let text = c .before .before .before .before .before .before .tab-bytes .ensures .0 in
+    rw (c .before .before .before .before .before .before .before .before .before .before .before .before .before .before .before .answer .given .1) (within-fits (puts-then (omega arith) (puts-then (omega arith) ok text) (c .before .before .end .ensures)) (omega arith))
 
 same-length-3 : tie.Need-same-length-3
 same-length-3 c = search needs
@@ -75,8 +75,8 @@ same-length-5 c = search needs
 returns-5 : tie.Need-returns-5
 returns-5 c = rw (c .before .before .before .before .enum-told3 .given .1) (within-fits (c .before .before .no3 .ensures) (omega arith))
 
-pub path-spec : {M : Type 1} → statement M
-path-spec =
+pub value-spec : {M : Type 1} → statement M
+value-spec =
     tie.close
     (tie.spec
     free-requires
@@ -85,7 +85,7 @@ path-spec =
     enum-known-answer
     slice-aggregate-worded
     worded-requires
-    tab-path-requires
+    tab-bytes-requires
     end-requires
     enum-told
     no-requires

@@ -1,0 +1,177 @@
+// Case lines of areas against an area: docs/CASES.md. A line is answered where MAX_ANSWER bytes are free; elsewhere nothing changes.
+ghost use mathlib.Core.Path.{_≡_};
+ghost use mathlib.Core.Bool.{false};
+ghost use mathlib.Core.List.{List};
+ghost use Prim.Native.Nat.{ℕ, _≤_};
+ghost use lib.ListN.{take};
+ghost use Rattle.grouping.specs.declared.Area as declared;
+ghost use Rattle.area_area.specs.Records.{againstArea, readAgainstArea};
+ghost use Rattle.case_text.specs.Texts.{ended};
+ghost use Rattle.case_text.specs.Records.{readLine, writeLine, lengthLine};
+ghost use Rattle.case_text.specs.Answers.{PutsWithin};
+ghost use Rattle.case_areas.specs.Lines.{areaText, areaField, onArea, areaLine};
+use case_text::HexField;
+use case_text::MAX_BYTES;
+use case_text::MessageField;
+use case_text::Op;
+use case_text::fields;
+use case_text::put;
+use grouping::Area;
+use grouping::AreaSubspace;
+use grouping::RangeEnd;
+use grouping::TimeRange;
+use path::Path;
+use path_text::Found;
+use text::Decimal;
+
+// An area that four fields say; where they are not in their form, one that nobody looks at.
+pub struct AreaField {
+    pub ok: bool,
+    pub area: Area,
+}
+
+fn no_area() -> AreaField
+    ensures { λ r. ⌜ r .ok ≡ false ⌝ }
+{
+    let path = Path::new_empty();
+    AreaField {
+        ok: false,
+        area: Area {
+            subspace: AreaSubspace {
+                any: true,
+                id: [0u8; 32],
+            },
+            path: path,
+            times: TimeRange {
+                start: 0,
+                end: RangeEnd::Open,
+            },
+        },
+    }
+}
+
+// Reads the i-th field of a line and the three after it.
+fn read_area(line: &[u8], i: usize) -> AreaField
+    requires { ⌜ i ≤ 6 ⌝ }
+    ensures { λ r. ⌜ ((k : declared.Area → List ℕ) → onArea r k ≡ areaField i (now (line .entry)) k) ⌝ }
+{
+    let first = area_text::read_subspace(text::part(line, b'\t', i));
+    if !first.ok {
+        return no_area();
+    }
+    let second = path_text::read_path(text::part(line, b'\t', i + 1));
+    let found = second.found;
+    let Found::Read = found else {
+        return no_area();
+    };
+    let third = text::read_decimal(text::part(line, b'\t', i + 2));
+    let Decimal::Value(start) = third else {
+        return no_area();
+    };
+    let fourth = area_text::read_end(text::part(line, b'\t', i + 3));
+    if !fourth.ok {
+        return no_area();
+    }
+    let subspace = first.subspace;
+    let path = second.path;
+    let end = fourth.end;
+    AreaField {
+        ok: true,
+        area: Area {
+            subspace: subspace,
+            path: path,
+            times: TimeRange {
+                start: start,
+                end: end,
+            },
+        },
+    }
+}
+
+// Prints an area from the buffer's first byte on.
+fn print(area: Area, buffer: &mut [u8; MAX_BYTES]) -> usize
+    ensures { λ r. ⌜ take r (now (buffer .exit)) ≡ areaText area ⌝ }
+{
+    let subspace = area.subspace;
+    let times = area.times;
+    let end = times.end;
+    let mut p = area_text::put_subspace(buffer, 0, subspace);
+    p = text::put_bytes(buffer, p, b"\t");
+    p = path_text::put_path(buffer, p, area.path);
+    p = text::put_bytes(buffer, p, b"\t");
+    p = text::put_decimal(buffer, p, times.start);
+    p = text::put_bytes(buffer, p, b"\t");
+    area_text::put_end(buffer, p, end)
+}
+
+fn read_line(line: &[u8], out: &mut [u8], at: usize, reference: Area, canonic: bool) -> usize
+    ensures { λ r. ⌜ PutsWithin 16640 at (ended (readLine areaText (readAgainstArea canonic reference) 6 (now (line .entry)))) (now (out .entry)) (now (out .exit)) r ⌝ }
+{
+    let mut bytes = [0u8; MAX_BYTES];
+    let message = fields::message(line, 6, &mut bytes);
+    let MessageField::Message(s, n) = message else {
+        return put::refuse(out, at);
+    };
+    let read = area_area::relative_decode(&bytes[..n], s, canonic, reference);
+    let mut text = [0u8; MAX_BYTES];
+    let k = print(read.area, &mut text);
+    let answer = read.answer;
+    put::value(out, at, answer, &text, k)
+}
+
+fn write_line(line: &[u8], out: &mut [u8], at: usize, reference: Area) -> usize
+    ensures { λ r. ⌜ PutsWithin 16640 at (ended (writeLine areaField (againstArea reference) 6 10 (now (line .entry)))) (now (out .entry)) (now (out .exit)) r ⌝ }
+{
+    if text::part_count(line, b'\t') != 11 {
+        return put::refuse(out, at);
+    }
+    let field = read_area(line, 6);
+    if !field.ok {
+        return put::refuse(out, at);
+    }
+    let area = field.area;
+    let mut buffer = [0u8; MAX_BYTES];
+    let hex = fields::hex(line, 10, &mut buffer);
+    let HexField::Bytes(n) = hex else {
+        return put::refuse(out, at);
+    };
+    let answer = area_area::relative_encode(&mut buffer[..n], area, reference);
+    put::written(out, at, answer, &buffer, n)
+}
+
+fn len_line(line: &[u8], out: &mut [u8], at: usize, reference: Area) -> usize
+    ensures { λ r. ⌜ PutsWithin 16640 at (ended (lengthLine areaField (againstArea reference) 6 10 (now (line .entry)))) (now (out .entry)) (now (out .exit)) r ⌝ }
+{
+    if text::part_count(line, b'\t') != 10 {
+        return put::refuse(out, at);
+    }
+    let field = read_area(line, 6);
+    if !field.ok {
+        return put::refuse(out, at);
+    }
+    let area = field.area;
+    put::length(
+        out,
+        at,
+        area_area::relative_len_of_encoding(area, reference),
+    )
+}
+
+// Answers a line of an area against a reference, which stands before the other fields.
+pub fn area(line: &[u8], out: &mut [u8], at: usize) -> usize
+    ensures { λ r. ⌜ PutsWithin 16640 at (ended (areaLine (now (line .entry)))) (now (out .entry)) (now (out .exit)) r ⌝ }
+{
+    let field = read_area(line, 2);
+    if !field.ok {
+        return put::refuse(out, at);
+    }
+    let reference = field.area;
+    let op = fields::op(text::part(line, b'\t', 1));
+    match op {
+        Op::Strict => read_line(line, out, at, reference, true),
+        Op::Lenient => read_line(line, out, at, reference, false),
+        Op::Write => write_line(line, out, at, reference),
+        Op::Length => len_line(line, out, at, reference),
+        Op::Unknown => put::refuse(out, at),
+    }
+}
