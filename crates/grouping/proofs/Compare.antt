@@ -17,21 +17,21 @@ use Rattle.grouping.specs.Range.{endValue, includesRange, bounds}
 use Rattle.grouping.specs.Area.{includesSubspace, includesArea, liesInside}
 use Rattle.grouping.specs.Record.{areaOf, subspaceOf, wellFormedSubspace, wellFormedArea, areaIncludes, areaInside}
 
-and-false : (x : Bool) → (x && false) ≡ false
+pub and-false : (x : Bool) → (x && false) ≡ false
 and-false true = refl
 and-false false = refl
 
 -- ---- a verdict under the test of 5
-abbrev Verdict : Bool → Bool → Compared
+abbrev pub Verdict : Bool → Bool → Compared
 Verdict formed test = cond formed (verdict test) compared.Malformed
 
-verdict-yes : (b t : Bool) → Verdict b t ≡ compared.Yes → (b ≡ true) × (t ≡ true)
+pub verdict-yes : (b t : Bool) → Verdict b t ≡ compared.Yes → (b ≡ true) × (t ≡ true)
 verdict-yes true true e = (refl, refl)
 verdict-yes true false e = let z : _≡_ {A = ℕ} 0 1 = cc in absurd (omega arith)
 verdict-yes false t e = let z : _≡_ {A = ℕ} 0 1 = cc in absurd (omega arith)
 
 -- an answer that is not Yes stays under a test that fails too
-verdict-no : (x : Compared) (b t u : Bool) → x ≡ Verdict b t → OneOf (1 ∷ 2 ∷ []) (tagOf Rattle.path.proofs.Compared.the-type x) → (t ≡ false → u ≡ false) → x ≡ Verdict b u
+pub verdict-no : (x : Compared) (b t u : Bool) → x ≡ Verdict b t → OneOf (1 ∷ 2 ∷ []) (tagOf Rattle.path.proofs.Compared.the-type x) → (t ≡ false → u ≡ false) → x ≡ Verdict b u
 verdict-no compared.Yes b t u e k h = absurd (⊎-elim (λ q. omega arith) (λ q. omega arith) k)
 verdict-no compared.No true true u e k h = let z : _≡_ {A = ℕ} 0 1 = cc in absurd (omega arith)
 verdict-no compared.No true false u e k h = rw (h refl)

@@ -1,15 +1,16 @@
 -- What the reader's definition answers at each exit of the code.
 use mathlib.Core.Path.{_≡_, refl, ap}
 use mathlib.Core.List.{List}
-use mathlib.Core.Bool.{Bool, true, false}
-use Prim.Native.Nat.{ℕ, _+_, _-_, _<_}
+use mathlib.Core.Bool.{Bool, true, false, cond, _&&_, not}
+use Prim.Native.Nat.{ℕ, _+_, _-_, _≤_, _<_}
 use native.Mathlib.Omega.{arith}
 use borrow.Author.Tests.{le-leb, lt-leb, ne-eqb}
 use Rattle.codec.specs.Answers.{accepted, refused}
+use Rattle.codec.specs.Reader.{named, passed}
 use Rattle.compact_u64.specs.Number.{readNumber}
 use Rattle.grouping.specs.declared.TimeRange.{TimeRange}
-use Rattle.grouping.specs.Range.{TypedRange, endValue, bounds}
-use Rattle.time_relative.specs.Difference.{differenceOf, timeAt, isNearest, readTime, reachOf}
+use Rattle.grouping.specs.Range.{TypedRange, endValue, bounds, includesTime}
+use Rattle.time_relative.specs.Difference.{differenceOf, timeAt, isNearest, readTime, reachOf, isIncluded, readIncluded}
 
 -- ---- whether a difference is one that writing gives
 module _ (canonic : Bool) (r : TimeRange) (added : Bool) (d x : ℕ) where
@@ -55,3 +56,24 @@ module _ (canonic : Bool) (r : TimeRange) (added : Bool) (tag : ℕ) (s : List �
     pub time-read : isNearest canonic r added d (timeAt r added d) ≡ true → readTime canonic r added tag s ≡ accepted (timeAt r added d) n
     unfolding readTime
     time-read f = rw (e, f)
+
+-- ---- reading a time that the range includes
+module _ (canonic : Bool) (r : TimeRange) (added : Bool) (tag : ℕ) (s : List ℕ) where
+  pub included-refused : (k : ℕ) → readNumber canonic 2 tag s ≡ refused k → readIncluded canonic r added tag s ≡ refused k
+  unfolding readIncluded
+  included-refused k e = rw e
+
+  module _ (d n : ℕ) (e : readNumber canonic 2 tag s ≡ accepted d n) where
+    pub included-past : reachOf r added < d → readIncluded canonic r added tag s ≡ refused 2
+    unfolding readIncluded isIncluded
+    included-past h = rw (e, lt-leb d (reachOf r added) h)
+
+    module _ (h : d ≤ reachOf r added) (t : Bool)
+        (f : (includesTime r (timeAt r added d) && cond canonic (cond (differenceOf r (timeAt r added d) .added) added (not added)) true) ≡ t) where
+      pub included-told : readIncluded canonic r added tag s ≡ passed t (accepted (timeAt r added d) n)
+      unfolding readIncluded isIncluded
+      included-told = rw (e, le-leb d (reachOf r added) h, f) (go t)
+        where
+          go : (b : Bool) → named (timeAt r added) (passed b (accepted d n)) ≡ passed b (accepted (timeAt r added d) n)
+          go true = refl
+          go false = refl

@@ -1,2 +1,3 @@
 pub mod Exits
 pub mod Time
+pub mod Included

@@ -46,6 +46,16 @@ module _ (r : TimeRange) (x : ℕ) (b : bounds r x ≡ true) where
       go true e = rw e (omega (arith, within r x b .to))
       go false e = rw e (omega arith)
 
+-- ---- two flags that are the same
+pub same-flag : (a b : Bool) → cond a b (not b) ≡ true → a ≡ b
+same-flag true b e = sym e
+same-flag false true e = e
+same-flag false false e = refl
+
+pub flag-same : (a : Bool) → cond a a (not a) ≡ true
+flag-same true = refl
+flag-same false = refl
+
 -- ---- the test
 pub record Nearest (r : TimeRange) (d x : ℕ) : Type 0 where
   pub inside : bounds r x ≡ true
@@ -55,15 +65,6 @@ module _ (r : TimeRange) (added : Bool) (d x : ℕ) where
   pub nearest : (canonic : Bool) → isNearest canonic r added d x ≡ true → Nearest r d x
   unfolding isNearest
   nearest canonic e = record { inside = and-left _ _ e; is = eqb-true _ d (and-left _ _ (and-right (bounds r x) _ e)) }
-
-  same-flag : (a b : Bool) → cond a b (not b) ≡ true → a ≡ b
-  same-flag true b e = sym e
-  same-flag false true e = e
-  same-flag false false e = refl
-
-  flag-same : (a : Bool) → cond a a (not a) ≡ true
-  flag-same true = refl
-  flag-same false = refl
 
   nearest-added : isNearest true r added d x ≡ true → differenceOf r x .added ≡ added
   unfolding isNearest

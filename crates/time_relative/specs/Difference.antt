@@ -2,14 +2,14 @@
 use mathlib.Core.Path.{_≡_}
 use mathlib.Core.List.{List}
 use mathlib.Core.Bool.{Bool, true, false, cond, _&&_, not}
-use Prim.Native.Nat.{ℕ, _+_, _-_}
+use Prim.Native.Nat.{ℕ, _+_, _-_, _≤_}
 use lib.Dec.{leb, eqb}
 use Rattle.codec.specs.Reader.{Reader, checked, mapped}
 use Rattle.compact_u64.specs.Number.{minTag, numberBytes, readNumber}
 use Rattle.grouping.specs.declared.RangeEnd.{RangeEnd}
 use Rattle.grouping.specs.declared.RangeEnd.the-variants.{Closed, Open}
 use Rattle.grouping.specs.declared.TimeRange.{TimeRange}
-use Rattle.grouping.specs.Range.{top, endValue, bounds}
+use Rattle.grouping.specs.Range.{top, endValue, bounds, includesTime}
 use Rattle.time_relative.specs.declared.TimeDifference.{TimeDifference}
 
 unfoldable pub differenceOf : TimeRange → ℕ → TimeDifference
@@ -40,13 +40,34 @@ readTime canonic r added tag =
     checked (λ d. isNearest canonic r added d (timeAt r added d)) (
     readNumber canonic 2 tag))
 
--- ---- inside the reader: the largest difference that says a time at all
+-- ---- reading a time that the range includes, by either of its differences
+
+-- the largest difference that says a time at all
 abbrev pub reachOf : TimeRange → Bool → ℕ
 reachOf r added = cond added (top - r .start) (endValue (r .end))
+
+-- d says a time x that the range includes; strictly, it is the smaller difference, and a tie adds
+unfoldable pub isIncluded : Bool → TimeRange → Bool → ℕ → ℕ → Bool
+isIncluded canonic r added d x =
+    leb d (reachOf r added) && (includesTime r x && cond canonic (cond (differenceOf r x .added) added (not added)) true)
+
+unfoldable pub readIncluded : Bool → TimeRange → Bool → ℕ → Reader ℕ
+readIncluded canonic r added tag =
+    mapped (timeAt r added) (
+    checked (λ d. isIncluded canonic r added d (timeAt r added d)) (
+    readNumber canonic 2 tag))
 
 -- ---- the laws: the bytes e after the flag and the tag are what writing the time x gives
 pub record TimeAs (r : TimeRange) (added : Bool) (tag x : ℕ) (e : List ℕ) : Type 0 where
   pub inside : bounds r x ≡ true
+  pub near : differenceOf r x .added ≡ added
+  pub tagged : minTag 2 (differenceOf r x .difference) ≡ tag
+  pub bytes : e ≡ numberBytes 2 (differenceOf r x .difference)
+
+-- the same of a time that the range includes
+pub record IncludedAs (r : TimeRange) (added : Bool) (tag x : ℕ) (e : List ℕ) : Type 0 where
+  pub small : x ≤ top
+  pub included : includesTime r x ≡ true
   pub near : differenceOf r x .added ≡ added
   pub tagged : minTag 2 (differenceOf r x .difference) ≡ tag
   pub bytes : e ≡ numberBytes 2 (differenceOf r x .difference)

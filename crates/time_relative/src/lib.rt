@@ -1,9 +1,11 @@
 // A time against a range of times: docs/FORMAT.md, "Times".
 ghost use mathlib.Core.Path.{_≡_};
+ghost use mathlib.Core.Bool.{true, cond, _&&_, not};
 ghost use Prim.Native.Nat.{_-_, _≤_};
 ghost use lib.ListN.{drop};
 ghost use Rattle.compact_u64.specs.Answers.{numberAnswer};
-ghost use Rattle.time_relative.specs.Difference.{differenceOf, endDifference, reachOf, timeAt, isNearest, readTime};
+ghost use Rattle.time_relative.specs.Difference.{differenceOf, endDifference, reachOf, timeAt, isNearest, readTime, readIncluded};
+ghost use Rattle.grouping.specs.Range.{includesTime};
 use compact_u64::DecodedU64;
 use compact_u64::TagWidth;
 use grouping::RangeEnd;
@@ -121,6 +123,50 @@ pub fn relative_decode(
     let time = time_at(range, added, told);
     let nearest = is_nearest(canonic, range, added, told, time);
     if !nearest {
+        return DecodedU64::TheirFault;
+    }
+    DecodedU64::Value(time, n)
+}
+
+// Whether the range includes the time that a difference says; strictly, also whether it is the smaller and rightly added.
+fn is_included(canonic: bool, range: TimeRange, added: bool, time: u64) -> bool
+    ensures { λ r. ⌜ r ≡ (includesTime range time && cond canonic (cond (differenceOf range time .added) added (not added)) true) ⌝ }
+{
+    let included = range.includes(time);
+    if !included {
+        return false;
+    }
+    if !canonic {
+        return true;
+    }
+    let nearest = difference(range, time);
+    if nearest.added {
+        return added;
+    }
+    !added
+}
+
+// Reads the difference of a time that the range includes.
+pub fn decode_included(
+    message: &[u8],
+    start: usize,
+    canonic: bool,
+    range: TimeRange,
+    added: bool,
+    tag: u8,
+) -> DecodedU64
+    ensures { λ r. ⌜ numberAnswer r ≡ readIncluded canonic range added tag (drop start (now (message .entry))) ⌝ }
+{
+    let number = compact_u64::relative_decode(message, start, TagWidth::Two, tag, canonic);
+    let DecodedU64::Value(told, n) = number else {
+        return number;
+    };
+    if reach(range, added) < told {
+        return DecodedU64::TheirFault;
+    }
+    let time = time_at(range, added, told);
+    let included = is_included(canonic, range, added, time);
+    if !included {
         return DecodedU64::TheirFault;
     }
     DecodedU64::Value(time, n)

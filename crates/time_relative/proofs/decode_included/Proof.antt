@@ -1,0 +1,70 @@
+use mathlib.Core.Path.{sym, ap, _∙_}
+use mathlib.Core.Bool.{true, false}
+use denote.Ref.{now}
+use borrow.Author.Tests.{not-true, not-false}
+use lib.ListN.{drop}
+use native.Mathlib.Omega.{arith}
+use Prim.Native.Nat.{ℕ}
+use Rattle.compact_u64.specs.Answers.{numberAnswer}
+use Rattle.compact_u64.proofs.Exits.{refused-number}
+use Rattle.time_relative.proofs.Exits.{included-refused, included-past, included-told}
+use borrow.Author.Needs.{needs}
+use Rattle.time_relative.proofs.decode_included.Statement.{statement}
+use Rattle.time_relative.proofs.decode_included.Tie as tie
+
+relative-decode-requires : tie.Need-relative-decode-requires
+relative-decode-requires c κs = search needs
+
+enum-known-number : tie.Need-enum-known-number
+enum-known-number c = search needs
+
+returns : tie.Need-returns
+returns c =
+    let a = c .before .before .before .args in
+    let s = drop (a .start) (now (a .message)) in
+    let n = refused-number {A = ℕ} 0 (c .before .relative-decode .result) (c .match .keys2) in
+    n .number ∙ sym (included-refused (a .canonic) (a .range) (a .added) (a .tag) s (n .why) (sym (c .before .relative-decode .ensures) ∙ n .number))
+
+reach-requires : tie.Need-reach-requires
+reach-requires c κs = search needs
+
+returns-2 : tie.Need-returns-2
+returns-2 c =
+    let a = c .before .before .before .before .before .before .before .args in
+    let s = drop (a .start) (now (a .message)) in
+    let e = sym (c .before .before .before .before .before .relative-decode .ensures) ∙ ap numberAnswer (c .before .before .before .number .given .1) in
+    sym (included-past (a .canonic) (a .range) (a .added) (a .tag) s _ _ e (omega (arith, c .before .reach .ensures, c .if1 .taken)))
+
+time-at-requires : tie.Need-time-at-requires
+time-at-requires c κs = omega (arith, c .before .reach .ensures, c .if1 .left)
+
+is-included-requires : tie.Need-is-included-requires
+is-included-requires c κs = search needs
+
+returns-3 : tie.Need-returns-3
+returns-3 c =
+    let a = c .before .before .before .before .before .before .before .before .before .before .args in
+    let s = drop (a .start) (now (a .message)) in
+    let e = sym (c .before .before .before .before .before .before .before .before .relative-decode .ensures) ∙ ap numberAnswer (c .before .before .before .before .before .before .number .given .1) in
+    sym (included-told (a .canonic) (a .range) (a .added) (a .tag) s _ _ e (omega (arith, c .before .before .before .before .reach .ensures, c .before .before .before .if1 .left)) false (rw (c .before .before .time-at .ensures) at (sym (c .before .is-included .ensures) ∙ not-true _ (c .if2 .taken))))
+
+returns-4 : tie.Need-returns-4
+returns-4 c =
+    let a = c .before .before .before .before .before .before .before .before .before .before .args in
+    let s = drop (a .start) (now (a .message)) in
+    let e = sym (c .before .before .before .before .before .before .before .before .relative-decode .ensures) ∙ ap numberAnswer (c .before .before .before .before .before .before .number .given .1) in
+    rw (c .before .before .time-at .ensures) (sym (included-told (a .canonic) (a .range) (a .added) (a .tag) s _ _ e (omega (arith, c .before .before .before .before .reach .ensures, c .before .before .before .if1 .left)) true (rw (c .before .before .time-at .ensures) at (sym (c .before .is-included .ensures) ∙ not-false _ (c .if2 .left)))))
+
+pub decode-included-spec : {M : Type 1} → statement M
+decode-included-spec =
+    tie.close
+    (tie.spec
+    relative-decode-requires
+    enum-known-number
+    returns
+    reach-requires
+    returns-2
+    time-at-requires
+    is-included-requires
+    returns-3
+    returns-4)
