@@ -1,0 +1,47 @@
+-- Records of entries and their values: each well-formed record is the record of its values, and back.
+use mathlib.Core.Path.{_≡_}
+use mathlib.Core.Bool.{true}
+use Rattle.path.specs.Limits.{PathOk}
+use Rattle.path.specs.Record.{componentsOf, pathFrom}
+use Rattle.path.proofs.Limits.{typed-of}
+use Rattle.path.proofs.Record.{well-formed, formed-well, apart, made, components-of}
+use Rattle.entry.specs.declared.Entry.{Entry}
+use Rattle.entry.specs.Entry.{EntryValue, TypedEntryValue}
+use Rattle.entry.specs.Record.{entryOf, entryFrom, wellFormedEntry, TypedEntry}
+
+pub record ApartEntry (e : Entry) : Type 0 where
+  pub typed : TypedEntryValue (entryOf e)
+  pub ok : PathOk (componentsOf (e .path))
+  pub made : entryFrom (entryOf e) ≡ e
+
+pub apart-entry : (e : Entry) → TypedEntry e → wellFormedEntry e ≡ true → ApartEntry e
+unfolding wellFormedEntry entryFrom
+apart-entry e t w =
+    let p = apart (e .path) (t .path) (well-formed (e .path) w) in
+    record {
+      typed = record {
+        namespace = t .namespace;
+        subspace = t .subspace;
+        path = typed-of (componentsOf (e .path)) (p .ok .all);
+        time = t .time;
+        size = t .size;
+        digest = t .digest;
+      };
+      ok = p .ok;
+      made = rw (p .made);
+    }
+
+pub record MadeEntry (v : EntryValue) : Type 0 where
+  pub typed : TypedEntry (entryFrom v)
+  pub well : wellFormedEntry (entryFrom v) ≡ true
+  pub back : entryOf (entryFrom v) ≡ v
+
+pub made-entry : (v : EntryValue) → TypedEntryValue v → PathOk (v .path) → MadeEntry v
+unfolding wellFormedEntry entryFrom
+made-entry v t ok =
+    let p = made (v .path) ok in
+    record {
+      typed = record { namespace = t .namespace; subspace = t .subspace; path = p .typed; time = t .time; size = t .size; digest = t .digest };
+      well = formed-well (pathFrom (v .path)) (p .well);
+      back = rw (components-of (v .path));
+    }

@@ -1,0 +1,42 @@
+-- docs/FORMAT.md, "Entries": an entry on plain values.
+use mathlib.Core.Path.{_≡_}
+use mathlib.Core.List.{List}
+use mathlib.Core.Bool.{Bool, _&&_}
+use mathlib.Core.Option.{some}
+use Prim.Native.Nat.{ℕ}
+use lib.ListN.{length}
+use Rattle.codec.specs.Answers.{AllBytes}
+use Rattle.codec.specs.Bytes.{sameBytes}
+use Rattle.compact_u64.specs.Number.{U64}
+use Rattle.path.specs.Limits.{TypedComponents}
+use Rattle.path.specs.Prefix.{isPrefix}
+use Rattle.grouping.specs.Range.{includesTime}
+use Rattle.grouping.specs.Area.{AreaValue, includesSubspace}
+
+pub record EntryValue : Type 0 where
+  pub namespace : List ℕ
+  pub subspace : List ℕ
+  pub path : List (List ℕ)
+  pub time : ℕ
+  pub size : ℕ
+  pub digest : List ℕ
+
+-- what the language says of an id or a digest, and of a value
+abbrev pub TypedId : List ℕ → Type 0
+TypedId id = (length id ≡ 32) × AllBytes id
+
+pub record TypedEntryValue (v : EntryValue) : Type 0 where
+  pub namespace : TypedId (v .namespace)
+  pub subspace : TypedId (v .subspace)
+  pub path : TypedComponents (v .path)
+  pub time : U64 (v .time)
+  pub size : U64 (v .size)
+  pub digest : TypedId (v .digest)
+
+-- an entry lies inside a namespace and an area: the same namespace, a subspace and a path that the area includes, and a time in its range
+unfoldable pub liesInsideArea : List ℕ → AreaValue → EntryValue → Bool
+liesInsideArea n r v =
+    sameBytes n (v .namespace)
+    && (includesSubspace (r .subspace) (some (v .subspace))
+    && (isPrefix (r .path) (v .path)
+    && includesTime (r .times) (v .time)))

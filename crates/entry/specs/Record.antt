@@ -1,0 +1,51 @@
+-- docs/FORMAT.md, "Entries": an entry as the code holds it. It is well formed when its path is.
+use mathlib.Core.List.{List}
+use mathlib.Core.Bool.{Bool, cond, _&&_}
+use Prim.Native.Nat.{ℕ}
+use Rattle.compact_u64.specs.Number.{U64}
+use Rattle.path.specs.declared.Compared.{Compared}
+use Rattle.path.specs.declared.Compared.the-variants as compared
+use Rattle.path.specs.Record.{componentsOf, pathFrom, wellFormed, TypedPath}
+use Rattle.path.specs.Answers.{verdict}
+use Rattle.grouping.specs.declared.Area.{Area}
+use Rattle.grouping.specs.Record.{areaOf, wellFormedArea}
+use Rattle.entry.specs.declared.Entry.{Entry}
+use Rattle.entry.specs.Entry.{EntryValue, TypedId, liesInsideArea}
+
+-- ---- the values of a record, and the record of values
+abbrev pub entryOf : Entry → EntryValue
+entryOf e = record {
+  namespace = e .«namespace_id»;
+  subspace = e .«subspace_id»;
+  path = componentsOf (e .path);
+  time = e .timestamp;
+  size = e .«payload_length»;
+  digest = e .«payload_digest»;
+}
+
+unfoldable pub entryFrom : EntryValue → Entry
+entryFrom v = record {
+  «namespace_id» = v .namespace;
+  «subspace_id» = v .subspace;
+  path = pathFrom (v .path);
+  timestamp = v .time;
+  «payload_length» = v .size;
+  «payload_digest» = v .digest;
+}
+
+-- ---- well formed: what 5 tests
+unfoldable pub wellFormedEntry : Entry → Bool
+wellFormedEntry e = wellFormed (e .path)
+
+-- what the language says of a record
+pub record TypedEntry (e : Entry) : Type 0 where
+  pub namespace : TypedId (e .«namespace_id»)
+  pub subspace : TypedId (e .«subspace_id»)
+  pub path : TypedPath (e .path)
+  pub time : U64 (e .timestamp)
+  pub size : U64 (e .«payload_length»)
+  pub digest : TypedId (e .«payload_digest»)
+
+-- 5 unless both are well formed
+unfoldable pub entryInside : List ℕ → Area → Entry → Compared
+entryInside n r e = cond (wellFormedArea r && wellFormedEntry e) (verdict (liesInsideArea n (areaOf r) (entryOf e))) compared.Malformed

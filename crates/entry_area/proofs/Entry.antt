@@ -1,0 +1,177 @@
+-- The laws of an entry against a namespace and an area, on plain values.
+use mathlib.Core.Path.{_≡_, refl, _∙_}
+use mathlib.Core.List.{List, [], _∷_, _++_}
+use mathlib.Core.Bool.{Bool, true, false}
+use mathlib.Core.Option.{some}
+use Prim.Native.Nat.{ℕ}
+use native.Mathlib.Omega.{arith}
+use lib.Dec.{eqb}
+use borrow.Author.Tests.{eqb-true}
+use Rattle.codec.specs.Answers.{refused}
+use Rattle.codec.specs.Bytes.{sameBytes}
+use Rattle.codec.specs.Header.{readHeader, HeaderAs}
+use Rattle.codec.specs.Reader.{oneByte, checked}
+use Rattle.codec.specs.Reads.{Reads, ReadsBack, Relaxes, Bounded, Tested, Mapped, Joined}
+use Rattle.codec.proofs.Tests.{and-left, and-right}
+use Rattle.codec.proofs.SameBytes.{same-eq, same-refl}
+use Rattle.codec.proofs.Header.{header-reads}
+use Rattle.codec.proofs.Readers.{reads-as, then-reads, guard-reads, checked-reads, mapped-reads}
+use Rattle.codec.proofs.Relaxes.{relaxes-back, relaxes-self, then-relaxes, guard-relaxes, checked-relaxes, mapped-relaxes}
+use Rattle.codec.proofs.Bounded.{oneByte-bounded, then-bounded, guard-bounded, checked-bounded, mapped-bounded}
+use Rattle.compact_u64.proofs.Tags.{min-tag-fits}
+use Rattle.path.specs.Limits.{PathOk}
+use Rattle.path.specs.Prefix.{isPrefix}
+use Rattle.path.proofs.Limits.{typed-of}
+use Rattle.path_relative.specs.Against.{againstBytes, readAgainst, AgainstAs}
+use Rattle.path_relative.proofs.Against.{against-reads, against-relaxes, against-bounded}
+use Rattle.grouping.specs.Range.{TypedRange, includesTime}
+use Rattle.grouping.specs.Area.{AreaValue, TypedSubspace, includesSubspace}
+use Rattle.entry.specs.Entry.{EntryValue, TypedId, liesInsideArea}
+use Rattle.entry_area.specs.declared.Header.{Header}
+use Rattle.entry_area.specs.Header.{unpackHeader, packHeader, HeaderFits}
+use Rattle.entry_area.specs.Entry.{headerOf, idBytes, endBytes, restBytes, entryBytes, readId, endFrom, valueFrom, readParts, readEntry}
+use Rattle.entry_area.specs.Relations.{IdAs, EndAs, EntryAs}
+use Rattle.entry_area.proofs.HeaderLayout.{header-layout}
+use Rattle.entry_area.proofs.Parts.{id-reads, id-bounded, end-reads, end-relaxes, end-bounded}
+
+-- ---- the header that writing gives
+pub header-fits : (r : AreaValue) (v : EntryValue) → HeaderFits (headerOf r v)
+unfolding headerOf
+header-fits r v = record { time = min-tag-fits 2 _ (omega arith); length = min-tag-fits 2 _ (omega arith); spare = omega arith }
+
+-- ---- lies inside, part by part
+pub record Inside (n : List ℕ) (r : AreaValue) (v : EntryValue) : Type 0 where
+  pub namespace : sameBytes n (v .namespace) ≡ true
+  pub subspace : includesSubspace (r .subspace) (some (v .subspace)) ≡ true
+  pub prefix : isPrefix (r .path) (v .path) ≡ true
+  pub time : includesTime (r .times) (v .time) ≡ true
+
+pub inside : (n : List ℕ) (r : AreaValue) (v : EntryValue) → liesInsideArea n r v ≡ true → Inside n r v
+unfolding liesInsideArea
+inside n r v e =
+    let s = and-right (sameBytes n (v .namespace)) _ e in
+    let p = and-right (includesSubspace (r .subspace) (some (v .subspace))) _ s in
+    record { namespace = and-left _ _ e; subspace = and-left _ _ s; prefix = and-left _ _ p; time = and-right (isPrefix (r .path) (v .path)) _ p }
+
+inside-of : (n : List ℕ) (r : AreaValue) (v : EntryValue) → Inside n r v → liesInsideArea n r v ≡ true
+unfolding liesInsideArea
+inside-of n r v i = rw (i .namespace, i .subspace, i .prefix, i .time)
+
+-- ---- reading
+module _ (n : List ℕ) (r : AreaValue) where
+  PartsRel : Header → EntryValue → List ℕ → Type 0
+  PartsRel h = Joined (IdAs (r .subspace) (h .«id_written»)) (λ s. Joined (Tested (isPrefix (r .path)) (AgainstAs (r .path))) (λ p. Mapped (valueFrom n s p) (EndAs (r .times) h)))
+
+  Rel : EntryValue → List ℕ → Type 0
+  Rel = Joined (HeaderAs HeaderFits packHeader) (λ h. Tested (λ v. eqb (h .spare) 0) (PartsRel h))
+
+  entry-there : TypedId n → (v : EntryValue) (e : List ℕ) → Rel v e → EntryAs n r v e
+  unfolding Rel PartsRel entryBytes headerOf
+  entry-there ty v e j =
+      let h = j .value in
+      let p = j .second .1 in
+      let s = p .first in
+      let x = p .second .first in
+      let m = p .second .second in
+      let d = m .stands in
+      let w = valueFrom n (p .value) (p .second .value) (m .value) in
+      let is : headerOf r w ≡ h = rw (s .any, d .timeAdded, d .timeTag, d .lengthTag, ← (eqb-true (h .spare) 0 (j .second .0))) in
+      rw (← (m .named)) (record {
+        typed = record {
+          namespace = ty;
+          subspace = s .typed;
+          path = typed-of (p .second .value) (x .1 .ok .all);
+          time = omega (arith, d .time);
+          size = d .size;
+          digest = d .digest;
+        };
+        path = x .1 .ok;
+        inside = inside-of n r w (record { namespace = same-refl n; subspace = s .inside; prefix = x .0; time = d .included });
+        bytes = j .whole ∙ rw (j .first .1, p .whole, p .second .whole, s .bytes, x .1 .bytes, d .bytes, ← is);
+      })
+
+  entry-back : (v : EntryValue) (e : List ℕ) → EntryAs n r v e → Rel v e
+  unfolding Rel PartsRel entryBytes headerOf
+  entry-back v e x =
+      let i = inside n r v (x .inside) in
+      let h = headerOf r v in
+      let same : valueFrom n (v .subspace) (v .path) (endFrom (v .time) (v .size) (v .digest)) ≡ v = rw (same-eq n (v .namespace) (i .namespace)) in
+      record {
+        value = h;
+        front = packHeader h ∷ [];
+        rear = idBytes (r .subspace) (v .subspace) ++ restBytes r v;
+        whole = x .bytes;
+        first = (header-fits r v, refl);
+        second = (
+          refl,
+          record {
+            value = v .subspace;
+            front = idBytes (r .subspace) (v .subspace);
+            rear = restBytes r v;
+            whole = refl;
+            first = record { typed = x .typed .subspace; inside = i .subspace; any = refl; bytes = refl };
+            second = record {
+              value = v .path;
+              front = againstBytes (r .path) (v .path);
+              rear = endBytes (r .times) v;
+              whole = refl;
+              first = (i .prefix, record { ok = x .path; bytes = refl });
+              second = record {
+                value = endFrom (v .time) (v .size) (v .digest);
+                named = same;
+                stands = record {
+                  time = omega (arith, x .typed .time);
+                  included = i .time;
+                  timeAdded = refl;
+                  timeTag = refl;
+                  size = x .typed .size;
+                  lengthTag = refl;
+                  digest = x .typed .digest;
+                  bytes = refl;
+                };
+              };
+            };
+          },
+        );
+      }
+
+  pub entry-reads : TypedId n → TypedSubspace (r .subspace) → TypedRange (r .times) → PathOk (r .path) → Reads (readEntry true n r) (EntryAs n r)
+  unfolding readEntry readParts Rel PartsRel
+  entry-reads id sub times path = reads-as _ _ _
+      (then-reads (readHeader unpackHeader) (HeaderAs HeaderFits packHeader) _ _ (header-reads HeaderFits unpackHeader packHeader header-layout) (λ h e x.
+      guard-reads (eqb (h .spare) 0) _ _ (λ ok.
+      then-reads (readId (r .subspace) (h .«id_written»)) _ _ _ (id-reads (r .subspace) sub (h .«id_written»)) (λ s e y.
+      then-reads (checked (isPrefix (r .path)) (readAgainst true (r .path))) _ _ _ (checked-reads (isPrefix (r .path)) _ _ (against-reads (r .path) path)) (λ p e z.
+      mapped-reads (valueFrom n s p) _ _ (end-reads (r .times) h times))))))
+      (entry-there id) entry-back
+
+  pub entry-relaxes : Relaxes (readEntry true n r) (readEntry false n r)
+  unfolding readEntry readParts
+  entry-relaxes =
+      then-relaxes (readHeader unpackHeader) (readHeader unpackHeader) _ _ (relaxes-self (readHeader unpackHeader)) (λ h.
+      guard-relaxes (eqb (h .spare) 0) (eqb (h .spare) 0) _ _ (λ ok. ok) (λ ok.
+      then-relaxes (readId (r .subspace) (h .«id_written»)) (readId (r .subspace) (h .«id_written»)) _ _ (relaxes-self _) (λ s.
+      then-relaxes (checked (isPrefix (r .path)) (readAgainst true (r .path))) (checked (isPrefix (r .path)) (readAgainst false (r .path))) _ _
+      (checked-relaxes (isPrefix (r .path)) (isPrefix (r .path)) _ _ (λ p q. q) (against-relaxes (r .path))) (λ p.
+      mapped-relaxes (valueFrom n s p) _ _ (end-relaxes (r .times) h)))))
+
+  pub parts-bounded : (h : Header) (canonic : Bool) → Bounded (readParts canonic n r h)
+  unfolding readParts
+  parts-bounded h canonic =
+      then-bounded (readId (r .subspace) (h .«id_written»)) _ (id-bounded (r .subspace) (h .«id_written»)) (λ s.
+      then-bounded (checked (isPrefix (r .path)) (readAgainst canonic (r .path))) _ (checked-bounded (isPrefix (r .path)) _ (against-bounded (r .path) canonic)) (λ p.
+      mapped-bounded (valueFrom n s p) _ (end-bounded (r .times) h canonic)))
+
+  pub entry-bounded : (canonic : Bool) → Bounded (readEntry canonic n r)
+  unfolding readEntry
+  entry-bounded canonic =
+      then-bounded (readHeader unpackHeader) _ (mapped-bounded unpackHeader oneByte oneByte-bounded) (λ h.
+      guard-bounded (eqb (h .spare) 0) _ (parts-bounded h canonic))
+
+  pub entry-empty : (canonic : Bool) → readEntry canonic n r [] ≡ refused 1
+  unfolding readEntry
+  entry-empty canonic = refl
+
+  pub entry-reads-back : TypedId n → TypedSubspace (r .subspace) → TypedRange (r .times) → PathOk (r .path) → (canonic : Bool) → ReadsBack (readEntry canonic n r) (EntryAs n r)
+  entry-reads-back id sub times path true = entry-reads id sub times path .back
+  entry-reads-back id sub times path false = relaxes-back _ _ _ entry-relaxes (entry-reads id sub times path .back)

@@ -1,0 +1,6 @@
+pub mod HeaderLayout
+pub mod Parts
+pub mod Entry
+pub mod Records
+pub mod Writing
+pub mod DecodeExits

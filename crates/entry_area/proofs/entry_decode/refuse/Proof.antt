@@ -1,0 +1,15 @@
+use Rattle.entry.specs.Record.{entryFrom}
+use Rattle.entry_area.specs.Answers.{refusal}
+use borrow.Author.Needs.{needs}
+use Rattle.entry_area.proofs.entry_decode.refuse.Statement.{statement}
+use Rattle.entry_area.proofs.entry_decode.refuse.Tie as tie
+
+new-empty-requires : tie.Need-new-empty-requires
+new-empty-requires c κs = search needs
+
+returns : tie.Need-returns
+unfolding refusal entryFrom
+returns c = rw (c .new-empty .ensures)
+
+pub refuse-spec : {M : Type 1} → statement M
+refuse-spec = tie.close (tie.spec new-empty-requires returns)

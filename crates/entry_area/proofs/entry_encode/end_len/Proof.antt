@@ -1,0 +1,40 @@
+use native.Mathlib.Omega.{arith}
+use lib.ListN.{length-append}
+use Rattle.entry.proofs.Typed.{typed-entry}
+use borrow.Author.Needs.{needs}
+use Rattle.entry_area.proofs.entry_encode.end_len.Statement.{statement}
+use Rattle.entry_area.proofs.entry_encode.end_len.Tie as tie
+
+difference-requires : tie.Need-difference-requires
+difference-requires c κs = search needs
+
+relative-len-of-encoding-requires : tie.Need-relative-len-of-encoding-requires
+relative-len-of-encoding-requires c κs = search needs
+
+relative-len-of-encoding-requires-2 : tie.Need-relative-len-of-encoding-requires-2
+relative-len-of-encoding-requires-2 c κs = search needs
+
+add-result : tie.Need-add-result
+add-result c = search needs
+
+add-result-2 : tie.Need-add-result-2
+add-result-2 c = search needs
+
+returns : tie.Need-returns
+returns c =
+    let a = c .before .before .before .args in
+    let t = typed-entry (a .entry) (c .before .before .before .good .0) in
+    let first = c .before .relative-len-of-encoding .ensures in
+    let last = c .relative-len-of-encoding2 .ensures in
+    (rw (length-append, length-append, t .digest .0, ← (c .before .before .difference .ensures), ← (first .0), ← (last .0)), omega (arith, first .1, last .1))
+
+pub end-len-spec : {M : Type 1} → statement M
+end-len-spec =
+    tie.close
+    (tie.spec
+    difference-requires
+    relative-len-of-encoding-requires
+    relative-len-of-encoding-requires-2
+    add-result
+    add-result-2
+    returns)

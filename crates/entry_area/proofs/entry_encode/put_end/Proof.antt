@@ -1,0 +1,77 @@
+use mathlib.Core.Path.{_≡_, sym, ap, _∙_}
+use native.Mathlib.Omega.{arith}
+use mathlib.Core.List.{List, _++_}
+use Prim.Native.Nat.{ℕ, _+_, _≤_}
+use denote.Ref.{now}
+use lib.ListN.{length, length-append, length-drop}
+use Rattle.codec.specs.Format.{over}
+use Rattle.codec.proofs.Lending.{put-over, over-then, to-end, put-end}
+use Rattle.compact_u64.specs.Number.{numberBytes}
+use Rattle.entry.specs.Record.{entryOf}
+use Rattle.entry_area.specs.Entry.{payloadBytes, endBytes}
+use borrow.Author.Needs.{needs}
+use Rattle.entry_area.proofs.entry_encode.put_end.Statement.{statement}
+use Rattle.entry_area.proofs.entry_encode.put_end.Tie as tie
+
+bytes : (c : tie.After-difference) → let a = c .before .before .args in endBytes (a .times) (entryOf (a .entry)) ≡ numberBytes 2 (c .difference .result .difference) ++ payloadBytes (entryOf (a .entry))
+bytes c = rw (← (c .difference .ensures))
+
+-- the parts fit
+parts : (c : tie.After-difference) → let a = c .before .before .args in length (numberBytes 2 (c .difference .result .difference)) + length (payloadBytes (entryOf (a .entry))) ≤ length (now (a .buffer))
+parts c =
+    let a = c .before .before .args in
+    omega (arith, c .before .before .pre, ap length (bytes c), length-append (numberBytes 2 (c .difference .result .difference)) (payloadBytes (entryOf (a .entry))))
+
+difference-requires : tie.Need-difference-requires
+difference-requires c κs = search needs
+
+relative-len-of-encoding-requires : tie.Need-relative-len-of-encoding-requires
+relative-len-of-encoding-requires c κs = search needs
+
+relative-encode-requires : tie.Need-relative-encode-requires
+relative-encode-requires c κs = search needs
+
+sub-put-payload : tie.Need-sub-put-payload
+sub-put-payload c = omega (arith, parts (c .before .before .before .before .before), c .before .before .before .before .relative-len-of-encoding .ensures .0, c .before .before .relative-encode .kept .0)
+
+part-put-payload-start : tie.Need-part-put-payload-start
+part-put-payload-start c = omega (arith, parts (c .before .before .before .before .before), c .before .before .before .before .relative-len-of-encoding .ensures .0, c .before .before .relative-encode .kept .0)
+
+part-put-payload-end : tie.Need-part-put-payload-end
+part-put-payload-end c = search needs
+
+put-payload-requires : tie.Need-put-payload-requires
+put-payload-requires c κs =
+    let n = c .before .before .before .before .before .relative-len-of-encoding in
+    let p = c .before .before .before .relative-encode in
+    rw (to-end (n .result) (p .last .0), length-drop) (omega (arith, parts (c .before .before .before .before .before .before), n .ensures .0, p .kept .0))
+
+same-length : tie.Need-same-length
+same-length c = search needs
+
+returns : tie.Need-returns
+returns c =
+    let a = c .before .before .before .before .before .before .before .before .before .before .before .args in
+    let l = now (a .buffer) in
+    let n = c .before .before .before .before .before .before .before .before .relative-len-of-encoding in
+    let p = c .before .before .before .before .before .before .relative-encode in
+    let w = c .before .before .put-payload in
+    let x = numberBytes 2 (c .before .before .before .before .before .before .before .before .before .difference .result .difference) in
+    let y = payloadBytes (entryOf (a .entry)) in
+    let first : p .last .0 ≡ over x l = p .ensures .1 ∙ put-over x l (omega (arith, parts (c .before .before .before .before .before .before .before .before .before))) in
+    let rest = rw (to-end (n .result) (p .last .0)) at (w .ensures) in
+    put-end (n .result) (p .last .0) (w .last .0) ∙ rw (rest, first, n .ensures .0) (over-then l x y) ∙ ap (λ (bs : List ℕ). over bs l) (sym (bytes (c .before .before .before .before .before .before .before .before .before)))
+
+pub put-end-spec : {M : Type 1} → statement M
+put-end-spec =
+    tie.close
+    (tie.spec
+    difference-requires
+    relative-len-of-encoding-requires
+    relative-encode-requires
+    sub-put-payload
+    part-put-payload-start
+    part-put-payload-end
+    put-payload-requires
+    same-length
+    returns)

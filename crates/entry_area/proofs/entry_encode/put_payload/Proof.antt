@@ -1,0 +1,70 @@
+use mathlib.Core.Path.{_≡_, _∙_}
+use native.Mathlib.Omega.{arith}
+use Prim.Native.Nat.{_≤_}
+use denote.Ref.{now}
+use lib.ListN.{length, drop, length-append, length-drop}
+use Rattle.codec.specs.Format.{over}
+use Rattle.codec.proofs.Lending.{put-over, over-then, to-end, put-end}
+use Rattle.compact_u64.specs.Number.{numberBytes}
+use borrow.Author.Needs.{needs}
+use Rattle.entry_area.proofs.entry_encode.put_payload.Statement.{statement}
+use Rattle.entry_area.proofs.entry_encode.put_payload.Tie as tie
+
+-- the number's bytes are in the buffer
+inside : (c : tie.After-digest) → c .before .before .before .before .before .relative-len-of-encoding .result ≤ length (c .before .before .before .relative-encode .last .0)
+inside c =
+    let a = c .before .before .before .before .before .before .before .args in
+    omega (arith, c .before .before .before .before .before .before .before .pre, length-append (numberBytes 2 (a .entry .«payload_length»)) (a .entry .«payload_digest»), c .before .before .before .before .before .relative-len-of-encoding .ensures .0, c .before .before .before .relative-encode .kept .0)
+
+relative-len-of-encoding-requires : tie.Need-relative-len-of-encoding-requires
+relative-len-of-encoding-requires c κs = search needs
+
+relative-encode-requires : tie.Need-relative-encode-requires
+relative-encode-requires c κs = search needs
+
+sub-put-bytes : tie.Need-sub-put-bytes
+sub-put-bytes c = inside c
+
+part-put-bytes-start : tie.Need-part-put-bytes-start
+part-put-bytes-start c = inside c
+
+part-put-bytes-end : tie.Need-part-put-bytes-end
+part-put-bytes-end c = search needs
+
+slice-aggregate-put-bytes : tie.Need-slice-aggregate-put-bytes
+slice-aggregate-put-bytes c = search needs
+
+put-bytes-requires : tie.Need-put-bytes-requires
+put-bytes-requires c κs = search needs
+
+same-length : tie.Need-same-length
+same-length c = search needs
+
+returns : tie.Need-returns
+returns c =
+    let a = c .before .before .before .before .before .before .before .before .before .before .before .before .args in
+    let l = now (a .buffer) in
+    let p = c .before .before .before .before .before .before .before .before .relative-encode in
+    let q = c .before .before .put-bytes in
+    let n = c .before .before .before .before .before .before .before .before .before .before .relative-len-of-encoding in
+    let x = numberBytes 2 (a .entry .«payload_length») in
+    let y = a .entry .«payload_digest» in
+    let long = length-append x y in
+    let first : p .last .0 ≡ over x l = p .ensures .1 ∙ put-over x l (omega (arith, c .before .before .before .before .before .before .before .before .before .before .before .before .pre, long)) in
+    let rest = rw (to-end (n .result) (p .last .0)) at (q .ensures .1) in
+    let room : length y ≤ length (drop (n .result) (p .last .0)) = rw length-drop (omega (arith, c .before .before .before .before .before .before .before .before .before .before .before .before .pre, long, p .kept .0, n .ensures .0)) in
+    put-end (n .result) (p .last .0) (q .last .0) ∙ rw (rest, put-over y (drop (n .result) (p .last .0)) room, first, n .ensures .0) (over-then l x y)
+
+pub put-payload-spec : {M : Type 1} → statement M
+put-payload-spec =
+    tie.close
+    (tie.spec
+    relative-len-of-encoding-requires
+    relative-encode-requires
+    sub-put-bytes
+    part-put-bytes-start
+    part-put-bytes-end
+    slice-aggregate-put-bytes
+    put-bytes-requires
+    same-length
+    returns)

@@ -1,0 +1,94 @@
+use mathlib.Core.Path.{_≡_, refl, sym, ap, _∙_}
+use native.Mathlib.Omega.{arith}
+use Prim.Native.Nat.{_+_, _≤_}
+use denote.Ref.{now}
+use lib.ListN.{length, length-append, length-drop}
+use Rattle.codec.specs.Format.{over, writeAnswer, writeBuffer}
+use Rattle.codec.specs.Answers.{outcomeOf, wrote}
+use Rattle.codec.proofs.Lending.{put-fits, over-then, to-end, put-end, no-length}
+use Rattle.path_relative.specs.Records.{againstPath}
+use Rattle.entry.specs.Record.{entryOf}
+use Rattle.entry_area.specs.Entry.{endBytes}
+use Rattle.entry_area.proofs.Writing.{written-is, wrote-not-denied}
+use borrow.Author.Needs.{needs}
+use Rattle.entry_area.proofs.entry_encode.put_rest.Statement.{statement}
+use Rattle.entry_area.proofs.entry_encode.put_rest.Tie as tie
+
+-- the parts fit
+parts : (c : tie.Start) → let a = c .args in
+    length (againstPath (a .area .path) .encode (a .entry .path)) + length (endBytes (a .area .times) (entryOf (a .entry))) ≤ length (now (a .buffer))
+parts c =
+    let a = c .args in
+    omega (arith, c .pre .1, length-append (againstPath (a .area .path) .encode (a .entry .path)) (endBytes (a .area .times) (entryOf (a .entry))))
+
+fits : (c : tie.Start) → let a = c .args in let f = againstPath (a .area .path) in
+    (wrote (length (f .encode (a .entry .path))) ≡ writeAnswer f (a .entry .path) (length (now (a .buffer)))) × (over (f .encode (a .entry .path)) (now (a .buffer)) ≡ writeBuffer f (a .entry .path) (now (a .buffer)))
+fits c =
+    let a = c .args in
+    let f = againstPath (a .area .path) in
+    put-fits (f .check (a .entry .path)) (f .encode (a .entry .path)) (now (a .buffer)) (c .pre .0) _ refl (omega (arith, parts c))
+
+answer : (c : tie.After-relative-encode) → let a = c .before .before .before .args in outcomeOf (c .relative-encode .result) ≡ wrote (length (againstPath (a .area .path) .encode (a .entry .path)))
+answer c = c .relative-encode .ensures .0 ∙ sym (fits (c .before .before .before) .0)
+
+long : (c : tie.After-known-told) → let a = c .before .before .before .before .before .before .before .before .args in c .before .whole .given .0 .0 ≡ length (againstPath (a .area .path) .encode (a .entry .path))
+long c = written-is _ _ (ap outcomeOf (sym (c .before .whole .given .1)) ∙ answer (c .before .before .before .before .before))
+
+relative-encode-requires : tie.Need-relative-encode-requires
+relative-encode-requires c κs = search needs
+
+enum-known-whole : tie.Need-enum-known-whole
+enum-known-whole c = search needs
+
+same-length : tie.Need-same-length
+same-length c = search needs
+
+returns : tie.Need-returns
+returns c =
+    let none = no-length (c .before .before .before .relative-encode .result) (c .match .keys2) in
+    absurd (wrote-not-denied _ (none .why) (sym (answer (c .before .before .before)) ∙ none .is))
+
+sub-put-end : tie.Need-sub-put-end
+sub-put-end c = omega (arith, parts (c .before .before .before .before .before .before .before .before), long c, c .before .before .before .before .before .relative-encode .kept .0)
+
+part-put-end-start : tie.Need-part-put-end-start
+part-put-end-start c = omega (arith, parts (c .before .before .before .before .before .before .before .before), long c, c .before .before .before .before .before .relative-encode .kept .0)
+
+part-put-end-end : tie.Need-part-put-end-end
+part-put-end-end c = search needs
+
+put-end-requires : tie.Need-put-end-requires
+put-end-requires c κs =
+    let n = c .before .before .whole .given .0 .0 in
+    let p = c .before .before .before .before .before .before .relative-encode in
+    rw (to-end n (p .last .0), length-drop) (omega (arith, parts (c .before .before .before .before .before .before .before .before .before), long (c .before), p .kept .0))
+
+same-length-2 : tie.Need-same-length-2
+same-length-2 c = search needs
+
+returns-2 : tie.Need-returns-2
+returns-2 c =
+    let a = c .before .before .before .before .before .before .before .before .before .before .before .before .args in
+    let l = now (a .buffer) in
+    let n = c .before .before .before .before .before .whole .given .0 .0 in
+    let p = c .before .before .before .before .before .before .before .before .before .relative-encode in
+    let w = c .before .before .put-end in
+    let f = againstPath (a .area .path) in
+    let first : p .last .0 ≡ over (f .encode (a .entry .path)) l = p .ensures .1 ∙ sym (fits (c .before .before .before .before .before .before .before .before .before .before .before .before) .1) in
+    let rest = rw (to-end n (p .last .0)) at (w .ensures) in
+    put-end n (p .last .0) (w .last .0) ∙ rw (rest, first, long (c .before .before .before .before)) (over-then l (f .encode (a .entry .path)) (endBytes (a .area .times) (entryOf (a .entry))))
+
+pub put-rest-spec : {M : Type 1} → statement M
+put-rest-spec =
+    tie.close
+    (tie.spec
+    relative-encode-requires
+    enum-known-whole
+    same-length
+    returns
+    sub-put-end
+    part-put-end-start
+    part-put-end-end
+    put-end-requires
+    same-length-2
+    returns-2)

@@ -1,0 +1,5 @@
+pub mod Header
+pub mod Entry
+pub mod Records
+pub mod Answers
+pub mod Relations

@@ -1,0 +1,189 @@
+// Reading what follows the header: the id, the path, and the fields after it.
+ghost use mathlib.Core.Path.{_≡_};
+ghost use mathlib.Core.Bool.{true};
+ghost use Rattle.codec.specs.Answers.{answerOf};
+ghost use Rattle.codec.specs.Reader.{mapped, checked};
+ghost use Rattle.path.specs.Prefix.{isPrefix};
+ghost use Rattle.path.specs.Record.{componentsOf, pathFrom, wellFormed};
+ghost use Rattle.path_relative.specs.Against.{readAgainst};
+ghost use Rattle.grouping.specs.Record.{subspaceOf, areaOf, wellFormedArea};
+ghost use Rattle.entry.specs.Record.{entryFrom};
+ghost use Rattle.entry_area.specs.Entry.{readId, readEnd, readParts};
+ghost use Rattle.entry_area.specs.Answers.{GivesEntry, refusal};
+use crate::DecodedEnd;
+use crate::DecodedEntry;
+use crate::DecodedId;
+use crate::End;
+use crate::Header;
+use codec::Decoded;
+use compact_u64::DecodedU64;
+use compact_u64::TagWidth;
+use entry::Entry;
+use grouping::Area;
+use grouping::AreaSubspace;
+use grouping::TimeRange;
+use path::Compared;
+use path::Path;
+use path_codec::DecodedPath;
+
+// A refusal beside an entry that is all zero.
+pub(crate) fn refuse(answer: Decoded) -> DecodedEntry
+    ensures { λ r. ⌜ r ≡ refusal answer ⌝ }
+{
+    let path = Path::new_empty();
+    DecodedEntry {
+        answer: answer,
+        entry: Entry {
+            namespace_id: [0u8; 32],
+            subspace_id: [0u8; 32],
+            path: path,
+            timestamp: 0,
+            payload_length: 0,
+            payload_digest: [0u8; 32],
+        },
+    }
+}
+
+fn decode_id(message: &[u8], subspace: AreaSubspace, written: bool) -> DecodedId
+    ensures { λ r. ⌜ answerOf (r .answer) (r .id) ≡ readId (subspaceOf subspace) written (now (message .entry)) ⌝ }
+{
+    let id = subspace.id;
+    if subspace.any != written {
+        return DecodedId {
+            answer: Decoded::TheirFault,
+            id: id,
+        };
+    }
+    if !written {
+        return DecodedId {
+            answer: Decoded::Consumed(0),
+            id: id,
+        };
+    }
+    if message.len() < 32 {
+        return DecodedId {
+            answer: Decoded::EndOfInput,
+            id: id,
+        };
+    }
+    let mut read = [0u8; 32];
+    codec::put_bytes(&mut read, &message[..32]);
+    DecodedId {
+        answer: Decoded::Consumed(32),
+        id: read,
+    }
+}
+
+// Reads a path that the reference is a prefix of.
+fn decode_path(message: &[u8], canonic: bool, reference: Path) -> DecodedPath
+    requires { ⌜ wellFormed reference ≡ true ⌝ }
+    ensures { λ r. ⌜ answerOf (r .answer) (r .path) ≡ mapped pathFrom (checked (isPrefix (componentsOf reference)) (readAgainst canonic (componentsOf reference))) (now (message .entry)) ⌝ }
+{
+    let read = path_relative::relative_decode(message, 0, canonic, reference);
+    let answer = read.answer;
+    let Decoded::Consumed(_) = answer else {
+        return read;
+    };
+    let prefixed = reference.is_prefix_of(read.path);
+    let Compared::Yes = prefixed else {
+        return path_codec::refuse(Decoded::TheirFault);
+    };
+    read
+}
+
+fn no_end(answer: Decoded) -> DecodedEnd
+    ensures { λ r. ⌜ r .answer ≡ answer ⌝ }
+{
+    DecodedEnd {
+        answer: answer,
+        end: End {
+            timestamp: 0,
+            payload_length: 0,
+            payload_digest: [0u8; 32],
+        },
+    }
+}
+
+fn decode_end(message: &[u8], canonic: bool, times: TimeRange, header: Header) -> DecodedEnd
+    ensures { λ r. ⌜ answerOf (r .answer) (r .end) ≡ readEnd canonic times header (now (message .entry)) ⌝ }
+{
+    let first = time_relative::decode_included(
+        message,
+        0,
+        canonic,
+        times,
+        header.time_added,
+        header.time_tag,
+    );
+    let DecodedU64::Value(time, a) = first else {
+        return no_end(compact_u64::refusal(first));
+    };
+    let second = compact_u64::relative_decode(
+        message,
+        a,
+        TagWidth::Two,
+        header.length_tag,
+        canonic,
+    );
+    let DecodedU64::Value(size, b) = second else {
+        return no_end(compact_u64::refusal(second));
+    };
+    let at = a + b;
+    if message.len() - at < 32 {
+        return no_end(Decoded::EndOfInput);
+    }
+    let mut digest = [0u8; 32];
+    let to = at + 32;
+    codec::put_bytes(&mut digest, &message[at..to]);
+    DecodedEnd {
+        answer: Decoded::Consumed(a + (b + 32)),
+        end: End {
+            timestamp: time,
+            payload_length: size,
+            payload_digest: digest,
+        },
+    }
+}
+
+pub(crate) fn decode_parts(
+    message: &[u8],
+    canonic: bool,
+    namespace: [u8; 32],
+    area: Area,
+    header: Header,
+) -> DecodedEntry
+    requires { ⌜ wellFormedArea area ≡ true ⌝ }
+    ensures { λ r. ⌜ GivesEntry r (mapped entryFrom (readParts canonic namespace (areaOf area) header) (now (message .entry))) ⌝ }
+{
+    let first = decode_id(message, area.subspace, header.id_written);
+    let first_answer = first.answer;
+    let Decoded::Consumed(a) = first_answer else {
+        return refuse(first_answer);
+    };
+    let second = decode_path(&message[a..], canonic, area.path);
+    let second_answer = second.answer;
+    let Decoded::Consumed(b) = second_answer else {
+        return refuse(second_answer);
+    };
+    let at = a + b;
+    let third = decode_end(&message[at..], canonic, area.times, header);
+    let third_answer = third.answer;
+    let Decoded::Consumed(c) = third_answer else {
+        return refuse(third_answer);
+    };
+    let id = first.id;
+    let path = second.path;
+    let end = third.end;
+    let digest = end.payload_digest;
+    DecodedEntry {
+        answer: Decoded::Consumed(a + (b + c)),
+        entry: Entry {
+            namespace_id: namespace,
+            subspace_id: id,
+            path: path,
+            timestamp: end.timestamp,
+            payload_length: end.payload_length,
+            payload_digest: digest,
+        },
+    }
+}

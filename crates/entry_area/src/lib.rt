@@ -1,0 +1,123 @@
+// Entries against a namespace and an area: docs/FORMAT.md, "Entries". A port of relative_encodings/entry_area.rs.
+ghost use mathlib.Core.Path.{_≡_};
+ghost use lib.ListN.{length, drop};
+ghost use Rattle.codec.specs.Answers.{outcomeOf};
+ghost use Rattle.codec.specs.Format.{allowed, writeAnswer, writeBuffer, lengthAnswer};
+ghost use Rattle.entry_area.specs.Answers.{GivesEntry};
+ghost use Rattle.entry_area.specs.Records.{againstNamespaceArea, readAgainstNamespaceArea};
+use codec::Decoded;
+use codec::Encoded;
+use entry::Entry;
+use grouping::Area;
+use path::Compared;
+
+mod entry_decode;
+mod entry_encode;
+mod entry_header;
+
+// What the header byte says; `spare` are two bits that must be zero.
+pub struct Header {
+    pub id_written: bool,
+    pub time_added: bool,
+    pub time_tag: u8,
+    pub length_tag: u8,
+    pub spare: u8,
+}
+
+// An entry beside the answer; beside a refusal all of it is zero.
+pub struct DecodedEntry {
+    pub answer: Decoded,
+    pub entry: Entry,
+}
+
+pub struct DecodedId {
+    pub answer: Decoded,
+    pub id: [u8; 32],
+}
+
+// The fields after the path.
+pub struct End {
+    pub timestamp: u64,
+    pub payload_length: u64,
+    pub payload_digest: [u8; 32],
+}
+
+pub struct DecodedEnd {
+    pub answer: Decoded,
+    pub end: End,
+}
+
+// Reads an entry against a namespace and an area.
+pub fn relative_decode(
+    message: &[u8],
+    start: usize,
+    canonic: bool,
+    namespace: [u8; 32],
+    area: Area,
+) -> DecodedEntry
+    ensures { λ r. ⌜ GivesEntry r (readAgainstNamespaceArea canonic namespace area (drop start (now (message .entry)))) ⌝ }
+{
+    let well = area.well_formed();
+    if !well {
+        return entry_decode::refuse(Decoded::Malformed);
+    }
+    if message.len() <= start {
+        return entry_decode::refuse(Decoded::EndOfInput);
+    }
+    let header = entry_header::unpack(message[start]);
+    if header.spare != 0 {
+        return entry_decode::refuse(Decoded::TheirFault);
+    }
+    let at = start + 1;
+    let read = entry_decode::decode_parts(&message[at..], canonic, namespace, area, header);
+    let answer = read.answer;
+    let Decoded::Consumed(n) = answer else {
+        return read;
+    };
+    let entry = read.entry;
+    DecodedEntry {
+        answer: Decoded::Consumed(1 + n),
+        entry: entry,
+    }
+}
+
+// The length of an entry that lies inside.
+fn len_inside(entry: Entry, namespace: [u8; 32], area: Area) -> Encoded
+    requires { ⌜ againstNamespaceArea namespace area .check entry ≡ allowed ⌝ }
+    ensures { λ r. ⌜ outcomeOf r ≡ lengthAnswer (againstNamespaceArea namespace area) entry ⌝ }
+{
+    let path = path_relative::relative_len_of_encoding(entry.path, area.path);
+    let Encoded::Length(n) = path else {
+        return path;
+    };
+    let a = entry_encode::id_len(area.subspace);
+    let b = entry_encode::end_len(entry, area.times);
+    Encoded::Length(1 + (a + (n + b)))
+}
+
+// How many bytes an entry against a namespace and an area takes.
+pub fn relative_len_of_encoding(entry: Entry, namespace: [u8; 32], area: Area) -> Encoded
+    ensures { λ r. ⌜ outcomeOf r ≡ lengthAnswer (againstNamespaceArea namespace area) entry ⌝ }
+{
+    let inside = entry.lies_inside(namespace, area);
+    match inside {
+        Compared::Yes => len_inside(entry, namespace, area),
+        Compared::No => Encoded::Outside,
+        Compared::Malformed => Encoded::Malformed,
+    }
+}
+
+// Writes an entry against a namespace and an area.
+pub fn relative_encode(buffer: &mut [u8], entry: Entry, namespace: [u8; 32], area: Area) -> Encoded
+    ensures { λ r. ⌜ (outcomeOf r ≡ writeAnswer (againstNamespaceArea namespace area) entry (length (now (buffer .entry)))) × (now (buffer .exit) ≡ writeBuffer (againstNamespaceArea namespace area) entry (now (buffer .entry))) ⌝ }
+{
+    let whole = relative_len_of_encoding(entry, namespace, area);
+    let Encoded::Length(n) = whole else {
+        return whole;
+    };
+    if buffer.len() < n {
+        return Encoded::NoRoom;
+    }
+    entry_encode::put_entry(buffer, entry, namespace, area);
+    Encoded::Length(n)
+}
