@@ -8,16 +8,20 @@ use Rattle.path_codec.specs.Plain.{readPath}
 use Rattle.path_relative.specs.Against.{joinOk, readAgainst}
 use Rattle.path_relative.specs.Records.{readAgainstPath}
 use Rattle.path_relative.specs.Extension.{readExtension}
-use Rattle.grouping.specs.Range.{bounds, includesRange}
+use Rattle.grouping.specs.Range.{bounds, includesTime, includesRange}
 use Rattle.grouping.specs.Area.{includesArea, liesInside}
 use Rattle.grouping.specs.Record.{areaFrom, wellFormedSubspace, wellFormedArea}
-use Rattle.time_relative.specs.Difference.{differenceOf, timeAt, isNearest, readTime}
+use Rattle.time_relative.specs.Difference.{differenceOf, timeAt, isNearest, readTime, isIncluded, readIncluded}
 use Rattle.area_area.specs.Header.{spareBits}
 use Rattle.area_area.specs.Area.{headerOf, timesBytes, areaBytes, readSubspace, readEnd, readTimes, readParts, readArea}
 use Rattle.area_area.specs.Records.{readAgainstArea}
+use Rattle.entry.specs.Entry.{liesInsideArea}
+use Rattle.entry.specs.Record.{entryFrom, wellFormedEntry}
+use Rattle.entry_area.specs.Entry as entries
+use Rattle.entry_area.specs.Records.{readAgainstNamespaceArea}
 use Rattle.path.specs.Prefix.{isPrefix}
 use Rattle.cases.specs.Cases.{AllHold, cases}
 
 pub cases-hold : AllHold cases
-unfolding putAnswer minTag encodingWidth numberBytes numberSaid readNumber pathFrom wellFormed componentBytes sizesBytes suffixBytes readSizes readSized readLast readComponents readSuffix readPath joinOk readAgainst readAgainstPath readExtension bounds includesRange includesArea liesInside areaFrom wellFormedSubspace wellFormedArea differenceOf timeAt isNearest readTime spareBits headerOf timesBytes areaBytes readSubspace readEnd readTimes readParts readArea readAgainstArea isPrefix
-cases-hold = ((refl, refl), ((refl, refl), ((refl, refl), ((refl, refl), ((refl, refl), ((refl, refl), ((refl, refl), ((refl, refl), ((refl, refl), ((refl, refl), ((refl, refl), ((refl, refl), ((refl, refl), ((refl, refl), ((refl, refl), ((refl, refl), ((refl, refl), tt)))))))))))))))))
+unfolding putAnswer minTag encodingWidth numberBytes numberSaid readNumber pathFrom wellFormed componentBytes sizesBytes suffixBytes readSizes readSized readLast readComponents readSuffix readPath joinOk readAgainst readAgainstPath readExtension bounds includesRange includesArea liesInside areaFrom wellFormedSubspace wellFormedArea differenceOf timeAt isNearest readTime spareBits headerOf timesBytes areaBytes readSubspace readEnd readTimes readParts readArea readAgainstArea isPrefix includesTime readIncluded isIncluded entryFrom wellFormedEntry liesInsideArea entries.headerOf entries.entryBytes entries.readEnd entries.readParts entries.readEntry readAgainstNamespaceArea
+cases-hold = ((refl, refl), ((refl, refl), ((refl, refl), ((refl, refl), ((refl, refl), ((refl, refl), ((refl, refl), ((refl, refl), ((refl, refl), ((refl, refl), ((refl, refl), ((refl, refl), ((refl, refl), ((refl, refl), ((refl, refl), ((refl, refl), ((refl, refl), ((refl, refl), ((refl, refl), ((refl, refl), tt))))))))))))))))))))

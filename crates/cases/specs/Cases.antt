@@ -2,9 +2,9 @@
 use mathlib.Core.Path.{_≡_}
 use mathlib.Core.List.{List, [], _∷_}
 use mathlib.Core.Bool.{true, false}
-use mathlib.Core.Option.{none}
+use mathlib.Core.Option.{none, some}
 use Prim.Native.Nat.{ℕ}
-use lib.ListN.{length}
+use lib.ListN.{length, replicate}
 use Rattle.codec.specs.Answers.{Answer, accepted, refused, wrote}
 use Rattle.codec.specs.Format.{writeAnswer}
 use Rattle.codec.specs.Reader.{named}
@@ -17,6 +17,9 @@ use Rattle.grouping.specs.Area.{AreaValue}
 use Rattle.grouping.specs.Record.{areaFrom}
 use Rattle.area_area.specs.Area.{timesFrom, valueFrom}
 use Rattle.area_area.specs.Records.{againstArea, readAgainstArea}
+use Rattle.entry.specs.Entry.{EntryValue}
+use Rattle.entry.specs.Record.{entryFrom}
+use Rattle.entry_area.specs.Records.{againstNamespaceArea, readAgainstNamespaceArea}
 
 -- components
 abbrev pub a : List ℕ
@@ -29,7 +32,23 @@ bc = 0x62 ∷ 0x63 ∷ []
 abbrev pub times : ℕ → RangeEnd → AreaValue
 times start end = valueFrom none (timesFrom start end) []
 
--- a message with the answers of strict and of lenient reading, or a value with the bytes that writing gives; paths and areas stand as their values
+-- a namespace, an id, a digest; the area of that id, the empty path and all times; an entry in it
+abbrev pub namespace : List ℕ
+namespace = replicate 32 0x6E
+
+abbrev pub id : List ℕ
+id = replicate 32 0x73
+
+abbrev pub digest : List ℕ
+digest = replicate 32 0x64
+
+abbrev pub everything : AreaValue
+everything = valueFrom (some id) (timesFrom 0 Open) []
+
+abbrev pub at : ℕ → ℕ → EntryValue
+at time size = record { namespace = namespace; subspace = id; path = []; time = time; size = size; digest = digest }
+
+-- a message with the answers of strict and of lenient reading, or a value with the bytes that writing gives; records stand as their values
 pub data Case : Type 0 where
   path : List ℕ → Answer (List (List ℕ)) → Answer (List (List ℕ)) → Case
   path-written : List (List ℕ) → List ℕ → Case
@@ -37,6 +56,8 @@ pub data Case : Type 0 where
   against-written : List (List ℕ) → List (List ℕ) → List ℕ → Case
   area : AreaValue → List ℕ → Answer AreaValue → Answer AreaValue → Case
   area-written : AreaValue → AreaValue → List ℕ → Case
+  entry : AreaValue → List ℕ → Answer EntryValue → Answer EntryValue → Case
+  entry-written : AreaValue → EntryValue → List ℕ → Case
 
 abbrev pub Holds : Case → Type 0
 Holds (path s strict lenient) = (readPath true s ≡ named pathFrom strict) × (readPath false s ≡ named pathFrom lenient)
@@ -45,6 +66,8 @@ Holds (against r s strict lenient) = (readAgainstPath true (pathFrom r) s ≡ na
 Holds (against-written r p bytes) = (writeAnswer (againstPath (pathFrom r)) (pathFrom p) (length bytes) ≡ wrote (length bytes)) × (againstPath (pathFrom r) .encode (pathFrom p) ≡ bytes)
 Holds (area r s strict lenient) = (readAgainstArea true (areaFrom r) s ≡ named areaFrom strict) × (readAgainstArea false (areaFrom r) s ≡ named areaFrom lenient)
 Holds (area-written r a bytes) = (writeAnswer (againstArea (areaFrom r)) (areaFrom a) (length bytes) ≡ wrote (length bytes)) × (againstArea (areaFrom r) .encode (areaFrom a) ≡ bytes)
+Holds (entry r s strict lenient) = (readAgainstNamespaceArea true namespace (areaFrom r) s ≡ named entryFrom strict) × (readAgainstNamespaceArea false namespace (areaFrom r) s ≡ named entryFrom lenient)
+Holds (entry-written r e bytes) = (writeAnswer (againstNamespaceArea namespace (areaFrom r)) (entryFrom e) (length bytes) ≡ wrote (length bytes)) × (againstNamespaceArea namespace (areaFrom r) .encode (entryFrom e) ≡ bytes)
 
 abbrev pub AllHold : List Case → Type 0
 AllHold [] = Unit {0}
@@ -69,4 +92,7 @@ cases =
     ∷ area (times 0 Open) (0x60 ∷ 0x00 ∷ 0x00 ∷ []) (accepted (times 0 Open) 3) (accepted (times 0 Open) 3)
     ∷ area-written (times 0 Open) (times 0 Open) (0x60 ∷ 0x00 ∷ 0x00 ∷ [])
     ∷ area (times 100 (Closed 200)) (0x00 ∷ 0x32 ∷ 0x00 ∷ 0x00 ∷ []) (refused 2) (accepted (times 150 (Closed 200)) 4)
+    ∷ entry everything (0x40 ∷ 0x00 ∷ 0x00 ∷ 0x05 ∷ 0x07 ∷ digest) (accepted (at 5 7) 37) (accepted (at 5 7) 37)
+    ∷ entry-written everything (at 5 7) (0x40 ∷ 0x00 ∷ 0x00 ∷ 0x05 ∷ 0x07 ∷ digest)
+    ∷ entry everything (0x41 ∷ 0x00 ∷ 0x00 ∷ 0x05 ∷ 0x07 ∷ digest) (refused 2) (refused 2)
     ∷ []
