@@ -9,6 +9,7 @@ from pathlib import Path
 sys.dont_write_bytecode = True
 import area_lists
 import case_lists
+import entry_lists
 from case_lists import KINDS, TOP, tabbed, text, write
 
 ROOT = Path(__file__).resolve().parent.parent
@@ -106,7 +107,7 @@ def answers(lines):
 def main():
     env = {**os.environ, "CARGO_TARGET_DIR": str(TARGET)}
     subprocess.run(["cargo", "build", "--release", "--offline", "-q"], cwd=ROOT / "oracle", env=env, check=True)
-    malformed = case_lists.malformed() + area_lists.malformed()
+    malformed = case_lists.malformed() + area_lists.malformed() + entry_lists.malformed()
     if set(answers(malformed)) != {"no\t6"}:
         sys.exit("a malformed line is answered")
     lines = [
@@ -120,6 +121,7 @@ def main():
         *case_lists.writing(),
         *case_lists.raw_lines(),
         *area_lists.areas(),
+        *entry_lists.entries(),
         *malformed,
         *case_lists.long_lines(),
         *other_kinds(),

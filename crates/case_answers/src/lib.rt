@@ -16,6 +16,7 @@ pub enum Kind {
     PathPath,
     PathExtends,
     AreaArea,
+    EntryArea,
     Raw,
     Unknown,
 }
@@ -50,6 +51,9 @@ fn kind_of(field: &[u8]) -> Kind
     if codec::same_bytes(field, b"area_area") {
         return Kind::AreaArea;
     }
+    if codec::same_bytes(field, b"entry_area") {
+        return Kind::EntryArea;
+    }
     if codec::same_bytes(field, b"raw") {
         return Kind::Raw;
     }
@@ -71,6 +75,7 @@ pub fn answer(line: &[u8], out: &mut [u8], at: usize) -> usize
         Kind::PathPath => case_paths::relative(line, out, at, Encoding::Against),
         Kind::PathExtends => case_paths::relative(line, out, at, Encoding::Extends),
         Kind::AreaArea => case_areas::area(line, out, at),
+        Kind::EntryArea => case_entries::entry(line, out, at),
         Kind::Raw => case_paths::raw::raw(line, out, at),
         Kind::Unknown => case_text::put::refuse(out, at),
     }

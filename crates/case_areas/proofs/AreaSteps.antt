@@ -24,7 +24,7 @@ use Rattle.case_text.specs.Fields.{field, decimalField, pathField}
 use Rattle.case_text.specs.Answers.{Puts}
 use Rattle.case_text.proofs.Puts.{puts-two, puts-then}
 use Rattle.case_areas.specs.declared.AreaField.{AreaField}
-use Rattle.case_areas.specs.Lines.{onSubspace, onEnd, onArea, areaField}
+use Rattle.case_areas.specs.Lines.{onSubspace, onEnd, onArea, noArea, areaField}
 
 -- ---- one field
 module _ (i : ℕ) (line : List ℕ) {s : List ℕ} {r : SubspaceField} (part : s ≡ partAt 9 i line) (read : r ≡ readSubspaceText s) where
@@ -73,6 +73,17 @@ module _ (i : ℕ) (line : List ℕ) (k : Area → List ℕ) where
         pub four-read : (end : RangeEnd) → ((k : RangeEnd → List ℕ) → onEnd (readEndText (field (i + 3) line)) k ≡ k end)
             → onFourth subspace path start end ≡ areaField i line k
         four-read end f = sym (first onFirst ∙ second (onSecond subspace) ∙ third (onThird subspace path) ∙ f (onFourth subspace path start))
+
+-- fields that are not in their form
+pub no-ok : (r : AreaField) → r ≡ noArea → r .ok ≡ false
+unfolding noArea
+no-ok r e = rw e
+
+pub no-beside : (r : AreaField) → r ≡ noArea → r ≡ cond (r .ok) r noArea
+no-beside r e = e ∙ sym (pick (r .ok) (no-ok r e))
+  where
+    pick : (b : Bool) → b ≡ false → cond b r noArea ≡ noArea
+    pick b f = rw f
 
 pub none-read : (i : ℕ) (line : List ℕ) (r : AreaField) → r .ok ≡ false → (k : Area → List ℕ) → areaField i line k ≡ six → onArea r k ≡ areaField i line k
 none-read i line r e k f = rw e (sym f)

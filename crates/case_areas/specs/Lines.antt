@@ -1,10 +1,11 @@
 -- Case lines of areas against an area: docs/CASES.md.
 use mathlib.Core.List.{List, _++_}
-use mathlib.Core.Bool.{cond}
+use mathlib.Core.Bool.{false, cond}
 use Prim.Native.Nat.{ℕ, _+_}
 use Rattle.grouping.specs.declared.RangeEnd.{RangeEnd}
 use Rattle.grouping.specs.declared.AreaSubspace.{AreaSubspace}
 use Rattle.grouping.specs.declared.Area.{Area}
+use Rattle.area_area.specs.Answers.{emptyArea}
 use Rattle.area_area.specs.Records.{againstArea, readAgainstArea}
 use Rattle.text.specs.Decimal.{decimalText}
 use Rattle.path_text.specs.PathText.{pathTextOf}
@@ -42,6 +43,9 @@ againstLine r op line = recordLine areaField areaText (λ canonic. readAgainstAr
 abbrev pub areaLine : List ℕ → List ℕ
 areaLine line = areaField 2 line (λ r. againstLine r (opOf (field 1 line)) line)
 
--- ---- inside: what four fields that were read say to whatever comes after them
+-- ---- what four fields that were read say to whatever comes after them
 abbrev pub onArea : AreaField → (Area → List ℕ) → List ℕ
 onArea f k = cond (f .ok) (k (f .area)) six
+
+unfoldable pub noArea : AreaField
+noArea = record { ok = false; area = emptyArea }

@@ -1,15 +1,15 @@
 // Case lines of areas against an area: docs/CASES.md. A line is answered where MAX_ANSWER bytes are free; elsewhere nothing changes.
 ghost use mathlib.Core.Path.{_≡_};
-ghost use mathlib.Core.Bool.{false};
+ghost use mathlib.Core.Bool.{cond};
 ghost use mathlib.Core.List.{List};
-ghost use Prim.Native.Nat.{ℕ, _≤_};
+ghost use Prim.Native.Nat.{ℕ};
 ghost use lib.ListN.{take};
 ghost use Rattle.grouping.specs.declared.Area as declared;
 ghost use Rattle.area_area.specs.Records.{againstArea, readAgainstArea};
 ghost use Rattle.case_text.specs.Texts.{ended};
 ghost use Rattle.case_text.specs.Records.{readLine, writeLine, lengthLine};
 ghost use Rattle.case_text.specs.Answers.{PutsWithin};
-ghost use Rattle.case_areas.specs.Lines.{areaText, areaField, onArea, areaLine};
+ghost use Rattle.case_areas.specs.Lines.{areaText, areaField, onArea, noArea, areaLine};
 use case_text::HexField;
 use case_text::MAX_BYTES;
 use case_text::MessageField;
@@ -24,14 +24,14 @@ use path::Path;
 use path_text::Found;
 use text::Decimal;
 
-// An area that four fields say; where they are not in their form, one that nobody looks at.
+// An area that four fields say; where they are not in their form, one in which no time lies.
 pub struct AreaField {
     pub ok: bool,
     pub area: Area,
 }
 
 fn no_area() -> AreaField
-    ensures { λ r. ⌜ r .ok ≡ false ⌝ }
+    ensures { λ r. ⌜ r ≡ noArea ⌝ }
 {
     let path = Path::new_empty();
     AreaField {
@@ -44,17 +44,17 @@ fn no_area() -> AreaField
             path: path,
             times: TimeRange {
                 start: 0,
-                end: RangeEnd::Open,
+                end: RangeEnd::Closed(0),
             },
         },
     }
 }
 
-// Reads the i-th field of a line and the three after it.
-fn read_area(line: &[u8], i: usize) -> AreaField
-    requires { ⌜ i ≤ 6 ⌝ }
-    ensures { λ r. ⌜ ((k : declared.Area → List ℕ) → onArea r k ≡ areaField i (now (line .entry)) k) ⌝ }
+// Reads the place-th field of a line and the three after it.
+pub fn read_area(line: &[u8], place: u8) -> AreaField
+    ensures { λ r. ⌜ ((k : declared.Area → List ℕ) → onArea r k ≡ areaField place (now (line .entry)) k) × (r ≡ cond (r .ok) r noArea) ⌝ }
 {
+    let i = place as usize;
     let first = area_text::read_subspace(text::part(line, b'\t', i));
     if !first.ok {
         return no_area();

@@ -62,11 +62,17 @@ area-requires c κs = search needs
 enum-told-7 : tie.Need-enum-told-7
 enum-told-7 c = search needs
 
-raw-requires : tie.Need-raw-requires
-raw-requires c κs = search needs
+entry-requires : tie.Need-entry-requires
+entry-requires c κs = search needs
 
 enum-told-8 : tie.Need-enum-told-8
 enum-told-8 c = search needs
+
+raw-requires : tie.Need-raw-requires
+raw-requires c κs = search needs
+
+enum-told-9 : tie.Need-enum-told-9
+enum-told-9 c = search needs
 
 refuse-requires-2 : tie.Need-refuse-requires-2
 refuse-requires-2 c κs = search needs
@@ -125,7 +131,7 @@ same-length-8 c = search needs
 returns-8 : tie.Need-returns-8
 returns-8 c =
     let line = now (c .before .before .before .before .before .before .before .before .before .before .before .args .line) in
-    within-same (kind-told line (omega arith) (c .before .before .before .before .before .before .before .part .ensures) (c .before .before .before .before .before .before .kind-of .ensures) (c .before .before .before .before .enum-told7 .given .1)) (c .before .before .raw .ensures)
+    within-same (kind-told line (omega arith) (c .before .before .before .before .before .before .before .part .ensures) (c .before .before .before .before .before .before .kind-of .ensures) (c .before .before .before .before .enum-told7 .given .1)) (c .before .before .entry .ensures)
 
 same-length-9 : tie.Need-same-length-9
 same-length-9 c = search needs
@@ -133,7 +139,15 @@ same-length-9 c = search needs
 returns-9 : tie.Need-returns-9
 returns-9 c =
     let line = now (c .before .before .before .before .before .before .before .before .before .before .before .args .line) in
-    within-same (kind-told line (omega arith) (c .before .before .before .before .before .before .before .part .ensures) (c .before .before .before .before .before .before .kind-of .ensures) (c .before .before .before .before .enum-told8 .given .1)) (c .before .before .refuse2 .ensures)
+    within-same (kind-told line (omega arith) (c .before .before .before .before .before .before .before .part .ensures) (c .before .before .before .before .before .before .kind-of .ensures) (c .before .before .before .before .enum-told8 .given .1)) (c .before .before .raw .ensures)
+
+same-length-10 : tie.Need-same-length-10
+same-length-10 c = search needs
+
+returns-10 : tie.Need-returns-10
+returns-10 c =
+    let line = now (c .before .before .before .before .before .before .before .before .before .before .before .args .line) in
+    within-same (kind-told line (omega arith) (c .before .before .before .before .before .before .before .part .ensures) (c .before .before .before .before .before .before .kind-of .ensures) (c .before .before .before .before .enum-told9 .given .1)) (c .before .before .refuse2 .ensures)
 
 pub answer-spec : {M : Type 1} → statement M
 answer-spec =
@@ -157,8 +171,10 @@ answer-spec =
     enum-told-6
     area-requires
     enum-told-7
-    raw-requires
+    entry-requires
     enum-told-8
+    raw-requires
+    enum-told-9
     refuse-requires-2
     same-length-2
     returns-2
@@ -175,4 +191,6 @@ answer-spec =
     same-length-8
     returns-8
     same-length-9
-    returns-9)
+    returns-9
+    same-length-10
+    returns-10)

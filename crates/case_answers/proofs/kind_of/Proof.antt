@@ -155,10 +155,17 @@ returns-7 c =
       c .if7 .taken,
     )
 
+slice-aggregate-same-bytes-8 : tie.Need-slice-aggregate-same-bytes-8
+slice-aggregate-same-bytes-8 c = search needs
+
+same-bytes-requires-8 : tie.Need-same-bytes-requires-8
+same-bytes-requires-8 c κs = search needs
+
 returns-8 : tie.Need-returns-8
 unfolding kindOf
 returns-8 c =
-    let c6 = c .before .before .before in
+    let c7 = c .before .before .before in
+    let c6 = c7 .before .before .before in
     let c5 = c6 .before .before .before in
     let c4 = c5 .before .before .before in
     let c3 = c4 .before .before .before in
@@ -177,8 +184,39 @@ returns-8 c =
       c5 .if5 .left,
       ← (c6 .before .same-bytes6 .ensures),
       c6 .if6 .left,
-      ← (c .before .same-bytes7 .ensures),
-      c .if7 .left,
+      ← (c7 .before .same-bytes7 .ensures),
+      c7 .if7 .left,
+      ← (c .before .same-bytes8 .ensures),
+      c .if8 .taken,
+    )
+
+returns-9 : tie.Need-returns-9
+unfolding kindOf
+returns-9 c =
+    let c7 = c .before .before .before in
+    let c6 = c7 .before .before .before in
+    let c5 = c6 .before .before .before in
+    let c4 = c5 .before .before .before in
+    let c3 = c4 .before .before .before in
+    let c2 = c3 .before .before .before in
+    let c1 = c2 .before .before .before in
+    rw (
+      ← (c1 .before .same-bytes .ensures),
+      c1 .if1 .left,
+      ← (c2 .before .same-bytes2 .ensures),
+      c2 .if2 .left,
+      ← (c3 .before .same-bytes3 .ensures),
+      c3 .if3 .left,
+      ← (c4 .before .same-bytes4 .ensures),
+      c4 .if4 .left,
+      ← (c5 .before .same-bytes5 .ensures),
+      c5 .if5 .left,
+      ← (c6 .before .same-bytes6 .ensures),
+      c6 .if6 .left,
+      ← (c7 .before .same-bytes7 .ensures),
+      c7 .if7 .left,
+      ← (c .before .same-bytes8 .ensures),
+      c .if8 .left,
     )
 
 pub kind-of-spec : {M : Type 1} → statement M
@@ -206,4 +244,7 @@ kind-of-spec =
     slice-aggregate-same-bytes-7
     same-bytes-requires-7
     returns-7
-    returns-8)
+    slice-aggregate-same-bytes-8
+    same-bytes-requires-8
+    returns-8
+    returns-9)

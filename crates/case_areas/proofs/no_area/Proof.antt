@@ -1,0 +1,18 @@
+use Rattle.grouping.specs.Record.{areaFrom}
+use Rattle.case_areas.specs.Lines.{noArea}
+use borrow.Author.Needs.{needs}
+use Rattle.case_areas.proofs.no_area.Statement.{statement}
+use Rattle.case_areas.proofs.no_area.Tie as tie
+use Rattle.case_areas.proofs.no_area.Reads as reads
+use Rattle.case_areas.proofs.no_area.Lts as lts
+use Rattle.path.proofs.Path.new_empty.Reads as new-empty-reads
+
+new-empty-requires : tie.Need-new-empty-requires
+new-empty-requires c κs = search needs
+
+returns : tie.Need-returns
+unfolding noArea areaFrom
+returns c = rw (c .new-empty .ensures)
+
+pub no-area-spec : {M : Type 1} → statement M
+no-area-spec = tie.close (tie.spec new-empty-requires returns)

@@ -1,0 +1,94 @@
+use lib.ListN.{length, length-append}
+use mathlib.Core.Path.{_≡_}
+use denote.Ref.{now}
+use native.Mathlib.Omega.{arith}
+use Rattle.text.specs.Hex.{hexText}
+use Rattle.text.proofs.HexSteps.{hexText-long}
+use Rattle.entry.proofs.Typed.{typed-entry}
+use Rattle.case_text.specs.Texts.{afterTab}
+use mathlib.Core.List.{_++_}
+use Rattle.text.specs.Decimal.{decimalText}
+use Rattle.text.proofs.DecimalPrinted.{decimal-few}
+use Rattle.case_text.proofs.Puts.{puts-first}
+use Rattle.case_areas.proofs.AreaSteps.{puts-tab}
+use Rattle.case_entries.specs.Lines.{namesText}
+use Rattle.case_entries.proofs.EntrySteps.{names-few}
+use borrow.Author.Needs.{needs}
+use Rattle.case_entries.proofs.print.Statement.{statement}
+use Rattle.case_entries.proofs.print.Tie as tie
+
+print-names-requires : tie.Need-print-names-requires
+print-names-requires c κs = search needs
+
+slice-aggregate-put-bytes : tie.Need-slice-aggregate-put-bytes
+slice-aggregate-put-bytes c = search needs
+
+put-bytes-requires : tie.Need-put-bytes-requires
+put-bytes-requires c κs = search needs
+
+put-decimal-requires : tie.Need-put-decimal-requires
+put-decimal-requires c κs = search needs
+
+slice-aggregate-put-bytes-2 : tie.Need-slice-aggregate-put-bytes-2
+slice-aggregate-put-bytes-2 c = search needs
+
+put-bytes-requires-2 : tie.Need-put-bytes-requires-2
+put-bytes-requires-2 c κs = search needs
+
+put-decimal-requires-2 : tie.Need-put-decimal-requires-2
+put-decimal-requires-2 c κs = search needs
+
+slice-aggregate-put-bytes-3 : tie.Need-slice-aggregate-put-bytes-3
+slice-aggregate-put-bytes-3 c = search needs
+
+put-bytes-requires-3 : tie.Need-put-bytes-requires-3
+put-bytes-requires-3 c κs = search needs
+
+slice-aggregate-put-hex : tie.Need-slice-aggregate-put-hex
+slice-aggregate-put-hex c = search (needs, typed-entry (c .before .before .before .before .before .before .before .before .before .before .before .before .before .before .before .before .before .before .args .entry) (c .before .before .before .before .before .before .before .before .before .before .before .before .before .before .before .before .before .before .good .0) .digest .0)
+
+put-hex-requires : tie.Need-put-hex-requires
+put-hex-requires c κs = search needs
+
+returns : tie.Need-returns
+returns c =
+    let a = c .before .before .before .before .before .before .before .before .before .before .before .before .before .before .before .before .before .before .before .args .entry in
+    let b = c .before .before .before .before .before .before .before .before .before .before .before .before .before .before .before .before .before .before .before .args .buffer in
+    let g : length (now b) ≡ 8192 = c .before .before .before .before .before .before .before .before .before .before .before .before .before .before .before .before .before .print-names .ensures .1 in
+    let t = typed-entry a (c .before .before .before .before .before .before .before .before .before .before .before .before .before .before .before .before .before .before .before .good .0) in
+    let x = namesText a in
+    let d = decimalText (a .timestamp) in
+    let z = decimalText (a .«payload_length») in
+    let h = hexText (a .«payload_digest») in
+    let xf = names-few a t in
+    let df = decimal-few (a .timestamp) in
+    let zf = decimal-few (a .«payload_length») in
+    let hl = hexText-long (a .«payload_digest») in
+    let ht = t .digest .0 in
+    let xd = length-append x (afterTab d) in
+    let xdz = length-append (x ++ afterTab d) (afterTab z) in
+    puts-first
+    (puts-tab
+    (puts-tab
+    (puts-tab {a = x} {l = now b}
+    (c .before .before .before .before .before .before .before .before .before .before .before .before .before .before .before .before .before .print-names .ensures .0)
+    d (omega (arith, g)) (c .before .before .before .before .before .before .before .before .before .before .before .before .before .before .put-bytes .ensures) (c .before .before .before .before .before .before .before .before .before .before .before .before .put-decimal .ensures))
+    z (omega (arith, g)) (c .before .before .before .before .before .before .before .before .before .put-bytes2 .ensures) (c .before .before .before .before .before .before .before .put-decimal2 .ensures))
+    h (omega (arith, g)) (c .before .before .before .before .put-bytes3 .ensures) (c .put-hex .ensures))
+
+pub print-spec : {M : Type 1} → statement M
+print-spec =
+    tie.close
+    (tie.spec
+    print-names-requires
+    slice-aggregate-put-bytes
+    put-bytes-requires
+    put-decimal-requires
+    slice-aggregate-put-bytes-2
+    put-bytes-requires-2
+    put-decimal-requires-2
+    slice-aggregate-put-bytes-3
+    put-bytes-requires-3
+    slice-aggregate-put-hex
+    put-hex-requires
+    returns)
