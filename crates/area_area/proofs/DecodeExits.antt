@@ -1,20 +1,16 @@
 -- What the readers' definitions answer at each exit of the code.
 use mathlib.Core.Path.{_≡_, refl, sym, ap, _∙_}
-use mathlib.Core.List.{List, append-nil}
+use mathlib.Core.List.{List}
 use mathlib.Core.Bool.{Bool, true, false, cond, not}
 use mathlib.Core.Logic.{_⊎_, inl, inr}
 use Prim.Native.Nat.{ℕ, suc, _+_, _≤_, _<_}
-use native.Mathlib.Omega.{arith}
 use native.Mathlib.Numerals.{add-one}
-use lib.ListN.{length, take, drop, replicate, getD, drop-of-length-le}
-use lib.Seq.{drop-cons, drop-drop, length-take-le}
-use borrow.Author.Tests.{le-leb, lt-leb}
+use lib.ListN.{length, drop, getD, drop-of-length-le}
+use lib.Seq.{drop-cons, drop-drop}
 use Rattle.codec.specs.Answers.{Answer, accepted, refused}
 use Rattle.codec.specs.Bytes.{sameBytes}
-use Rattle.codec.specs.Format.{allowed, putBuffer}
-use Rattle.codec.specs.Reader.{shift, named, mapped}
-use Rattle.codec.proofs.Lending.{put-over}
-use Rattle.codec.proofs.Readers.{named-inv}
+use Rattle.codec.specs.Reader.{shift, named, someBytes, mapped}
+use Rattle.codec.proofs.Readers.{named-inv, named-refused}
 use Rattle.codec.proofs.Tests.{and-right}
 use Rattle.path.specs.declared.Path.{Path}
 use Rattle.path.specs.Record.{componentsOf, pathFrom, wellFormed}
@@ -39,35 +35,29 @@ use Rattle.area_area.specs.Records.{readAgainstArea}
 abbrev pub oneSubspace : List ℕ → AreaSubspace
 oneSubspace id = record { any = false; id = id }
 
--- an id's bytes put over zeros
-pub id-put : (s : List ℕ) → 32 ≤ length s → putBuffer allowed (take 32 s) (replicate 32 0) ≡ take 32 s
-id-put s h =
-    let long : length (take 32 s) ≡ 32 = length-take-le 32 s h in
-    put-over (take 32 s) (replicate 32 0) (omega (arith, long)) ∙ rw (long, append-nil (take 32 s))
-
 module _ (canonic : Bool) (r : AreaSubspace) (written : Bool) (s : List ℕ) where
   pub subspace-kept : wellFormedSubspace r ≡ true → written ≡ false → mapped subspaceFrom (readSubspace canonic (subspaceOf r) written) s ≡ accepted r 0
   unfolding readSubspace
   subspace-kept w e = rw e (ap (λ (x : AreaSubspace). accepted x 0) (subspace-back r w))
 
   module _ (e : written ≡ true) where
-    pub subspace-short : length s < 32 → mapped subspaceFrom (readSubspace canonic (subspaceOf r) written) s ≡ refused 1
+    pub subspace-refused : (k : ℕ) → someBytes 32 s ≡ refused k → mapped subspaceFrom (readSubspace canonic (subspaceOf r) written) s ≡ refused k
     unfolding readSubspace
-    subspace-short h = rw (e, lt-leb 32 (length s) h)
+    subspace-refused k f = rw (e, f)
 
-    module _ (h : 32 ≤ length s) where
-      pub subspace-outside : subspaceIncludes r (oneSubspace (take 32 s)) ≡ false → mapped subspaceFrom (readSubspace canonic (subspaceOf r) written) s ≡ refused 2
+    module _ (id : List ℕ) (n : ℕ) (f : someBytes 32 s ≡ accepted id n) where
+      pub subspace-outside : subspaceIncludes r (oneSubspace id) ≡ false → mapped subspaceFrom (readSubspace canonic (subspaceOf r) written) s ≡ refused 2
       unfolding readSubspace subspaceIncludes
-      subspace-outside o = rw (e, le-leb 32 (length s) h, o)
+      subspace-outside o = rw (e, f, o)
 
-      module _ (i : subspaceIncludes r (oneSubspace (take 32 s)) ≡ true) where
+      module _ (i : subspaceIncludes r (oneSubspace id) ≡ true) where
         pub subspace-known : canonic ≡ true → r .any ≡ false → mapped subspaceFrom (readSubspace canonic (subspaceOf r) written) s ≡ refused 2
         unfolding readSubspace subspaceIncludes
         subspace-known c a =
-            let same : sameBytes (r .id) (take 32 s) ≡ true = rw a at i in
-            rw (e, le-leb 32 (length s) h, c, a, same)
+            let same : sameBytes (r .id) id ≡ true = rw a at i in
+            rw (e, f, c, a, same)
 
-        free : (canonic ≡ false) ⊎ (r .any ≡ true) → cond canonic (not (sameId (subspaceOf r) (take 32 s))) true ≡ true
+        free : (canonic ≡ false) ⊎ (r .any ≡ true) → cond canonic (not (sameId (subspaceOf r) id)) true ≡ true
         free (inl c) = rw c
         free (inr a) = rw a (go canonic)
           where
@@ -75,9 +65,9 @@ module _ (canonic : Bool) (r : AreaSubspace) (written : Bool) (s : List ℕ) whe
             go true = refl
             go false = refl
 
-        pub subspace-read : (canonic ≡ false) ⊎ (r .any ≡ true) → mapped subspaceFrom (readSubspace canonic (subspaceOf r) written) s ≡ accepted (oneSubspace (take 32 s)) 32
+        pub subspace-read : (canonic ≡ false) ⊎ (r .any ≡ true) → mapped subspaceFrom (readSubspace canonic (subspaceOf r) written) s ≡ accepted (oneSubspace id) n
         unfolding readSubspace subspaceIncludes
-        subspace-read x = rw (e, le-leb 32 (length s) h, i, free x)
+        subspace-read x = rw (e, f, i, free x)
 
 -- ---- the times
 module _ (canonic : Bool) (r : TimeRange) (h : Header) (s : List ℕ) where
@@ -118,10 +108,6 @@ module _ (canonic : Bool) (r : TimeRange) (h : Header) (s : List ℕ) where
       times-read i = rw (e, f, i)
 
 -- ---- what follows the header
-named-refused : {A B : Type 0} (f : A → B) (x : Answer A) (k : ℕ) → named f x ≡ refused k → x ≡ refused k
-named-refused f (accepted a n) k e = let z : _≡_ {A = ℕ} 0 1 = cc in absurd (omega arith)
-named-refused f (refused j) k e = cc
-
 module _ (canonic : Bool) (r : Area) (w : wellFormedArea r ≡ true) (h : Header) (s : List ℕ) where
   extends : (t : List ℕ) → readExtendsPath canonic (r .path) t ≡ named pathFrom (readExtension canonic (componentsOf (r .path)) t)
   unfolding readExtendsPath wellFormedArea

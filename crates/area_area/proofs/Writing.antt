@@ -6,7 +6,8 @@ use mathlib.Core.Option.{none, some}
 use Prim.Native.Nat.{ℕ, _+_, _≤_}
 use native.Mathlib.Omega.{arith}
 use lib.ListN.{length, length-append}
-use Rattle.codec.specs.Format.{allowed, barred, verdictBy}
+use Rattle.path.proofs.Verdicts.{yes-allowed, no-barred, malformed-barred}
+use Rattle.codec.specs.Format.{allowed, barred}
 use Rattle.codec.proofs.Tests.{and-left, and-right}
 use Rattle.codec.proofs.Lawful.{verdict-allowed}
 use Rattle.compact_u64.specs.Number.{numberBytes}
@@ -66,30 +67,15 @@ module _ (r t : TimeRange) where
 module _ (r a : Area) where
   pub contained : areaInside r a ≡ compared.Yes → againstArea r .check a ≡ allowed
   unfolding areaInside
-  contained e = go (wellFormedArea r && wellFormedArea a) (liesInside (areaOf r) (areaOf a)) e
-    where
-      go : (b i : Bool) → cond b (verdict i) compared.Malformed ≡ compared.Yes → verdictBy b i ≡ allowed
-      go true true q = refl
-      go true false q = let z : _≡_ {A = ℕ} 0 1 = cc in absurd (omega arith)
-      go false i q = let z : _≡_ {A = ℕ} 0 1 = cc in absurd (omega arith)
+  contained e = yes-allowed (wellFormedArea r && wellFormedArea a) (liesInside (areaOf r) (areaOf a)) e
 
   pub not-contained : areaInside r a ≡ compared.No → againstArea r .check a ≡ barred 3
   unfolding areaInside
-  not-contained e = go (wellFormedArea r && wellFormedArea a) (liesInside (areaOf r) (areaOf a)) e
-    where
-      go : (b i : Bool) → cond b (verdict i) compared.Malformed ≡ compared.No → verdictBy b i ≡ barred 3
-      go true true q = let z : _≡_ {A = ℕ} 0 1 = cc in absurd (omega arith)
-      go true false q = refl
-      go false i q = let z : _≡_ {A = ℕ} 0 1 = cc in absurd (omega arith)
+  not-contained e = no-barred (wellFormedArea r && wellFormedArea a) (liesInside (areaOf r) (areaOf a)) e
 
   pub unformed : areaInside r a ≡ compared.Malformed → againstArea r .check a ≡ barred 5
   unfolding areaInside
-  unformed e = go (wellFormedArea r && wellFormedArea a) (liesInside (areaOf r) (areaOf a)) e
-    where
-      go : (b i : Bool) → cond b (verdict i) compared.Malformed ≡ compared.Malformed → verdictBy b i ≡ barred 5
-      go true true q = let z : _≡_ {A = ℕ} 0 1 = cc in absurd (omega arith)
-      go true false q = let z : _≡_ {A = ℕ} 0 1 = cc in absurd (omega arith)
-      go false i q = refl
+  unformed e = malformed-barred (wellFormedArea r && wellFormedArea a) (liesInside (areaOf r) (areaOf a)) e
 
   module _ (ok : againstArea r .check a ≡ allowed) where
     verdicts : ((wellFormedArea r && wellFormedArea a) ≡ true) × (liesInside (areaOf r) (areaOf a) ≡ true)

@@ -56,14 +56,15 @@ fn decode_subspace(
             subspace: reference,
         };
     }
-    if message.len() < 32 {
+    let read = codec::decode_id(message, 0);
+    let answer = read.answer;
+    let Decoded::Consumed(_) = answer else {
         return DecodedSubspace {
-            answer: Decoded::EndOfInput,
+            answer: answer,
             subspace: reference,
         };
-    }
-    let mut id = [0u8; 32];
-    codec::put_bytes(&mut id, &message[..32]);
+    };
+    let id = read.id;
     let subspace = AreaSubspace { any: false, id: id };
     let included = reference.includes_area_subspace(subspace);
     if !included {
@@ -79,7 +80,7 @@ fn decode_subspace(
         };
     }
     DecodedSubspace {
-        answer: Decoded::Consumed(32),
+        answer: answer,
         subspace: subspace,
     }
 }

@@ -2,7 +2,7 @@
 use Prim.Native.Nat.{ℕ, zero, suc, _+_, _<_}
 use mathlib.Core.List.{List, [], _∷_, _++_}
 use native.Mathlib.Omega.{arith}
-use lib.ListN.{take, drop}
+use lib.ListN.{take, drop, replicate}
 use lib.Seq.{getD-drop}
 use Rattle.codec.specs.Answers.{AllBytes}
 
@@ -23,3 +23,8 @@ pub AllBytes·append : (s t : List ℕ) → AllBytes s → AllBytes t → AllByt
 AllBytes·append [] t h k i = k i
 AllBytes·append (x ∷ s) t h k zero = h 0
 AllBytes·append (x ∷ s) t h k (suc i) = AllBytes·append s t (λ j. h (suc j)) k i
+
+pub AllBytes·zeros : (n : ℕ) → AllBytes (replicate n 0)
+AllBytes·zeros zero i = omega arith
+AllBytes·zeros (suc n) zero = omega arith
+AllBytes·zeros (suc n) (suc i) = AllBytes·zeros n i

@@ -8,7 +8,7 @@ use lib.Dec.{leb}
 use borrow.Author.Tests.{le-leb, lt-leb}
 use borrow.Rule.Slice.PartMut.{putMid}
 use native.Mathlib.Numerals.{add-one}
-use lib.ListN.{length, take, drop, getD, set, length-append, length-drop, drop-of-length-le}
+use lib.ListN.{length, take, drop, getD, set, length-append, length-drop, drop-of-length-le, take-append-drop}
 use lib.Seq.{take-all, take-at, take-suc, drop-at, drop-cons, drop-drop, set-at, length-take-le, take-append-add, drop-append-add}
 use mathlib.Core.Logic.{⊎-elim}
 use denote.Enum.Declared as declared
@@ -16,6 +16,7 @@ use types.Run.{OneOf}
 use Rattle.codec.specs.declared.Encoded.{Encoded}
 use Rattle.codec.specs.declared.Encoded.the-variants as encoded
 use Rattle.codec.specs.Answers.{wrote, denied, outcomeOf}
+use Rattle.codec.specs.Bytes.{zeroId}
 use Rattle.codec.specs.Format.{Format, Verdict, allowed, barred, over, outcomeBy, putAnswer, putBuffer, writeAnswer, writeBuffer, lengthAnswer}
 
 -- ---- the exits of a writer, by the tests 5, 3 and 4
@@ -94,6 +95,13 @@ no-length encoded.Outside h = record { why = 3; is = refl }
 no-length encoded.NoRoom h = record { why = 4; is = refl }
 no-length encoded.Malformed h = record { why = 5; is = refl }
 
+-- a length that was written
+pub written-is : (n m : ℕ) → wrote n ≡ wrote m → n ≡ m
+written-is n m e = cc
+
+pub wrote-not-denied : (n k : ℕ) → wrote n ≡ denied k → ⊥
+wrote-not-denied n k e = let z : _≡_ {A = ℕ} 0 1 = cc in omega arith
+
 -- ---- a part that goes to the end, lent and come back as ys
 pub to-end : (n : ℕ) (l : List ℕ) → take (length l - n) (drop n l) ≡ drop n l
 to-end n l = take-all (length l - n) (drop n l) (rw length-drop (omega arith))
@@ -128,6 +136,16 @@ over-turn l a b at h =
 pub over-cons : (l bs : List ℕ) (x : ℕ) → 1 ≤ length l → take 1 (set l 0 x) ++ over bs (drop 1 (set l 0 x)) ≡ over (x ∷ bs) l
 over-cons [] bs x h = absurd (omega arith)
 over-cons (y ∷ l) bs x h = refl
+
+-- a byte alone
+pub over-one : (l : List ℕ) (b : ℕ) → 1 ≤ length l → set l 0 b ≡ over (b ∷ []) l
+over-one l b h = sym (take-append-drop 1 (set l 0 b)) ∙ over-cons l [] b h
+
+-- an id or a digest: its bytes put over zeros
+pub id-put : (s : List ℕ) → 32 ≤ length s → putBuffer allowed (take 32 s) zeroId ≡ take 32 s
+id-put s h =
+    let long : length (take 32 s) ≡ 32 = length-take-le 32 s h in
+    put-over (take 32 s) zeroId (omega (arith, long)) ∙ rw (long, append-nil (take 32 s))
 
 -- a copy of s over the start of d, one element more
 pub copy-next : (d s : List ℕ) (j : ℕ) → j < length d → j < length s → set (take j s ++ drop j d) j (getD s j 0) ≡ take (j + 1) s ++ drop (j + 1) d

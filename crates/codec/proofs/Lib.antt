@@ -1,6 +1,7 @@
 pub mod Answers
 pub mod Bytes
 pub mod Readers
+pub mod ReadsAs
 pub mod Relaxes
 pub mod Bounded
 pub mod Yields

@@ -28,6 +28,10 @@ pub named-inv : {A B : Type 0} (f : A → B) (r : Answer A) (b : B) (n : ℕ) �
 named-inv f (accepted a m) b n e = (a, cc, cc)
 named-inv f (refused k) b n e = let z : _≡_ {A = ℕ} 0 1 = cc in absurd (omega arith)
 
+pub named-refused : {A B : Type 0} (f : A → B) (x : Answer A) (k : ℕ) → named f x ≡ refused k → x ≡ refused k
+named-refused f (accepted a n) k e = let z : _≡_ {A = ℕ} 0 1 = cc in absurd (omega arith)
+named-refused f (refused j) k e = cc
+
 pub passed-inv : {A : Type 0} (x : Bool) (a : A) (m : ℕ) (b : A) (n : ℕ) → passed x (accepted a m) ≡ accepted b n → (x ≡ true) × (a ≡ b) × (m ≡ n)
 passed-inv true a m b n e = (refl, cc, cc)
 passed-inv false a m b n e = let z : _≡_ {A = ℕ} 0 1 = cc in absurd (omega arith)
@@ -65,6 +69,12 @@ oneByte-reads = record { sound = sound; back = oneByte-back }
         rw (q, ← p) (omega arith, (h 0, refl))
 
 -- ---- n bytes
+pub bytes-short : (n : ℕ) (s : List ℕ) → length s < n → someBytes n s ≡ refused 1
+bytes-short n s h = rw (lt-leb n (length s) h)
+
+pub bytes-there : (n : ℕ) (s : List ℕ) → n ≤ length s → someBytes n s ≡ accepted (take n s) n
+bytes-there n s h = rw (le-leb n (length s) h)
+
 pub someBytes-back : (n : ℕ) → ReadsBack (someBytes n) (SomeBytes n)
 someBytes-back n = record {
   complete = λ l e w t.

@@ -7,6 +7,11 @@ use lib.ListN.{length, take}
 use Rattle.codec.specs.Answers.{accepted, refused, AllBytes}
 use Rattle.codec.specs.Reader.{Reader}
 
+-- the bytes e are read back as the value a, whatever follows; cut short anywhere they are 1
+pub record ReadsAs {A : Type 0} (r : Reader A) (a : A) (e : List ℕ) : Type 0 where
+  pub complete : (t : List ℕ) → r (e ++ t) ≡ accepted a (length e)
+  pub cut : (k : ℕ) → k < length e → r (take k e) ≡ refused 1
+
 -- bytes that stand for a value are read back as it, whatever follows; cut short anywhere they are 1. Lenient readers have this law
 pub record ReadsBack {A : Type 0} (r : Reader A) (W : A → List ℕ → Type 0) : Type 0 where
   pub complete : (a : A) (e : List ℕ) → W a e → (t : List ℕ) → r (e ++ t) ≡ accepted a (length e)

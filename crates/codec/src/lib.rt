@@ -1,11 +1,12 @@
 // What all layers share: the answers of readers and writers, whose numbers stand in specs/Answers.antt, and functions on bytes.
 ghost use mathlib.Core.Path.{_≡_};
 ghost use Prim.Native.Nat.{_≤_};
-ghost use lib.ListN.{length};
-ghost use Rattle.codec.specs.Answers.{outcomeOf};
-ghost use Rattle.codec.specs.Bytes.{sameBytes};
+ghost use lib.ListN.{length, drop};
+ghost use Rattle.codec.specs.Answers.{outcomeOf, Gives};
+ghost use Rattle.codec.specs.Bytes.{sameBytes, zeroId};
 ghost use Rattle.codec.specs.Format.{allowed, putAnswer, putBuffer};
 ghost use Rattle.codec.specs.Header.{bit};
+ghost use Rattle.codec.specs.Reader.{someBytes};
 
 // What a reader says of a record: how many bytes it took, or why it gives no value.
 pub enum Decoded {
@@ -21,6 +22,12 @@ pub enum Encoded {
     Outside,
     NoRoom,
     Malformed,
+}
+
+// An id or a digest beside the answer; beside a refusal it is zero.
+pub struct DecodedId {
+    pub answer: Decoded,
+    pub id: [u8; 32],
 }
 
 // A flag as the number in its bit.
@@ -62,4 +69,33 @@ pub fn put_bytes(buffer: &mut [u8], s: &[u8]) -> Encoded
         i += 1;
     }
     Encoded::Length(i)
+}
+
+// How many bytes a message has from a start on.
+fn bytes_from(message: &[u8], start: usize) -> usize
+    ensures { λ r. ⌜ r ≡ length (drop start (now (message .entry))) ⌝ }
+{
+    if message.len() < start {
+        return 0;
+    }
+    message.len() - start
+}
+
+// Reads an id or a digest, 32 bytes as they are.
+pub fn decode_id(message: &[u8], start: usize) -> DecodedId
+    ensures { λ r. ⌜ Gives zeroId (r .answer) (r .id) (someBytes 32 (drop start (now (message .entry)))) ⌝ }
+{
+    let mut id = [0u8; 32];
+    if bytes_from(message, start) < 32 {
+        return DecodedId {
+            answer: Decoded::EndOfInput,
+            id: id,
+        };
+    }
+    let end = start + 32;
+    put_bytes(&mut id, &message[start..end]);
+    DecodedId {
+        answer: Decoded::Consumed(32),
+        id: id,
+    }
 }

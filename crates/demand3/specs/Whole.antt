@@ -14,6 +14,7 @@ use mathlib.Core.List.{List}
 use mathlib.Core.Bool.{true}
 use Prim.Native.Nat.{ℕ}
 use lib.ListN.{drop}
+use Rattle.codec.specs.Bytes.{TypedId}
 use Rattle.codec.specs.Answers.{accepted, AllBytes}
 use Rattle.codec.specs.Demand3.{Demand3}
 use Rattle.path.specs.declared.Path.{Path}
@@ -24,7 +25,7 @@ use Rattle.grouping.specs.Area.{liesInside}
 use Rattle.grouping.specs.Record.{areaOf, wellFormedArea, TypedArea}
 use Rattle.area_area.specs.Records.{againstArea, readAgainstArea}
 use Rattle.entry.specs.declared.Entry.{Entry}
-use Rattle.entry.specs.Entry.{TypedId, liesInsideArea}
+use Rattle.entry.specs.Entry.{liesInsideArea}
 use Rattle.entry.specs.Record.{entryOf, TypedEntry}
 use Rattle.entry_area.specs.Records.{againstNamespaceArea, readAgainstNamespaceArea}
 

@@ -4,9 +4,7 @@ use mathlib.Core.List.{List}
 use mathlib.Core.Bool.{Bool, _&&_}
 use mathlib.Core.Option.{some}
 use Prim.Native.Nat.{ℕ}
-use lib.ListN.{length}
-use Rattle.codec.specs.Answers.{AllBytes}
-use Rattle.codec.specs.Bytes.{sameBytes}
+use Rattle.codec.specs.Bytes.{sameBytes, TypedId}
 use Rattle.compact_u64.specs.Number.{U64}
 use Rattle.path.specs.Limits.{TypedComponents}
 use Rattle.path.specs.Prefix.{isPrefix}
@@ -21,10 +19,7 @@ pub record EntryValue : Type 0 where
   pub size : ℕ
   pub digest : List ℕ
 
--- what the language says of an id or a digest, and of a value
-abbrev pub TypedId : List ℕ → Type 0
-TypedId id = (length id ≡ 32) × AllBytes id
-
+-- what the language says of a value
 pub record TypedEntryValue (v : EntryValue) : Type 0 where
   pub namespace : TypedId (v .namespace)
   pub subspace : TypedId (v .subspace)

@@ -2,6 +2,7 @@
 use mathlib.Core.List.{List}
 use mathlib.Core.Bool.{Bool, cond, _&&_}
 use Prim.Native.Nat.{ℕ}
+use Rattle.codec.specs.Bytes.{TypedId}
 use Rattle.compact_u64.specs.Number.{U64}
 use Rattle.path.specs.declared.Compared.{Compared}
 use Rattle.path.specs.declared.Compared.the-variants as compared
@@ -10,7 +11,7 @@ use Rattle.path.specs.Answers.{verdict}
 use Rattle.grouping.specs.declared.Area.{Area}
 use Rattle.grouping.specs.Record.{areaOf, wellFormedArea}
 use Rattle.entry.specs.declared.Entry.{Entry}
-use Rattle.entry.specs.Entry.{EntryValue, TypedId, liesInsideArea}
+use Rattle.entry.specs.Entry.{EntryValue, liesInsideArea}
 
 -- ---- the values of a record, and the record of values
 abbrev pub entryOf : Entry → EntryValue

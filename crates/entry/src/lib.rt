@@ -1,6 +1,8 @@
 // Entries: docs/FORMAT.md, "Entries". A port of entry.rs, as far as the codecs use it.
 ghost use mathlib.Core.Path.{_≡_};
 ghost use Rattle.entry.specs.Record.{wellFormedEntry, entryInside};
+ghost use Rattle.entry.specs.Answers.{refusal};
+use codec::Decoded;
 use grouping::Area;
 use grouping::AreaSubspace;
 use path::Compared;
@@ -13,6 +15,30 @@ pub struct Entry {
     pub timestamp: u64,
     pub payload_length: u64,
     pub payload_digest: [u8; 32],
+}
+
+// An entry beside the answer; beside a refusal all of it is zero.
+pub struct DecodedEntry {
+    pub answer: Decoded,
+    pub entry: Entry,
+}
+
+// A refusal beside an entry that is all zero.
+pub fn refuse(answer: Decoded) -> DecodedEntry
+    ensures { λ r. ⌜ r ≡ refusal answer ⌝ }
+{
+    let path = Path::new_empty();
+    DecodedEntry {
+        answer: answer,
+        entry: Entry {
+            namespace_id: [0u8; 32],
+            subspace_id: [0u8; 32],
+            path: path,
+            timestamp: 0,
+            payload_length: 0,
+            payload_digest: [0u8; 32],
+        },
+    }
 }
 
 impl Entry {

@@ -1,20 +1,18 @@
 -- What the readers' definitions answer at each exit of the code.
 use mathlib.Core.Path.{_≡_, refl, sym, ap, _∙_}
-use mathlib.Core.List.{List, append-nil}
+use mathlib.Core.List.{List}
 use mathlib.Core.Bool.{Bool, true, false, cond, Bool·beq}
 use mathlib.Core.Option.{none, some}
 use Prim.Native.Nat.{ℕ, suc, _+_, _≤_, _<_}
 use native.Mathlib.Omega.{arith}
 use native.Mathlib.Numerals.{add-one}
-use lib.ListN.{length, take, drop, replicate, getD, length-drop, drop-of-length-le}
-use lib.Seq.{drop-cons, drop-drop, length-take-le}
-use borrow.Author.Tests.{le-leb, lt-leb, eq-eqb, ne-eqb}
+use lib.ListN.{length, drop, getD, length-drop, drop-of-length-le}
+use lib.Seq.{drop-cons, drop-drop}
+use borrow.Author.Tests.{eq-eqb, ne-eqb}
 use Rattle.codec.specs.Answers.{Answer, accepted, refused}
-use Rattle.codec.specs.Format.{allowed, putBuffer}
-use Rattle.codec.specs.Reader.{shift, named, passed, checked, mapped}
-use Rattle.codec.proofs.Bounded.{checked-bounded, mapped-bounded}
-use Rattle.codec.proofs.Lending.{put-over}
-use Rattle.codec.proofs.Readers.{named-inv}
+use Rattle.codec.specs.Reader.{shift, named, passed, someBytes, checked, mapped}
+use Rattle.codec.proofs.Bounded.{someBytes-bounded, checked-bounded, mapped-bounded}
+use Rattle.codec.proofs.Readers.{named-inv, named-refused}
 use Rattle.compact_u64.specs.Number.{readNumber}
 use Rattle.compact_u64.proofs.Number.{number-bounded}
 use Rattle.path.specs.declared.Path.{Path}
@@ -40,12 +38,6 @@ use Rattle.entry_area.specs.Header.{unpackHeader}
 use Rattle.entry_area.specs.Entry.{readId, endFrom, readEnd, readParts, readEntry}
 use Rattle.entry_area.specs.Records.{readAgainstNamespaceArea}
 
--- ---- an id or a digest: its bytes put over zeros
-pub id-put : (s : List ℕ) → 32 ≤ length s → putBuffer allowed (take 32 s) (replicate 32 0) ≡ take 32 s
-id-put s h =
-    let long : length (take 32 s) ≡ 32 = length-take-le 32 s h in
-    put-over (take 32 s) (replicate 32 0) (omega (arith, long)) ∙ rw (long, append-nil (take 32 s))
-
 -- ---- the id
 module _ (r : AreaSubspace) (written : Bool) (s : List ℕ) where
   pub id-fault : Bool·beq (r .any) written ≡ false → readId (subspaceOf r) written s ≡ refused 2
@@ -60,12 +52,8 @@ module _ (r : AreaSubspace) (written : Bool) (s : List ℕ) where
   pub id-kept : r .any ≡ written → written ≡ false → readId (subspaceOf r) written s ≡ accepted (r .id) 0
   id-kept e w = rw (e, w)
 
-  module _ (e : r .any ≡ written) (w : written ≡ true) where
-    pub id-short : length s < 32 → readId (subspaceOf r) written s ≡ refused 1
-    id-short h = rw (e, w, lt-leb 32 (length s) h)
-
-    pub id-read : 32 ≤ length s → readId (subspaceOf r) written s ≡ accepted (take 32 s) 32
-    id-read h = rw (e, w, le-leb 32 (length s) h)
+  pub id-there : r .any ≡ written → written ≡ true → readId (subspaceOf r) written s ≡ someBytes 32 s
+  id-there e w = rw (e, w)
 
 pub same-flags : (a b : Bool) → Bool·beq a b ≡ true → a ≡ b
 same-flags true true e = refl
@@ -77,10 +65,6 @@ same-flags false false e = refl
 against-is : (canonic : Bool) (r : Path) → wellFormed r ≡ true → (t : List ℕ) → readAgainstPath canonic r t ≡ named pathFrom (readAgainst canonic (componentsOf r) t)
 unfolding readAgainstPath
 against-is canonic r w t = rw w
-
-named-refused : {A B : Type 0} (f : A → B) (x : Answer A) (k : ℕ) → named f x ≡ refused k → x ≡ refused k
-named-refused f (accepted a n) k e = let z : _≡_ {A = ℕ} 0 1 = cc in absurd (omega arith)
-named-refused f (refused j) k e = cc
 
 module _ (canonic : Bool) (r : Path) (w : wellFormed r ≡ true) (s : List ℕ) where
   pub path-refused : (k : ℕ) → readAgainstPath canonic r s ≡ refused k → mapped pathFrom (checked (isPrefix (componentsOf r)) (readAgainst canonic (componentsOf r))) s ≡ refused k
@@ -120,13 +104,17 @@ module _ (canonic : Bool) (r : TimeRange) (h : Header) (s : List ℕ) where
       end-inside =
           omega (arith, included-bounded r (h .«time_added») (h .«time_tag») canonic .bound s x a e, number-bounded 2 (h .«length_tag») canonic .bound (drop a s) y b f, length-drop a s)
 
-      pub end-short : length (drop (a + b) s) < 32 → readEnd canonic r h s ≡ refused 1
+      pub end-digest : (k : ℕ) → someBytes 32 (drop (a + b) s) ≡ refused k → readEnd canonic r h s ≡ refused k
       unfolding readEnd
-      end-short l = rw (e, f, drop-drop, lt-leb 32 (length (drop (a + b) s)) l)
+      end-digest k g = rw (e, f, drop-drop, g)
 
-      pub end-read : 32 ≤ length (drop (a + b) s) → readEnd canonic r h s ≡ accepted (endFrom x y (take 32 (drop (a + b) s))) (a + (b + 32))
-      unfolding readEnd
-      end-read l = rw (e, f, drop-drop, le-leb 32 (length (drop (a + b) s)) l)
+      module _ (d : List ℕ) (n : ℕ) (g : someBytes 32 (drop (a + b) s) ≡ accepted d n) where
+        pub end-read : readEnd canonic r h s ≡ accepted (endFrom x y d) (a + (b + n))
+        unfolding readEnd
+        end-read = rw (e, f, drop-drop, g)
+
+        pub digest-inside : a + (b + n) ≤ length s
+        digest-inside = omega (arith, end-inside, someBytes-bounded 32 .bound (drop (a + b) s) d n g, length-drop (a + b) s)
 
 -- ---- what follows the header
 

@@ -8,7 +8,7 @@ use native.Mathlib.Omega.{arith}
 use lib.Dec.{eqb}
 use borrow.Author.Tests.{eqb-true}
 use Rattle.codec.specs.Answers.{refused}
-use Rattle.codec.specs.Bytes.{sameBytes}
+use Rattle.codec.specs.Bytes.{sameBytes, TypedId}
 use Rattle.codec.specs.Header.{readHeader, HeaderAs}
 use Rattle.codec.specs.Reader.{oneByte, checked}
 use Rattle.codec.specs.Reads.{Reads, ReadsBack, Relaxes, Bounded, Tested, Mapped, Joined}
@@ -26,7 +26,7 @@ use Rattle.path_relative.specs.Against.{againstBytes, readAgainst, AgainstAs}
 use Rattle.path_relative.proofs.Against.{against-reads, against-relaxes, against-bounded}
 use Rattle.grouping.specs.Range.{TypedRange, includesTime}
 use Rattle.grouping.specs.Area.{AreaValue, TypedSubspace, includesSubspace}
-use Rattle.entry.specs.Entry.{EntryValue, TypedId, liesInsideArea}
+use Rattle.entry.specs.Entry.{EntryValue, liesInsideArea}
 use Rattle.entry_area.specs.declared.Header.{Header}
 use Rattle.entry_area.specs.Header.{unpackHeader, packHeader, HeaderFits}
 use Rattle.entry_area.specs.Entry.{headerOf, idBytes, endBytes, restBytes, entryBytes, readId, endFrom, valueFrom, readParts, readEntry}

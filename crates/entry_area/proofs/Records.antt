@@ -3,6 +3,7 @@ use mathlib.Core.Path.{_≡_, ap, _∙_}
 use mathlib.Core.List.{List}
 use mathlib.Core.Bool.{Bool, true}
 use Prim.Native.Nat.{ℕ}
+use Rattle.codec.specs.Bytes.{TypedId}
 use Rattle.codec.specs.Format.{Format, verdictBy, Valid, Writes}
 use Rattle.codec.specs.Reads.{ReadsBack}
 use Rattle.codec.specs.Lawful.{Lawful}
@@ -17,7 +18,7 @@ use Rattle.grouping.specs.Area.{AreaValue}
 use Rattle.grouping.specs.Record.{areaOf, wellFormedArea, TypedArea}
 use Rattle.grouping.proofs.Record.{apart-area}
 use Rattle.entry.specs.declared.Entry.{Entry}
-use Rattle.entry.specs.Entry.{EntryValue, TypedId, TypedEntryValue, liesInsideArea}
+use Rattle.entry.specs.Entry.{EntryValue, TypedEntryValue, liesInsideArea}
 use Rattle.entry.specs.Record.{entryOf, entryFrom, wellFormedEntry, TypedEntry}
 use Rattle.entry.proofs.Record.{apart-entry, made-entry}
 use Rattle.entry_area.specs.Entry.{entryBytes, readEntry}

@@ -5,11 +5,10 @@ use mathlib.Core.Bool.{Bool, true, false, cond, _&&_}
 use mathlib.Core.Option.{none, some}
 use Prim.Native.Nat.{ℕ, _+_, _≤_}
 use native.Mathlib.Omega.{arith}
-use lib.ListN.{length, set, length-append, take-append-drop}
-use Rattle.codec.specs.Answers.{wrote, denied}
-use Rattle.codec.specs.Format.{allowed, barred, over, verdictBy}
+use lib.ListN.{length, length-append}
+use Rattle.path.proofs.Verdicts.{yes-allowed, no-barred, malformed-barred}
+use Rattle.codec.specs.Format.{allowed, barred}
 use Rattle.codec.proofs.Tests.{and-left, and-right}
-use Rattle.codec.proofs.Lending.{over-cons}
 use Rattle.codec.proofs.Lawful.{verdict-allowed}
 use Rattle.path.specs.Record.{componentsOf, wellFormed}
 use Rattle.path.specs.declared.Compared.the-variants as compared
@@ -49,45 +48,19 @@ module _ (r : Area) (e : Entry) {b : ℕ} (head : b ≡ packHeader (headerOf (ar
   pub start-one : r .subspace .any ≡ false → startBytes (areaOf r) (entryOf e) ≡ b ∷ []
   start-one f = ap (λ (l : List ℕ). packHeader (headerOf (areaOf r) (entryOf e)) ∷ l) (id-one (r .subspace) (e .«subspace_id») f) ∙ ap (λ (h : ℕ). h ∷ []) (sym head)
 
--- a byte alone
-pub over-one : (l : List ℕ) (b : ℕ) → 1 ≤ length l → set l 0 b ≡ over (b ∷ []) l
-over-one l b h = sym (take-append-drop 1 (set l 0 b)) ∙ over-cons l [] b h
-
--- a length that was written
-pub written-is : (n m : ℕ) → wrote n ≡ wrote m → n ≡ m
-written-is n m e = cc
-
-pub wrote-not-denied : (n k : ℕ) → wrote n ≡ denied k → ⊥
-wrote-not-denied n k e = let z : _≡_ {A = ℕ} 0 1 = cc in omega arith
-
 -- ---- the verdict
 module _ (n : List ℕ) (r : Area) (e : Entry) where
   pub contained : entryInside n r e ≡ compared.Yes → againstNamespaceArea n r .check e ≡ allowed
   unfolding entryInside
-  contained f = go (wellFormedArea r && wellFormedEntry e) (liesInsideArea n (areaOf r) (entryOf e)) f
-    where
-      go : (b i : Bool) → cond b (verdict i) compared.Malformed ≡ compared.Yes → verdictBy b i ≡ allowed
-      go true true q = refl
-      go true false q = let z : _≡_ {A = ℕ} 0 1 = cc in absurd (omega arith)
-      go false i q = let z : _≡_ {A = ℕ} 0 1 = cc in absurd (omega arith)
+  contained f = yes-allowed (wellFormedArea r && wellFormedEntry e) (liesInsideArea n (areaOf r) (entryOf e)) f
 
   pub not-contained : entryInside n r e ≡ compared.No → againstNamespaceArea n r .check e ≡ barred 3
   unfolding entryInside
-  not-contained f = go (wellFormedArea r && wellFormedEntry e) (liesInsideArea n (areaOf r) (entryOf e)) f
-    where
-      go : (b i : Bool) → cond b (verdict i) compared.Malformed ≡ compared.No → verdictBy b i ≡ barred 3
-      go true true q = let z : _≡_ {A = ℕ} 0 1 = cc in absurd (omega arith)
-      go true false q = refl
-      go false i q = let z : _≡_ {A = ℕ} 0 1 = cc in absurd (omega arith)
+  not-contained f = no-barred (wellFormedArea r && wellFormedEntry e) (liesInsideArea n (areaOf r) (entryOf e)) f
 
   pub unformed : entryInside n r e ≡ compared.Malformed → againstNamespaceArea n r .check e ≡ barred 5
   unfolding entryInside
-  unformed f = go (wellFormedArea r && wellFormedEntry e) (liesInsideArea n (areaOf r) (entryOf e)) f
-    where
-      go : (b i : Bool) → cond b (verdict i) compared.Malformed ≡ compared.Malformed → verdictBy b i ≡ barred 5
-      go true true q = let z : _≡_ {A = ℕ} 0 1 = cc in absurd (omega arith)
-      go true false q = let z : _≡_ {A = ℕ} 0 1 = cc in absurd (omega arith)
-      go false i q = refl
+  unformed f = malformed-barred (wellFormedArea r && wellFormedEntry e) (liesInsideArea n (areaOf r) (entryOf e)) f
 
   module _ (ok : againstNamespaceArea n r .check e ≡ allowed) where
     formed : (wellFormedArea r && wellFormedEntry e) ≡ true

@@ -1,5 +1,4 @@
 pub mod Header
 pub mod Entry
 pub mod Records
-pub mod Answers
 pub mod Relations

@@ -4,13 +4,14 @@ use mathlib.Core.List.{List, _++_}
 use mathlib.Core.Bool.{Bool, true}
 use mathlib.Core.Option.{Option, some}
 use Prim.Native.Nat.{ℕ, _≤_}
+use Rattle.codec.specs.Bytes.{TypedId}
 use Rattle.compact_u64.specs.Number.{minTag, numberBytes, U64}
 use Rattle.path.specs.Limits.{PathOk}
 use Rattle.grouping.specs.declared.TimeRange.{TimeRange}
 use Rattle.grouping.specs.Range.{top, includesTime}
 use Rattle.grouping.specs.Area.{AreaValue, includesSubspace}
 use Rattle.time_relative.specs.Difference.{differenceOf}
-use Rattle.entry.specs.Entry.{EntryValue, TypedId, TypedEntryValue, liesInsideArea}
+use Rattle.entry.specs.Entry.{EntryValue, TypedEntryValue, liesInsideArea}
 use Rattle.entry_area.specs.declared.Header.{Header}
 use Rattle.entry_area.specs.declared.End.{End}
 use Rattle.entry_area.specs.Entry.{isAny, idBytes, entryBytes}

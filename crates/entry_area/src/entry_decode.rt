@@ -8,16 +8,16 @@ ghost use Rattle.path.specs.Record.{componentsOf, pathFrom, wellFormed};
 ghost use Rattle.path_relative.specs.Against.{readAgainst};
 ghost use Rattle.grouping.specs.Record.{subspaceOf, areaOf, wellFormedArea};
 ghost use Rattle.entry.specs.Record.{entryFrom};
+ghost use Rattle.entry.specs.Answers.{GivesEntry};
 ghost use Rattle.entry_area.specs.Entry.{readId, readEnd, readParts};
-ghost use Rattle.entry_area.specs.Answers.{GivesEntry, refusal};
 use crate::DecodedEnd;
-use crate::DecodedEntry;
-use crate::DecodedId;
 use crate::End;
 use crate::Header;
 use codec::Decoded;
+use codec::DecodedId;
 use compact_u64::DecodedU64;
 use compact_u64::TagWidth;
+use entry::DecodedEntry;
 use entry::Entry;
 use grouping::Area;
 use grouping::AreaSubspace;
@@ -25,24 +25,6 @@ use grouping::TimeRange;
 use path::Compared;
 use path::Path;
 use path_codec::DecodedPath;
-
-// A refusal beside an entry that is all zero.
-pub(crate) fn refuse(answer: Decoded) -> DecodedEntry
-    ensures { λ r. ⌜ r ≡ refusal answer ⌝ }
-{
-    let path = Path::new_empty();
-    DecodedEntry {
-        answer: answer,
-        entry: Entry {
-            namespace_id: [0u8; 32],
-            subspace_id: [0u8; 32],
-            path: path,
-            timestamp: 0,
-            payload_length: 0,
-            payload_digest: [0u8; 32],
-        },
-    }
-}
 
 fn decode_id(message: &[u8], subspace: AreaSubspace, written: bool) -> DecodedId
     ensures { λ r. ⌜ answerOf (r .answer) (r .id) ≡ readId (subspaceOf subspace) written (now (message .entry)) ⌝ }
@@ -60,18 +42,7 @@ fn decode_id(message: &[u8], subspace: AreaSubspace, written: bool) -> DecodedId
             id: id,
         };
     }
-    if message.len() < 32 {
-        return DecodedId {
-            answer: Decoded::EndOfInput,
-            id: id,
-        };
-    }
-    let mut read = [0u8; 32];
-    codec::put_bytes(&mut read, &message[..32]);
-    DecodedId {
-        answer: Decoded::Consumed(32),
-        id: read,
-    }
+    codec::decode_id(message, 0)
 }
 
 // Reads a path that the reference is a prefix of.
@@ -129,14 +100,14 @@ fn decode_end(message: &[u8], canonic: bool, times: TimeRange, header: Header) -
         return no_end(compact_u64::refusal(second));
     };
     let at = a + b;
-    if message.len() - at < 32 {
-        return no_end(Decoded::EndOfInput);
-    }
-    let mut digest = [0u8; 32];
-    let to = at + 32;
-    codec::put_bytes(&mut digest, &message[at..to]);
+    let third = codec::decode_id(message, at);
+    let answer = third.answer;
+    let Decoded::Consumed(n) = answer else {
+        return no_end(answer);
+    };
+    let digest = third.id;
     DecodedEnd {
-        answer: Decoded::Consumed(a + (b + 32)),
+        answer: Decoded::Consumed(a + (b + n)),
         end: End {
             timestamp: time,
             payload_length: size,
@@ -158,18 +129,18 @@ pub(crate) fn decode_parts(
     let first = decode_id(message, area.subspace, header.id_written);
     let first_answer = first.answer;
     let Decoded::Consumed(a) = first_answer else {
-        return refuse(first_answer);
+        return entry::refuse(first_answer);
     };
     let second = decode_path(&message[a..], canonic, area.path);
     let second_answer = second.answer;
     let Decoded::Consumed(b) = second_answer else {
-        return refuse(second_answer);
+        return entry::refuse(second_answer);
     };
     let at = a + b;
     let third = decode_end(&message[at..], canonic, area.times, header);
     let third_answer = third.answer;
     let Decoded::Consumed(c) = third_answer else {
-        return refuse(third_answer);
+        return entry::refuse(third_answer);
     };
     let id = first.id;
     let path = second.path;

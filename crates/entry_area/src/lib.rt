@@ -3,10 +3,11 @@ ghost use mathlib.Core.Path.{_≡_};
 ghost use lib.ListN.{length, drop};
 ghost use Rattle.codec.specs.Answers.{outcomeOf};
 ghost use Rattle.codec.specs.Format.{allowed, writeAnswer, writeBuffer, lengthAnswer};
-ghost use Rattle.entry_area.specs.Answers.{GivesEntry};
+ghost use Rattle.entry.specs.Answers.{GivesEntry};
 ghost use Rattle.entry_area.specs.Records.{againstNamespaceArea, readAgainstNamespaceArea};
 use codec::Decoded;
 use codec::Encoded;
+use entry::DecodedEntry;
 use entry::Entry;
 use grouping::Area;
 use path::Compared;
@@ -22,17 +23,6 @@ pub struct Header {
     pub time_tag: u8,
     pub length_tag: u8,
     pub spare: u8,
-}
-
-// An entry beside the answer; beside a refusal all of it is zero.
-pub struct DecodedEntry {
-    pub answer: Decoded,
-    pub entry: Entry,
-}
-
-pub struct DecodedId {
-    pub answer: Decoded,
-    pub id: [u8; 32],
 }
 
 // The fields after the path.
@@ -59,14 +49,14 @@ pub fn relative_decode(
 {
     let well = area.well_formed();
     if !well {
-        return entry_decode::refuse(Decoded::Malformed);
+        return entry::refuse(Decoded::Malformed);
     }
     if message.len() <= start {
-        return entry_decode::refuse(Decoded::EndOfInput);
+        return entry::refuse(Decoded::EndOfInput);
     }
     let header = entry_header::unpack(message[start]);
     if header.spare != 0 {
-        return entry_decode::refuse(Decoded::TheirFault);
+        return entry::refuse(Decoded::TheirFault);
     }
     let at = start + 1;
     let read = entry_decode::decode_parts(&message[at..], canonic, namespace, area, header);

@@ -3,9 +3,9 @@ use mathlib.Core.Path.{_≡_, refl}
 use mathlib.Core.List.{List}
 use mathlib.Core.Bool.{Bool, true, false, cond}
 use mathlib.Core.Option.{Option, none, some}
-use Prim.Native.Nat.{ℕ, zero, suc}
-use native.Mathlib.Omega.{arith}
+use Prim.Native.Nat.{ℕ}
 use lib.ListN.{length, replicate}
+use Rattle.codec.proofs.Bytes.{AllBytes·zeros}
 use Rattle.codec.specs.Answers.{AllBytes}
 use Rattle.codec.specs.Bytes.{sameBytes}
 use Rattle.codec.proofs.SameBytes.{same-eq, same-refl}
@@ -34,11 +34,6 @@ subspace-typed s l h = go (s .any)
     go : (b : Bool) → TypedSubspace (cond b none (some (s .id)))
     go true = tt
     go false = (l, h)
-
-AllBytes·zeros : (n : ℕ) → AllBytes (replicate n 0)
-AllBytes·zeros zero i = omega arith
-AllBytes·zeros (suc n) zero = omega arith
-AllBytes·zeros (suc n) (suc i) = AllBytes·zeros n i
 
 record MadeSubspace (o : Option (List ℕ)) : Type 0 where
   long : length (subspaceFrom o .id) ≡ 32

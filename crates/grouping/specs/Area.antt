@@ -4,9 +4,7 @@ use mathlib.Core.List.{List}
 use mathlib.Core.Bool.{Bool, true, false, _&&_}
 use mathlib.Core.Option.{Option, none, some}
 use Prim.Native.Nat.{ℕ}
-use lib.ListN.{length}
-use Rattle.codec.specs.Answers.{AllBytes}
-use Rattle.codec.specs.Bytes.{sameBytes}
+use Rattle.codec.specs.Bytes.{sameBytes, TypedId}
 use Rattle.path.specs.Limits.{TypedComponents}
 use Rattle.path.specs.Prefix.{isPrefix}
 use Rattle.grouping.specs.declared.TimeRange.{TimeRange}
@@ -20,7 +18,7 @@ pub record AreaValue : Type 0 where
 -- what the language says of a value
 abbrev pub TypedSubspace : Option (List ℕ) → Type 0
 TypedSubspace none = Unit {0}
-TypedSubspace (some id) = (length id ≡ 32) × AllBytes id
+TypedSubspace (some id) = TypedId id
 
 pub record TypedValue (v : AreaValue) : Type 0 where
   pub subspace : TypedSubspace (v .subspace)

@@ -6,3 +6,4 @@ pub mod Components
 pub mod Prefix
 pub mod Compare
 pub mod Builder
+pub mod Verdicts

@@ -2,7 +2,7 @@
 use mathlib.Core.Path.{_≡_, refl, ap, _∙_}
 use mathlib.Core.List.{List, [], _∷_, _++_, map}
 use mathlib.Core.Bool.{true}
-use Prim.Native.Nat.{ℕ, zero, suc, _-_, _≤_}
+use Prim.Native.Nat.{ℕ, _-_, _≤_}
 use native.Mathlib.Omega.{arith}
 use lib.Dec.{leb}
 use borrow.Author.Tests.{leb-true, le-leb}
@@ -10,7 +10,7 @@ use lib.ListN.{length, take, drop, replicate, length-append, length-drop, length
 use lib.Seq.{take-at, drop-at, length-take-le}
 use Rattle.codec.specs.Answers.{AllBytes}
 use Rattle.codec.specs.Writings.{All}
-use Rattle.codec.proofs.Bytes.{AllBytes·drop, AllBytes·take, AllBytes·append}
+use Rattle.codec.proofs.Bytes.{AllBytes·drop, AllBytes·take, AllBytes·append, AllBytes·zeros}
 use Rattle.path.specs.declared.Path.{Path}
 use Rattle.path.specs.Limits.{totalOf, Component, PathOk}
 use Rattle.path.specs.Record.{sumOf, joined, cutUp, used, componentsOf, pathFrom, allAtMost, wellFormed, TypedPath}
@@ -86,11 +86,6 @@ apart p t w =
 short-most : (cs : List (List ℕ)) → All Component cs → allAtMost 300 (map length cs) ≡ true
 short-most [] h = refl
 short-most (c ∷ cs) h = rw (le-leb (length c) 300 (h .0 .short)) (short-most cs (h .1))
-
-AllBytes·zeros : (n : ℕ) → AllBytes (replicate n 0)
-AllBytes·zeros zero i = omega arith
-AllBytes·zeros (suc n) zero = omega arith
-AllBytes·zeros (suc n) (suc i) = AllBytes·zeros n i
 
 AllBytes·joined : (cs : List (List ℕ)) → All Component cs → AllBytes (joined cs)
 AllBytes·joined [] h i = omega arith

@@ -13,8 +13,8 @@ use Rattle.path.specs.Prefix.{isPrefix}
 use Rattle.path.specs.Record.{componentsOf, pathFrom, wellFormed}
 use Rattle.path_relative.specs.Against.{readAgainst}
 use Rattle.grouping.specs.Record.{subspaceOf, wellFormedSubspace, wellFormedArea}
+use Rattle.entry.specs.Answers.{refusal}
 use Rattle.entry_area.specs.Entry.{readId, readEnd}
-use Rattle.entry_area.specs.Answers.{refusal}
 use Rattle.entry_area.proofs.DecodeExits.{parts-id, id-inside, parts-path, path-inside, parts-end, parts-read, parts-inside}
 use borrow.Author.Needs.{needs}
 use Rattle.entry_area.proofs.entry_decode.decode_parts.Statement.{statement}

@@ -5,11 +5,10 @@ use denote.Ref.{now}
 use lib.ListN.{length, length-append, length-drop}
 use Rattle.codec.specs.Format.{over, writeAnswer, writeBuffer}
 use Rattle.codec.specs.Answers.{outcomeOf, wrote}
-use Rattle.codec.proofs.Lending.{put-fits, over-then, to-end, put-end, no-length}
+use Rattle.codec.proofs.Lending.{put-fits, over-then, to-end, put-end, no-length, written-is, wrote-not-denied}
 use Rattle.path_relative.specs.Records.{againstPath}
 use Rattle.entry.specs.Record.{entryOf}
 use Rattle.entry_area.specs.Entry.{endBytes}
-use Rattle.entry_area.proofs.Writing.{written-is, wrote-not-denied}
 use borrow.Author.Needs.{needs}
 use Rattle.entry_area.proofs.entry_encode.put_rest.Statement.{statement}
 use Rattle.entry_area.proofs.entry_encode.put_rest.Tie as tie

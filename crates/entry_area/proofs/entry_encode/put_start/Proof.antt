@@ -6,13 +6,13 @@ use denote.Ref.{now}
 use lib.ListN.{length, drop, set, length-set, length-drop}
 use Rattle.codec.specs.Format.{over}
 use borrow.Author.Tests.{not-true, not-false}
-use Rattle.codec.proofs.Lending.{over-cons, put-over, to-end, put-end, put-end-long}
+use Rattle.codec.proofs.Lending.{over-cons, over-one, put-over, to-end, put-end, put-end-long}
 use Rattle.grouping.specs.Record.{areaOf}
 use Rattle.entry.specs.Record.{entryOf}
 use Rattle.entry.proofs.Typed.{typed-entry}
 use Rattle.entry_area.specs.Header.{packHeader}
 use Rattle.entry_area.proofs.Entry.{header-fits}
-use Rattle.entry_area.proofs.Writing.{over-one, start-any, start-one}
+use Rattle.entry_area.proofs.Writing.{start-any, start-one}
 use borrow.Author.Needs.{needs}
 use Rattle.entry_area.proofs.entry_encode.put_start.Statement.{statement}
 use Rattle.entry_area.proofs.entry_encode.put_start.Tie as tie

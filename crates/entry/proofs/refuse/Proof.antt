@@ -1,8 +1,8 @@
 use Rattle.entry.specs.Record.{entryFrom}
-use Rattle.entry_area.specs.Answers.{refusal}
+use Rattle.entry.specs.Answers.{refusal}
 use borrow.Author.Needs.{needs}
-use Rattle.entry_area.proofs.entry_decode.refuse.Statement.{statement}
-use Rattle.entry_area.proofs.entry_decode.refuse.Tie as tie
+use Rattle.entry.proofs.refuse.Statement.{statement}
+use Rattle.entry.proofs.refuse.Tie as tie
 
 new-empty-requires : tie.Need-new-empty-requires
 new-empty-requires c κs = search needs

@@ -1,0 +1,21 @@
+use mathlib.Core.Path.{sym}
+use native.Mathlib.Omega.{arith}
+use denote.Ref.{now}
+use lib.ListN.{length-drop}
+use borrow.Author.Needs.{needs}
+use Rattle.codec.proofs.bytes_from.Statement.{statement}
+use Rattle.codec.proofs.bytes_from.Tie as tie
+use Rattle.codec.proofs.bytes_from.Reads as reads
+use Rattle.codec.proofs.bytes_from.Lts as lts
+
+returns : tie.Need-returns
+returns c = rw length-drop (omega (arith, c .if1 .taken))
+
+sub-result : tie.Need-sub-result
+sub-result c = search needs
+
+returns-2 : tie.Need-returns-2
+returns-2 c = sym (length-drop (c .before .args .start) (now (c .before .args .message)))
+
+pub bytes-from-spec : {M : Type 1} → statement M
+bytes-from-spec = tie.close (tie.spec returns sub-result returns-2)

@@ -1,0 +1,72 @@
+use mathlib.Core.Path.{_≡_, refl, _∙_}
+use Prim.Native.Nat.{_+_, _-_, _≤_}
+use native.Mathlib.Omega.{arith}
+use denote.Ref.{now}
+use lib.ListN.{length, take, drop, length-drop}
+use Rattle.codec.proofs.Answers.{gives-refused, gives-accepted}
+use Rattle.codec.proofs.Lending.{id-put}
+use Rattle.codec.proofs.Readers.{bytes-short, bytes-there}
+use borrow.Author.Needs.{needs}
+use Rattle.codec.proofs.decode_id.Statement.{statement}
+use Rattle.codec.proofs.decode_id.Tie as tie
+use Rattle.codec.proofs.decode_id.Reads as reads
+use Rattle.codec.proofs.decode_id.Lts as lts
+use Rattle.codec.proofs.bytes_from.Reads as bytes-from-reads
+use Rattle.codec.proofs.put_bytes.Reads as put-bytes-reads
+
+enough : (c : tie.Else1) → 32 ≤ length (drop (c .before .before .before .args .start) (now (c .before .before .before .args .message)))
+enough c = omega (arith, c .if1 .left, c .before .bytes-from .ensures)
+
+inside : (c : tie.Else1) → c .before .before .before .args .start + 32 ≤ length (now (c .before .before .before .args .message))
+inside c = omega (arith, enough c, length-drop (c .before .before .before .args .start) (now (c .before .before .before .args .message)))
+
+id-is : (c : tie.After-put-bytes) → c .put-bytes .last .0 ≡ take 32 (drop (c .before .before .before .before .before .before .args .start) (now (c .before .before .before .before .before .before .args .message)))
+id-is c =
+    let a = c .before .before .before .before .before .before .args in
+    let m : (a .start + 32) - a .start ≡ 32 = omega arith in
+    rw m at (c .put-bytes .ensures .1) ∙ id-put (drop (a .start) (now (a .message))) (enough (c .before .before .before))
+
+bytes-from-requires : tie.Need-bytes-from-requires
+bytes-from-requires c κs = search needs
+
+returns : tie.Need-returns
+returns c =
+    let a = c .before .before .before .args in
+    gives-refused 1 refl (bytes-short 32 (drop (a .start) (now (a .message))) (omega (arith, c .before .bytes-from .ensures, c .if1 .taken)))
+
+add-end : tie.Need-add-end
+add-end c = omega (arith, inside c)
+
+slice-aggregate-put-bytes : tie.Need-slice-aggregate-put-bytes
+slice-aggregate-put-bytes c = search needs
+
+sub-put-bytes : tie.Need-sub-put-bytes
+sub-put-bytes c = search needs
+
+part-put-bytes-start : tie.Need-part-put-bytes-start
+part-put-bytes-start c = search needs
+
+part-put-bytes-end : tie.Need-part-put-bytes-end
+part-put-bytes-end c = omega (arith, inside (c .before))
+
+put-bytes-requires : tie.Need-put-bytes-requires
+put-bytes-requires c κs = search needs
+
+returns-2 : tie.Need-returns-2
+returns-2 c =
+    let a = c .before .before .before .before .before .before .before .args in
+    rw (id-is (c .before)) (gives-accepted (bytes-there 32 (drop (a .start) (now (a .message))) (enough (c .before .before .before .before))))
+
+pub decode-id-spec : {M : Type 1} → statement M
+decode-id-spec =
+    tie.close
+    (tie.spec
+    bytes-from-requires
+    returns
+    add-end
+    slice-aggregate-put-bytes
+    sub-put-bytes
+    part-put-bytes-start
+    part-put-bytes-end
+    put-bytes-requires
+    returns-2)
