@@ -34,16 +34,16 @@ use Rattle.path.specs.Builder.{builderFrom, isBuilder, growth, pushComponent}
 use Rattle.path.proofs.Limits.{limits-of}
 use Rattle.path.proofs.Record.{count-of}
 use Rattle.path.proofs.Builder.{Fitting, pushed, built-count, built-total, builder-is, rebuilt}
+use Rattle.path_suffix.specs.Header.{unpackTags}
+use Rattle.path_suffix.specs.Suffix.{Sizes, sizesFrom, readSizes, readSized, readLast, readComponents, readSuffix}
+use Rattle.path_suffix.proofs.Header.{sizes-bounded}
+use Rattle.path_suffix.proofs.Components.{components-bounded}
 use Rattle.path_codec.specs.declared.DecodedSizes.{DecodedSizes}
 use Rattle.path_codec.specs.declared.DecodedSizes.the-variants as sizes
 use Rattle.path_codec.specs.declared.DecodedComponent.{DecodedComponent}
 use Rattle.path_codec.specs.declared.DecodedComponent.the-variants as component
-use Rattle.path_codec.specs.Header.{unpackTags}
-use Rattle.path_codec.specs.Suffix.{Sizes, sizesFrom, readSizes, readSized, readLast, readComponents, readSuffix}
 use Rattle.path_codec.specs.Plain.{readPath, readOnto}
 use Rattle.path_codec.specs.Answers.{GivesPath, sizesAnswer, sizedAnswer, ReadsSized, numberRefusal, lengthRefusal, sizesRefusal, componentRefusal, Room, ahead, lastAhead}
-use Rattle.path_codec.proofs.Header.{sizes-bounded}
-use Rattle.path_codec.proofs.Components.{components-bounded}
 
 -- ---- refusals handed on: the same number before and after
 pub record NoNumber (x : DecodedU64) : Type 0 where

@@ -16,8 +16,8 @@ use Rattle.path.specs.Record.{componentsOf}
 use Rattle.path.specs.Builder.{builderFrom, growth, pushComponent}
 use Rattle.path.proofs.Limits.{total-snoc}
 use Rattle.path.proofs.Builder.{Fitting, pushed, built-total, built-components}
+use Rattle.path_suffix.specs.Suffix.{readSized}
 use Rattle.path_codec.specs.declared.DecodedComponent.the-variants as component
-use Rattle.path_codec.specs.Suffix.{readSized}
 use Rattle.path_codec.specs.Answers.{ReadsSized, Room, ahead, lastAhead}
 use Rattle.path_codec.proofs.Exits.{ahead-refused, ahead-turn, ahead-last, last-over}
 

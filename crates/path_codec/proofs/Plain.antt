@@ -4,8 +4,9 @@ use mathlib.Core.List.{List}
 use mathlib.Core.Bool.{Bool, true, false}
 use Prim.Native.Nat.{ℕ}
 use native.Mathlib.Omega.{arith}
+use borrow.Author.Tests.{le-leb}
 use lib.ListN.{length}
-use Rattle.codec.specs.Format.{Valid, Writes}
+use Rattle.codec.specs.Format.{Valid, Writes, verdictBy}
 use Rattle.codec.specs.Reader.{Reader, mapped}
 use Rattle.codec.specs.Reads.{ReadsBack, Relaxes, Bounded}
 use Rattle.codec.specs.Lawful.{Lawful}
@@ -20,10 +21,10 @@ use Rattle.path.specs.Limits.{totalOf, limits, pathOk, PathOk, TypedComponents}
 use Rattle.path.specs.Record.{componentsOf, pathFrom, wellFormed, TypedPath}
 use Rattle.path.proofs.Limits.{limits-total, limits-count, limits-of, path-ok, ok-path, typed-of}
 use Rattle.path.proofs.Record.{well-formed, formed-well, apart, made, components-of}
-use Rattle.path_codec.specs.Suffix.{suffixBytes, readSuffix}
+use Rattle.path_suffix.specs.Suffix.{suffixBytes, readSuffix, suffixFrom}
+use Rattle.path_suffix.specs.Relations.{SuffixAs}
+use Rattle.path_suffix.proofs.Suffix.{suffix-reads, suffix-back, suffix-relaxes, suffix-bounded, suffix-empty}
 use Rattle.path_codec.specs.Plain.{onComponents, onRecords, plainPath, readPath}
-use Rattle.path_codec.specs.Relations.{SuffixAs}
-use Rattle.path_codec.proofs.Suffix.{suffix-reads, suffix-back, suffix-relaxes, suffix-bounded, suffix-empty}
 
 -- ---- a lawful format on components is one on records
 module _ (inside : List (List ℕ) → Bool) (encode : List (List ℕ) → List ℕ) where
@@ -47,6 +48,11 @@ module _ (inside : List (List ℕ) → Bool) (encode : List (List ℕ) → List 
   back-on-records r R = back-as _ _ _ (mapped-back pathFrom r _ R) (reshaped-back TypedComponents (onComponents inside encode) TypedPath componentsOf pathFrom (onRecords inside encode .check) record-out record-in)
 
 -- ---- the plain path
+
+-- it is the suffix from the first component on
+pub plain-suffix : suffixFrom 0 ≡ plainPath
+plain-suffix = λ i. record { check = λ p. verdictBy (wellFormed p) (le-leb 0 (p .count) (omega arith) i); encode = λ p. suffixBytes (componentsOf p) }
+
 plain-there : (cs : List (List ℕ)) (e : List ℕ) → SuffixAs limits cs e → Writes TypedComponents (onComponents (λ cs. true) suffixBytes) cs e
 plain-there cs e s =
     let p : PathOk cs = record { total = limits-total (totalOf cs) (length cs) (s .limited); count = limits-count (totalOf cs) (length cs) (s .limited); all = s .all } in

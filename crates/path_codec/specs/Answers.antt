@@ -15,12 +15,12 @@ use Rattle.path.specs.declared.PathBuilder.{PathBuilder}
 use Rattle.path.specs.Limits.{maxComponentLength, maxComponentCount, maxPathLength}
 use Rattle.path.specs.Record.{componentsOf, pathFrom}
 use Rattle.path.specs.Builder.{builderFrom}
+use Rattle.path_suffix.specs.Suffix.{Sizes, sizesFrom, readSized, readLast, readComponents}
 use Rattle.path_codec.specs.declared.DecodedPath.{DecodedPath}
 use Rattle.path_codec.specs.declared.DecodedSizes.{DecodedSizes}
 use Rattle.path_codec.specs.declared.DecodedSizes.the-variants as sizes
 use Rattle.path_codec.specs.declared.DecodedComponent.{DecodedComponent}
 use Rattle.path_codec.specs.declared.DecodedComponent.the-variants as component
-use Rattle.path_codec.specs.Suffix.{Sizes, sizesFrom, readSized, readLast, readComponents}
 
 -- a path beside an answer; the empty one beside a refusal
 abbrev pub GivesPath : DecodedPath → Answer Path → Type 0

@@ -2,8 +2,6 @@
 use mathlib.Core.List.{List, _++_}
 use mathlib.Core.Bool.{Bool, true}
 use Prim.Native.Nat.{ℕ, _+_}
-use lib.Dec.{leb}
-use lib.ListN.{drop}
 use Rattle.codec.specs.Format.{Format, verdictBy}
 use Rattle.codec.specs.Reader.{Reader, mapped, guard, onFormed}
 use Rattle.path.specs.declared.Path.{Path}
@@ -11,7 +9,7 @@ use Rattle.path.specs.declared.PathBuilder.{PathBuilder}
 use Rattle.path.specs.Limits.{limits, pathOk}
 use Rattle.path.specs.Record.{componentsOf, pathFrom, wellFormed}
 use Rattle.path.specs.Builder.{isBuilder}
-use Rattle.path_codec.specs.Suffix.{suffixBytes, readComponents, readSuffix}
+use Rattle.path_suffix.specs.Suffix.{suffixBytes, readComponents, readSuffix}
 
 -- a format of paths as lists of components, and the same on records: 5 unless well formed, then 3 unless inside
 abbrev pub onComponents : (List (List ℕ) → Bool) → (List (List ℕ) → List ℕ) → Format (List (List ℕ))
@@ -28,10 +26,6 @@ unfoldable pub readPath : Bool → Reader Path
 readPath canonic = mapped pathFrom (readSuffix canonic limits)
 
 -- ---- what the layers above share
-
--- the suffix of a path from its k-th component on: 3 where the path has fewer components
-abbrev pub suffixFrom : ℕ → Format Path
-suffixFrom k = record { check = λ p. verdictBy (wellFormed p) (leb k (p .count)); encode = λ p. suffixBytes (drop k (componentsOf p)) }
 
 -- components onto those of a builder: 5 unless appends make it, then 2 unless all together are within the limits
 unfoldable pub readOnto : Bool → PathBuilder → ℕ → ℕ → Reader Path

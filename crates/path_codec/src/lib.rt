@@ -3,7 +3,6 @@ ghost use mathlib.Core.Path.{_≡_};
 ghost use lib.ListN.{length, drop};
 ghost use Rattle.codec.specs.Answers.{outcomeOf};
 ghost use Rattle.codec.specs.Format.{writeAnswer, writeBuffer, lengthAnswer};
-ghost use Rattle.path_codec.specs.Header.{unpackTags, packTags, TagsFit};
 ghost use Rattle.path_codec.specs.Plain.{plainPath, readPath};
 ghost use Rattle.path_codec.specs.Answers.{GivesPath, refusal};
 use codec::Decoded;
@@ -12,7 +11,6 @@ use path::Path;
 use path::PathBuilder;
 
 pub mod suffix_decode;
-pub mod suffix_encode;
 
 // A path beside the answer; beside a refusal it is the empty one.
 pub struct DecodedPath {
@@ -32,33 +30,6 @@ pub enum DecodedComponent {
     Bytes(usize, usize),
     EndOfInput,
     TheirFault,
-}
-
-// The tags in a suffix's header byte.
-pub struct Tags {
-    pub total: u8,
-    pub count: u8,
-}
-
-// What one of each tag adds to the header byte.
-const TOTAL: u8 = 16;
-
-const COUNT: u8 = 1;
-
-fn unpack_tags(b: u8) -> Tags
-    ensures { λ r. ⌜ r ≡ unpackTags b ⌝ }
-{
-    Tags {
-        total: b / TOTAL % 16,
-        count: b / COUNT % 16,
-    }
-}
-
-fn pack_tags(tags: Tags) -> u8
-    requires { ⌜ TagsFit tags ⌝ }
-    ensures { λ r. ⌜ r ≡ packTags tags ⌝ }
-{
-    tags.total * TOTAL + tags.count * COUNT
 }
 
 // A refusal beside the empty path.
@@ -98,12 +69,12 @@ pub fn decode(message: &[u8], start: usize, canonic: bool) -> DecodedPath
 pub fn len_of_encoding(path: Path) -> Encoded
     ensures { λ r. ⌜ outcomeOf r ≡ lengthAnswer plainPath path ⌝ }
 {
-    suffix_encode::suffix_len(path, 0)
+    path_suffix::suffix_len(path, 0)
 }
 
 // Writes a plain path.
 pub fn encode(buffer: &mut [u8], path: Path) -> Encoded
     ensures { λ r. ⌜ (outcomeOf r ≡ writeAnswer plainPath path (length (now (buffer .entry)))) × (now (buffer .exit) ≡ writeBuffer plainPath path (now (buffer .entry))) ⌝ }
 {
-    suffix_encode::encode_suffix(buffer, path, 0)
+    path_suffix::encode_suffix(buffer, path, 0)
 }

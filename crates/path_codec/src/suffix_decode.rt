@@ -3,7 +3,7 @@ ghost use mathlib.Core.Path.{_≡_};
 ghost use Prim.Native.Nat.{_-_, _≤_};
 ghost use lib.ListN.{length, drop};
 ghost use Rattle.path.specs.Record.{componentsOf};
-ghost use Rattle.path_codec.specs.Suffix.{readSizes};
+ghost use Rattle.path_suffix.specs.Suffix.{readSizes};
 ghost use Rattle.path_codec.specs.Plain.{readOnto};
 ghost use Rattle.path_codec.specs.Answers.{GivesPath, sizesAnswer, ReadsSized, numberRefusal, lengthRefusal, sizesRefusal, componentRefusal, Room, ahead, lastAhead};
 use crate::DecodedComponent;
@@ -62,7 +62,7 @@ pub fn decode_sizes(message: &[u8], start: usize, canonic: bool) -> DecodedSizes
     if message.len() <= start {
         return DecodedSizes::EndOfInput;
     }
-    let tags = crate::unpack_tags(message[start]);
+    let tags = path_suffix::suffix_header::unpack_tags(message[start]);
     let first = start + 1;
     let number = compact_u64::relative_decode(message, first, TagWidth::Four, tags.total, canonic);
     let DecodedU64::Value(total, a) = number else {

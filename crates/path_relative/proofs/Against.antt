@@ -21,9 +21,9 @@ use Rattle.path.specs.Prefix.{shared}
 use Rattle.codec.proofs.Tests.{and-left, and-right}
 use Rattle.path.proofs.Limits.{total-append, total-split, all-append, all-take, all-drop, limits-total, limits-count, limits-of}
 use Rattle.path.proofs.Prefix.{Shares, shares}
-use Rattle.path_codec.specs.Suffix.{suffixBytes}
-use Rattle.path_codec.specs.Relations.{SuffixAs}
-use Rattle.path_codec.proofs.Suffix.{suffix-reads, suffix-relaxes, suffix-bounded, suffix-short}
+use Rattle.path_suffix.specs.Suffix.{suffixBytes}
+use Rattle.path_suffix.specs.Relations.{SuffixAs}
+use Rattle.path_suffix.proofs.Suffix.{suffix-reads, suffix-relaxes, suffix-bounded, suffix-short}
 use Rattle.path_relative.specs.Against.{againstBytes, joinOk, readAgainst, AgainstAs}
 
 -- ---- the limits of the whole path, as a test and as facts

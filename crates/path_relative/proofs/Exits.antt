@@ -28,9 +28,9 @@ use Rattle.path.proofs.Record.{components-of, count-of}
 use Rattle.path.proofs.Limits.{ok-take, total-append}
 use Rattle.path.proofs.Components.{formed, count-is}
 use Rattle.path.proofs.Builder.{builder-is}
-use Rattle.path_codec.specs.Suffix.{sizesFrom, readSizes, readComponents, readSuffix}
+use Rattle.path_suffix.specs.Suffix.{sizesFrom, readSizes, readComponents, readSuffix}
+use Rattle.path_suffix.proofs.Components.{components-bounded}
 use Rattle.path_codec.specs.Plain.{readPath, readOnto}
-use Rattle.path_codec.proofs.Components.{components-bounded}
 use Rattle.path_relative.specs.Against.{joinOk, readAgainst}
 use Rattle.path_relative.specs.Extension.{readExtension}
 use Rattle.path_relative.specs.Records.{readAgainstPath, readExtendsPath, readJoined}

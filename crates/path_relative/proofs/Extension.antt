@@ -13,8 +13,8 @@ use Rattle.codec.proofs.Relaxes.{relaxes-back, checked-relaxes, mapped-relaxes}
 use Rattle.codec.proofs.Bounded.{checked-bounded, mapped-bounded}
 use Rattle.path.specs.Limits.{totalOf, limits, Component, PathOk}
 use Rattle.path.proofs.Limits.{total-append, total-split, all-append, all-drop, limits-total, limits-count, limits-of}
-use Rattle.path_codec.specs.Relations.{SuffixAs}
-use Rattle.path_codec.proofs.Suffix.{suffix-reads, suffix-relaxes, suffix-bounded, suffix-empty, suffix-nonempty, suffix-short}
+use Rattle.path_suffix.specs.Relations.{SuffixAs}
+use Rattle.path_suffix.proofs.Suffix.{suffix-reads, suffix-relaxes, suffix-bounded, suffix-empty, suffix-nonempty, suffix-short}
 use Rattle.path_relative.specs.Extension.{extensionBytes, readExtension, ExtensionAs}
 
 pub extension-relaxes : (r : List (List ℕ)) → Relaxes (readExtension true r) (readExtension false r)

@@ -6,8 +6,8 @@ use Prim.Native.Nat.{ℕ}
 use lib.ListN.{replicate}
 use Rattle.codec.specs.Answers.{refused}
 use Rattle.compact_u64.specs.Number.{minTag, encodingWidth, numberSaid, readNumber}
-use Rattle.path_codec.specs.Header.{packTags}
-use Rattle.path_codec.specs.Suffix.{readSizes, readSized, readLast, readComponents, readSuffix}
+use Rattle.path_suffix.specs.Header.{packTags}
+use Rattle.path_suffix.specs.Suffix.{readSizes, readSized, readLast, readComponents, readSuffix}
 use Rattle.path_relative.specs.Against.{joinOk, readAgainst}
 use Rattle.path_relative.specs.Extension.{readExtension}
 

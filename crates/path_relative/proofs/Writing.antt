@@ -19,10 +19,9 @@ use Rattle.path.specs.Answers.{commonPrefix, prefixOf, verdict}
 use Rattle.codec.proofs.Tests.{and-left, and-right}
 use Rattle.path.proofs.Components.{Formed, formed, count-is, rest-count, rest-small}
 use Rattle.path.proofs.Prefix.{shares}
-use Rattle.path_codec.specs.Suffix.{suffixBytes}
-use Rattle.path_codec.specs.Plain.{suffixFrom}
-use Rattle.path_codec.proofs.Suffix.{suffix-short}
-use Rattle.path_codec.proofs.Writing.{suffix-allowed}
+use Rattle.path_suffix.specs.Suffix.{suffixBytes, suffixFrom}
+use Rattle.path_suffix.proofs.Suffix.{suffix-short}
+use Rattle.path_suffix.proofs.Writing.{suffix-allowed}
 use Rattle.path_relative.specs.Records.{againstPath, extendsPath}
 
 -- ---- the shared components

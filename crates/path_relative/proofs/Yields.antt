@@ -17,7 +17,7 @@ use Rattle.path.specs.Record.{componentsOf, pathFrom, wellFormed, TypedPath}
 use Rattle.path.specs.Prefix.{shared}
 use Rattle.path.proofs.Limits.{total-append, all-append, all-take, limits-total, limits-count}
 use Rattle.path.proofs.Record.{well-formed, formed-well, apart, made}
-use Rattle.path_codec.proofs.Yields.{suffix-yields}
+use Rattle.path_suffix.proofs.Yields.{suffix-yields}
 use Rattle.path_relative.specs.Against.{joinOk, readAgainst}
 use Rattle.path_relative.specs.Extension.{readExtension}
 use Rattle.path_relative.specs.Records.{readAgainstPath, readExtendsPath}

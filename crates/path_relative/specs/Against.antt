@@ -9,7 +9,7 @@ use Rattle.codec.specs.Reader.{Reader, andThen, checked, mapped}
 use Rattle.compact_u64.specs.Number.{standaloneBytes, readStandalone}
 use Rattle.path.specs.Limits.{totalOf, limits, PathOk}
 use Rattle.path.specs.Prefix.{shared}
-use Rattle.path_codec.specs.Suffix.{suffixBytes, readSuffix}
+use Rattle.path_suffix.specs.Suffix.{suffixBytes, readSuffix}
 
 -- writing shares as many components as possible
 abbrev pub againstBytes : List (List ℕ) → List (List ℕ) → List ℕ

@@ -6,7 +6,7 @@ use Prim.Native.Nat.{ℕ}
 use lib.ListN.{length, take, drop}
 use Rattle.codec.specs.Reader.{Reader, checked, mapped}
 use Rattle.path.specs.Limits.{totalOf, limits, PathOk}
-use Rattle.path_codec.specs.Suffix.{suffixBytes, readSuffix}
+use Rattle.path_suffix.specs.Suffix.{suffixBytes, readSuffix}
 
 abbrev pub extensionBytes : List (List ℕ) → List (List ℕ) → List ℕ
 extensionBytes r p = suffixBytes (drop (length r) p)

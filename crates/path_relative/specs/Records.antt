@@ -10,7 +10,7 @@ use Rattle.codec.specs.Reader.{Reader, guard, checked, mapped, onFormed}
 use Rattle.path.specs.declared.Path.{Path}
 use Rattle.path.specs.Record.{componentsOf, pathFrom, wellFormed}
 use Rattle.path.specs.Prefix.{shared, isPrefix}
-use Rattle.path_codec.specs.Suffix.{readComponents}
+use Rattle.path_suffix.specs.Suffix.{readComponents}
 use Rattle.path_relative.specs.Against.{againstBytes, joinOk, readAgainst}
 use Rattle.path_relative.specs.Extension.{extensionBytes, readExtension}
 

@@ -104,7 +104,7 @@ pub fn relative_len_of_encoding(path: Path, reference: Path) -> Encoded
     let ComponentCount::Components(k) = common else {
         return Encoded::Malformed;
     };
-    let suffix = path_codec::suffix_encode::suffix_len(path, k);
+    let suffix = path_suffix::suffix_len(path, k);
     let Encoded::Length(n) = suffix else {
         return suffix;
     };
@@ -129,7 +129,7 @@ pub fn relative_encode(buffer: &mut [u8], path: Path, reference: Path) -> Encode
     let shared = k as u64;
     let a = compact_u64::len_of_encoding(shared);
     compact_u64::encode(buffer, shared);
-    path_codec::suffix_encode::encode_suffix(&mut buffer[a..], path, k);
+    path_suffix::encode_suffix(&mut buffer[a..], path, k);
     Encoded::Length(n)
 }
 
@@ -172,7 +172,7 @@ pub fn path_extends_path_encoding_len(path: Path, extends: Path) -> Encoded
 {
     let prefixed = extends.is_prefix_of(path);
     match prefixed {
-        Compared::Yes => path_codec::suffix_encode::suffix_len(path, extends.count),
+        Compared::Yes => path_suffix::suffix_len(path, extends.count),
         Compared::No => Encoded::Outside,
         Compared::Malformed => Encoded::Malformed,
     }
@@ -184,7 +184,7 @@ pub fn encode_path_extends_path(buffer: &mut [u8], path: Path, extends: Path) ->
 {
     let prefixed = extends.is_prefix_of(path);
     match prefixed {
-        Compared::Yes => path_codec::suffix_encode::encode_suffix(buffer, path, extends.count),
+        Compared::Yes => path_suffix::encode_suffix(buffer, path, extends.count),
         Compared::No => Encoded::Outside,
         Compared::Malformed => Encoded::Malformed,
     }

@@ -10,7 +10,7 @@ use Rattle.codec.specs.declared.Decoded.{Decoded}
 use Rattle.codec.proofs.Answers.{gives-refused, later-accepted, later-refused}
 use Rattle.codec.proofs.Lending.{to-end}
 use Rattle.path.specs.Builder.{builderFrom}
-use Rattle.path_codec.specs.Suffix.{sizesFrom, readSizes}
+use Rattle.path_suffix.specs.Suffix.{sizesFrom, readSizes}
 use Rattle.path_codec.specs.Plain.{readOnto}
 use Rattle.path_codec.specs.Answers.{GivesPath, sizesAnswer}
 use Rattle.path_codec.proofs.Exits.{no-sizes, sizes-inside, onto-bounded, path-refused, path-onto}

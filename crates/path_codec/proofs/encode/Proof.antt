@@ -3,7 +3,7 @@ use denote.Ref.{now}
 use lib.ListN.{length}
 use Rattle.codec.specs.Format.{Format, writeAnswer, writeBuffer}
 use Rattle.path.specs.declared.Path.{Path}
-use Rattle.path_codec.proofs.Writing.{plain-suffix}
+use Rattle.path_codec.proofs.Plain.{plain-suffix}
 use borrow.Author.Needs.{needs}
 use Rattle.path_codec.proofs.encode.Statement.{statement}
 use Rattle.path_codec.proofs.encode.Tie as tie

@@ -1,7 +1,7 @@
 use mathlib.Core.Path.{ap, _∙_}
 use Rattle.codec.specs.Format.{Format, lengthAnswer}
 use Rattle.path.specs.declared.Path.{Path}
-use Rattle.path_codec.proofs.Writing.{plain-suffix}
+use Rattle.path_codec.proofs.Plain.{plain-suffix}
 use borrow.Author.Needs.{needs}
 use Rattle.path_codec.proofs.len_of_encoding.Statement.{statement}
 use Rattle.path_codec.proofs.len_of_encoding.Tie as tie

@@ -2,7 +2,7 @@ use mathlib.Core.Path.{sym, _∙_}
 use denote.Ref.{now}
 use Rattle.codec.proofs.Lending.{put-barred, same-writing}
 use Rattle.path.proofs.Typed.{typed}
-use Rattle.path_codec.specs.Plain.{suffixFrom}
+use Rattle.path_suffix.specs.Suffix.{suffixFrom}
 use Rattle.path_relative.specs.Records.{extendsPath}
 use Rattle.path_relative.proofs.Writing.{extends-malformed, extends-outside, extends-suffix}
 use borrow.Author.Needs.{needs}

@@ -17,7 +17,7 @@ use Rattle.compact_u64.proofs.Exits.{refused-number, standalone-inside}
 use Rattle.path.specs.Record.{pathFrom, wellFormed}
 use Rattle.path.proofs.Typed.{typed}
 use Rattle.path.proofs.Components.{formed, count-is}
-use Rattle.path_codec.specs.Suffix.{sizesFrom, readSizes}
+use Rattle.path_suffix.specs.Suffix.{sizesFrom, readSizes}
 use Rattle.path_codec.specs.Answers.{GivesPath, sizesAnswer}
 use Rattle.path_codec.proofs.Exits.{no-sizes, sizes-inside}
 use Rattle.path_relative.specs.Records.{readJoined, readAgainstPath}

@@ -9,7 +9,7 @@ use Rattle.codec.specs.Format.{allowed}
 use Rattle.codec.proofs.Lending.{put-barred, put-full, put-fits, length-wrote, length-denied, no-length, to-end, put-end, put-over}
 use Rattle.compact_u64.specs.Number.{standaloneBytes}
 use Rattle.path.proofs.Typed.{typed}
-use Rattle.path_codec.specs.Plain.{suffixFrom}
+use Rattle.path_suffix.specs.Suffix.{suffixFrom}
 use Rattle.path_relative.specs.Records.{againstPath}
 use Rattle.path_relative.proofs.Writing.{Common, common, uncommon, rest-allowed, against-long, against-put}
 use borrow.Author.Needs.{needs}

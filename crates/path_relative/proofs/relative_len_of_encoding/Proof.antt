@@ -5,7 +5,7 @@ use native.Mathlib.Omega.{arith}
 use Rattle.codec.specs.Answers.{outcomeOf}
 use Rattle.codec.proofs.Lending.{length-barred, length-allowed, length-wrote, length-not-denied, no-length}
 use Rattle.path.proofs.Typed.{typed}
-use Rattle.path_codec.specs.Plain.{suffixFrom}
+use Rattle.path_suffix.specs.Suffix.{suffixFrom}
 use Rattle.path_relative.specs.Records.{againstPath}
 use Rattle.path_relative.proofs.Writing.{Common, common, uncommon, against-allowed, rest-allowed, against-long, rest-short}
 use borrow.Author.Needs.{needs}

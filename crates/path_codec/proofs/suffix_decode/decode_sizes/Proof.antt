@@ -7,7 +7,7 @@ use Rattle.codec.specs.Answers.{accepted}
 use Rattle.compact_u64.specs.Number.{readNumber}
 use Rattle.compact_u64.specs.Answers.{numberAnswer}
 use Rattle.compact_u64.proofs.Number.{number-bounded}
-use Rattle.path_codec.specs.Header.{unpackTags}
+use Rattle.path_suffix.specs.Header.{unpackTags}
 use Rattle.path_codec.proofs.Exits.{no-number, sizes-none, sizes-first, sizes-second, sizes-both}
 use borrow.Author.Needs.{needs}
 use Rattle.path_codec.proofs.suffix_decode.decode_sizes.Statement.{statement}

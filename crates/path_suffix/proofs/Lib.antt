@@ -1,0 +1,6 @@
+pub mod Header
+pub mod Components
+pub mod Suffix
+pub mod Yields
+pub mod Writing
+pub mod Orders

@@ -1,0 +1,70 @@
+use Prim.Native.Nat.{_≤_}
+use mathlib.Core.Path.{_∙_, sym}
+use denote.Ref.{now}
+use native.Mathlib.Omega.{arith}
+use lib.ListN.{length, length-drop, length-append}
+use Rattle.codec.proofs.Lending.{to-end, put-end}
+use Rattle.compact_u64.specs.Number.{standaloneBytes}
+use Rattle.path_suffix.proofs.Writing.{sized-put}
+use borrow.Author.Needs.{needs}
+use Rattle.path_suffix.proofs.put_sized.Statement.{statement}
+use Rattle.path_suffix.proofs.put_sized.Tie as tie
+
+-- the length is in the buffer
+inside : (c : tie.After-slice-known2) → c .before .before .before .before .len-of-encoding .result ≤ length (c .before .before .encode .last .0)
+inside c =
+    let a = c .before .before .before .before .before .before .before .args in
+    omega (arith, c .before .before .encode .kept .0, c .before .before .before .before .len-of-encoding .ensures .0, length-append (standaloneBytes (length (now (a .s)))) (now (a .s)))
+
+len-of-encoding-requires : tie.Need-len-of-encoding-requires
+len-of-encoding-requires c κs = search needs
+
+encode-requires : tie.Need-encode-requires
+encode-requires c κs = search needs
+
+sub-put : tie.Need-sub-put
+sub-put c = inside c
+
+part-put-start : tie.Need-part-put-start
+part-put-start c = inside c
+
+part-put-end : tie.Need-part-put-end
+part-put-end c = search needs
+
+put-requires : tie.Need-put-requires
+put-requires c κs =
+    let a = c .before .before .before .before .before .before .before .before .args in
+    let n = c .before .before .before .before .before .len-of-encoding in
+    let l = c .before .before .before .encode in
+    rw (to-end (n .result) (l .last .0), length-drop) (omega (arith, l .kept .0, n .ensures .0, length-append (standaloneBytes (length (now (a .s)))) (now (a .s))))
+
+add-result : tie.Need-add-result
+add-result c = search needs
+
+same-length : tie.Need-same-length
+same-length c = search needs
+
+returns : tie.Need-returns
+returns c =
+    let a = c .before .before .before .before .before .before .before .before .before .before .before .args in
+    let n = c .before .before .before .before .before .before .before .before .len-of-encoding in
+    let l = c .before .before .before .before .before .before .encode in
+    let w = c .before .before .put in
+    let bytes = rw (to-end (n .result) (l .last .0)) at (w .ensures .1) in (
+      rw (n .ensures .0, w .ensures .0) (sym (length-append (standaloneBytes (length (now (a .s)))) (now (a .s)))),
+      put-end (n .result) (l .last .0) (w .last .0) ∙ rw (bytes, l .ensures .1) (sized-put (now (a .s)) (now (a .buffer)) (n .result) (n .ensures .0) (c .before .before .before .before .before .before .before .before .before .before .before .pre)),
+    )
+
+pub put-sized-spec : {M : Type 1} → statement M
+put-sized-spec =
+    tie.close
+    (tie.spec
+    len-of-encoding-requires
+    encode-requires
+    sub-put
+    part-put-start
+    part-put-end
+    put-requires
+    add-result
+    same-length
+    returns)

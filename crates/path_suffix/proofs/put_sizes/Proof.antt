@@ -1,0 +1,129 @@
+use Prim.Native.Nat.{ℕ, _+_, _≤_, _-_}
+use mathlib.Core.Path.{_≡_, _∙_}
+use mathlib.Core.List.{List, _∷_}
+use denote.Ref.{now}
+use native.Mathlib.Omega.{arith}
+use lib.ListN.{length, set, length-set}
+use borrow.Rule.Slice.PartMut.{putMid}
+use Rattle.codec.specs.Format.{over}
+use Rattle.codec.proofs.Lending.{to-end, put-end, put-end-long}
+use Rattle.compact_u64.specs.Number.{numberBytes}
+use Rattle.compact_u64.proofs.Tags.{min-tag-fits}
+use Rattle.path_suffix.specs.Header.{packTags}
+use Rattle.path_suffix.specs.Suffix.{sizesFrom, tagsOf}
+use Rattle.path_suffix.proofs.Writing.{cons-put, sizes-long, sizes-put}
+use borrow.Author.Needs.{needs}
+use Rattle.path_suffix.proofs.put_sizes.Statement.{statement}
+use Rattle.path_suffix.proofs.put_sizes.Tie as tie
+
+-- the parts fit
+room : (c : tie.Start) → 1 + (length (numberBytes 4 (c .args .total)) + length (numberBytes 4 (c .args .count))) ≤ length (now (c .args .buffer))
+room c = omega (arith, sizes-long (sizesFrom (c .args .total) (c .args .count)), c .pre)
+
+-- the buffer after the header byte, and after the first number
+abbrev headed : tie.After-pack-tags → List ℕ
+headed c = set (now (c .before .before .before .before .before .before .args .buffer)) 0 (c .pack-tags .result)
+
+abbrev first : tie.After-slice-known2 → List ℕ
+first c = putMid 1 (length (headed (c .before .before .before .before)) - 1) (headed (c .before .before .before .before)) (c .before .before .relative-encode .last .0)
+
+first-long : (c : tie.After-slice-known2) → length (first c) ≡ length (now (c .before .before .before .before .before .before .before .before .before .before .args .buffer))
+first-long c = put-end-long 1 (headed (c .before .before .before .before)) (c .before .before .relative-encode .last .0) (simp length-set (omega (arith, room (c .before .before .before .before .before .before .before .before .before .before)))) (c .before .before .relative-encode .kept .0) ∙ simp length-set
+
+first-is : (c : tie.After-slice-known2)
+    → first c ≡ over (packTags (tagsOf (sizesFrom (c .before .before .before .before .before .before .before .before .before .before .args .total) (c .before .before .before .before .before .before .before .before .before .before .args .count))) ∷ numberBytes 4 (c .before .before .before .before .before .before .before .before .before .before .args .total)) (now (c .before .before .before .before .before .before .before .before .before .before .args .buffer))
+first-is c =
+    let a = c .before .before .before .before .before .before .before .before .before .before .args in
+    let w = c .before .before .relative-encode in
+    let number = rw (to-end 1 (headed (c .before .before .before .before))) at (w .ensures .1) in
+    let tags : c .before .before .before .before .pack-tags .result ≡ packTags (tagsOf (sizesFrom (a .total) (a .count))) = c .before .before .before .before .pack-tags .ensures ∙ rw (c .before .before .before .before .before .before .min-tag .ensures, c .before .before .before .before .before .min-tag2 .ensures) in
+    put-end 1 (headed (c .before .before .before .before)) (w .last .0) ∙ rw (number, ← tags) (cons-put (now (a .buffer)) (numberBytes 4 (a .total)) (c .before .before .before .before .pack-tags .result) (omega (arith, room (c .before .before .before .before .before .before .before .before .before .before))))
+
+relative-len-of-encoding-requires : tie.Need-relative-len-of-encoding-requires
+relative-len-of-encoding-requires c κs = search needs
+
+add-a : tie.Need-add-a
+add-a c = search needs
+
+relative-len-of-encoding-requires-2 : tie.Need-relative-len-of-encoding-requires-2
+relative-len-of-encoding-requires-2 c κs = search needs
+
+add-b : tie.Need-add-b
+add-b c = search needs
+
+min-tag-requires : tie.Need-min-tag-requires
+min-tag-requires c κs = search needs
+
+min-tag-requires-2 : tie.Need-min-tag-requires-2
+min-tag-requires-2 c κs = search needs
+
+pack-tags-requires : tie.Need-pack-tags-requires
+pack-tags-requires c κs = record { total = omega (arith, c .before .min-tag .ensures, min-tag-fits 4 (c .before .before .before .before .before .args .total) (omega arith)); count = omega (arith, c .min-tag2 .ensures, min-tag-fits 4 (c .before .before .before .before .before .args .count) (omega arith)) }
+
+slice-write-buffer : tie.Need-slice-write-buffer
+slice-write-buffer c = omega (arith, room (c .before .before .before .before .before .before))
+
+sub-relative-encode : tie.Need-sub-relative-encode
+sub-relative-encode c = simp length-set (omega (arith, room (c .before .before .before .before .before .before)))
+
+part-relative-encode-start : tie.Need-part-relative-encode-start
+part-relative-encode-start c = simp length-set (omega (arith, room (c .before .before .before .before .before .before)))
+
+part-relative-encode-end : tie.Need-part-relative-encode-end
+part-relative-encode-end c = search needs
+
+relative-encode-requires : tie.Need-relative-encode-requires
+relative-encode-requires c κs = search needs
+
+sub-relative-encode-2 : tie.Need-sub-relative-encode-2
+sub-relative-encode-2 c = omega (arith, first-long c, room (c .before .before .before .before .before .before .before .before .before .before), c .before .before .before .before .before .before .before .before .relative-len-of-encoding .ensures .0)
+
+part-relative-encode-start-2 : tie.Need-part-relative-encode-start-2
+part-relative-encode-start-2 c = omega (arith, first-long c, room (c .before .before .before .before .before .before .before .before .before .before), c .before .before .before .before .before .before .before .before .relative-len-of-encoding .ensures .0)
+
+part-relative-encode-end-2 : tie.Need-part-relative-encode-end-2
+part-relative-encode-end-2 c = search needs
+
+relative-encode-requires-2 : tie.Need-relative-encode-requires-2
+relative-encode-requires-2 c κs = search needs
+
+same-length : tie.Need-same-length
+same-length c =
+    let n = c .before .before .before .before .before .before .before .before .before .before .before .before .relative-len-of-encoding in
+    let inside : 1 + n .result ≤ length (first (c .before .before .before .before)) = omega (arith, first-long (c .before .before .before .before), room (c .before .before .before .before .before .before .before .before .before .before .before .before .before .before), n .ensures .0) in
+    put-end-long (1 + n .result) (first (c .before .before .before .before)) (c .before .before .relative-encode2 .last .0) inside (c .before .before .relative-encode2 .kept .0) ∙ first-long (c .before .before .before .before)
+
+returns : tie.Need-returns
+returns c =
+    let a = c .before .before .before .before .before .before .before .before .before .before .before .before .before .before .args in
+    let n = c .before .before .before .before .before .before .before .before .before .before .before .before .relative-len-of-encoding in
+    let m = c .before .before .before .before .before .before .before .before .before .before .before .relative-len-of-encoding2 in
+    let at = 1 + n .result in
+    let w = c .before .before .relative-encode2 in
+    let second = rw (to-end at (first (c .before .before .before .before))) at (w .ensures .1) in (
+      omega (arith, sizes-long (sizesFrom (a .total) (a .count)), n .ensures .0, m .ensures .0),
+      put-end at (first (c .before .before .before .before)) (w .last .0) ∙ rw (second, first-is (c .before .before .before .before)) (sizes-put (now (a .buffer)) (a .total) (a .count) at (omega (arith, n .ensures .0)) (c .before .before .before .before .before .before .before .before .before .before .before .before .before .before .pre)),
+    )
+
+pub put-sizes-spec : {M : Type 1} → statement M
+put-sizes-spec =
+    tie.close
+    (tie.spec
+    relative-len-of-encoding-requires
+    add-a
+    relative-len-of-encoding-requires-2
+    add-b
+    min-tag-requires
+    min-tag-requires-2
+    pack-tags-requires
+    slice-write-buffer
+    sub-relative-encode
+    part-relative-encode-start
+    part-relative-encode-end
+    relative-encode-requires
+    sub-relative-encode-2
+    part-relative-encode-start-2
+    part-relative-encode-end-2
+    relative-encode-requires-2
+    same-length
+    returns)

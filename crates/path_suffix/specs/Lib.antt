@@ -1,0 +1,3 @@
+pub mod Header
+pub mod Suffix
+pub mod Relations
