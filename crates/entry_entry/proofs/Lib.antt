@@ -1,0 +1,5 @@
+pub mod HeaderLayout
+pub mod Entry
+pub mod Records
+pub mod Writing
+pub mod DecodeExits

@@ -1,0 +1,23 @@
+use mathlib.Core.Path.{sym, ap, _∙_}
+use native.Mathlib.Omega.{arith}
+use lib.ListN.{length}
+use Rattle.entry_entry.proofs.Writing.{id-there, id-kept}
+use borrow.Author.Needs.{needs}
+use Rattle.entry_entry.proofs.entry_encode.id_len.Statement.{statement}
+use Rattle.entry_entry.proofs.entry_encode.id_len.Tie as tie
+
+id-written-requires : tie.Need-id-written-requires
+id-written-requires c κs = search needs
+
+returns : tie.Need-returns
+returns c =
+    let a = c .before .before .args in
+    (sym (ap length (id-there (a .reference) (a .id) (c .before .id-written .ensures) (c .if1 .taken)) ∙ c .before .before .good .0 .1 .0 .1), omega arith)
+
+returns-2 : tie.Need-returns-2
+returns-2 c =
+    let a = c .before .before .args in
+    (sym (ap length (id-kept (a .reference) (a .id) (c .before .id-written .ensures) (c .if1 .left))), omega arith)
+
+pub id-len-spec : {M : Type 1} → statement M
+id-len-spec = tie.close (tie.spec id-written-requires returns returns-2)

@@ -1,0 +1,51 @@
+use mathlib.Core.Path.{sym, ap, _∙_}
+use mathlib.Core.List.{List}
+use Prim.Native.Nat.{ℕ, _≤_}
+use native.Mathlib.Omega.{arith}
+use denote.Ref.{now}
+use lib.ListN.{length}
+use Rattle.codec.specs.Format.{over}
+use Rattle.codec.proofs.Lending.{put-over}
+use Rattle.entry_entry.proofs.Writing.{id-there, id-kept}
+use borrow.Author.Needs.{needs}
+use Rattle.entry_entry.proofs.entry_encode.put_id.Statement.{statement}
+use Rattle.entry_entry.proofs.entry_encode.put_id.Tie as tie
+
+id-written-requires : tie.Need-id-written-requires
+id-written-requires c κs = search needs
+
+slice-aggregate-put-bytes : tie.Need-slice-aggregate-put-bytes
+slice-aggregate-put-bytes c = search needs
+
+put-bytes-requires : tie.Need-put-bytes-requires
+put-bytes-requires c κs = search needs
+
+same-length : tie.Need-same-length
+same-length c = search needs
+
+returns : tie.Need-returns
+returns c =
+    let a = c .before .before .before .before .before .before .before .before .args in
+    let l = now (a .buffer) in
+    let is = id-there (a .reference) (a .t2) (c .before .before .before .before .before .before .id-written .ensures) (c .before .before .before .before .before .if1 .taken) in
+    let long : length (a .t2) ≤ length l = omega (arith, c .before .before .before .before .before .before .before .before .pre, ap length is) in (
+      sym (ap length is ∙ c .before .before .before .before .before .before .before .before .good .1 .0 .1 .0 .1),
+      c .before .before .put-bytes .ensures .1 ∙ put-over (a .t2) l long ∙ ap (λ (bs : List ℕ). over bs l) (sym is),
+    )
+
+returns-2 : tie.Need-returns-2
+returns-2 c =
+    let a = c .before .before .before .args in
+    let is = id-kept (a .reference) (a .t2) (c .before .id-written .ensures) (c .if1 .left) in
+    (sym (ap length is), ap (λ (bs : List ℕ). over bs (now (a .buffer))) (sym is))
+
+pub put-id-spec : {M : Type 1} → statement M
+put-id-spec =
+    tie.close
+    (tie.spec
+    id-written-requires
+    slice-aggregate-put-bytes
+    put-bytes-requires
+    same-length
+    returns
+    returns-2)

@@ -1,0 +1,65 @@
+use mathlib.Core.Path.{_∙_}
+use Prim.Native.Nat.{_+_, _≤_}
+use native.Mathlib.Omega.{arith}
+use denote.Ref.{now}
+use lib.ListN.{length, length-append, length-drop}
+use Rattle.codec.proofs.Lending.{over-then, to-end, put-end}
+use Rattle.entry_entry.specs.Entry.{idBytes}
+use borrow.Author.Needs.{needs}
+use Rattle.entry_entry.proofs.entry_encode.put_ids.Statement.{statement}
+use Rattle.entry_entry.proofs.entry_encode.put_ids.Tie as tie
+
+-- the parts fit
+parts : (c : tie.Start) → let a = c .args in length (idBytes (a .reference .«namespace_id») (a .entry .«namespace_id»)) + length (idBytes (a .reference .«subspace_id») (a .entry .«subspace_id»)) ≤ length (now (a .buffer))
+parts c =
+    let a = c .args in
+    omega (arith, c .pre, length-append (idBytes (a .reference .«namespace_id») (a .entry .«namespace_id»)) (idBytes (a .reference .«subspace_id») (a .entry .«subspace_id»)))
+
+put-id-requires : tie.Need-put-id-requires
+put-id-requires c κs = omega (arith, parts (c .before .before .before .before))
+
+sub-put-id : tie.Need-sub-put-id
+sub-put-id c = omega (arith, parts (c .before .before .before .before .before .before .before .before .before), c .before .before .before .before .put-id .ensures .0, c .before .before .before .before .put-id .kept .0)
+
+part-put-id-start : tie.Need-part-put-id-start
+part-put-id-start c = omega (arith, parts (c .before .before .before .before .before .before .before .before .before), c .before .before .before .before .put-id .ensures .0, c .before .before .before .before .put-id .kept .0)
+
+part-put-id-end : tie.Need-part-put-id-end
+part-put-id-end c = search needs
+
+put-id-requires-2 : tie.Need-put-id-requires-2
+put-id-requires-2 c κs =
+    let n = c .before .before .before .before .before .put-id in
+    rw (to-end (n .result) (n .last .0), length-drop) (omega (arith, parts (c .before .before .before .before .before .before .before .before .before .before), n .ensures .0, n .kept .0))
+
+add-result : tie.Need-add-result
+add-result c = omega (arith, parts (c .before .before .before .before .before .before .before .before .before .before .before .before .before), c .before .before .before .before .before .before .before .before .put-id .ensures .0, c .before .before .put-id2 .ensures .0)
+
+same-length : tie.Need-same-length
+same-length c = search needs
+
+returns : tie.Need-returns
+returns c =
+    let a = c .before .before .before .before .before .before .before .before .before .before .before .before .before .args in
+    let l = now (a .buffer) in
+    let x = idBytes (a .reference .«namespace_id») (a .entry .«namespace_id») in
+    let y = idBytes (a .reference .«subspace_id») (a .entry .«subspace_id») in
+    let n = c .before .before .before .before .before .before .before .before .put-id in
+    let w = c .before .before .put-id2 in
+    let rest = rw (to-end (n .result) (n .last .0)) at (w .ensures .1) in (
+      omega (arith, n .ensures .0, w .ensures .0, length-append x y),
+      put-end (n .result) (n .last .0) (w .last .0) ∙ rw (rest, n .ensures .1, n .ensures .0) (over-then l x y),
+    )
+
+pub put-ids-spec : {M : Type 1} → statement M
+put-ids-spec =
+    tie.close
+    (tie.spec
+    put-id-requires
+    sub-put-id
+    part-put-id-start
+    part-put-id-end
+    put-id-requires-2
+    add-result
+    same-length
+    returns)

@@ -1,0 +1,23 @@
+-- What reading a difference answers at each exit of the code.
+use mathlib.Core.Path.{_≡_}
+use mathlib.Core.List.{List}
+use mathlib.Core.Bool.{Bool, true, false}
+use Prim.Native.Nat.{ℕ}
+use Rattle.codec.specs.Answers.{accepted, refused}
+use Rattle.compact_u64.specs.Number.{readNumber}
+use Rattle.grouping.specs.declared.RangeEnd.{RangeEnd}
+use Rattle.time_distance.specs.Distance.{reaches, timeFrom, readFrom}
+
+module _ (from : RangeEnd) (added : Bool) (tag : ℕ) (s : List ℕ) where
+  pub from-refused : (k : ℕ) → readNumber false 2 tag s ≡ refused k → readFrom from added tag s ≡ refused k
+  unfolding readFrom
+  from-refused k e = rw e
+
+  module _ (d n : ℕ) (e : readNumber false 2 tag s ≡ accepted d n) where
+    pub from-fault : reaches from added d ≡ false → readFrom from added tag s ≡ refused 2
+    unfolding readFrom
+    from-fault f = rw (e, f)
+
+    pub from-read : reaches from added d ≡ true → readFrom from added tag s ≡ accepted (timeFrom from added d) n
+    unfolding readFrom
+    from-read f = rw (e, f)

@@ -1,0 +1,92 @@
+use mathlib.Core.Path.{_≡_, sym, ap, _∙_}
+use denote.Ref.{now}
+use lib.ListN.{drop}
+use native.Mathlib.Omega.{arith}
+use Prim.Native.Nat.{ℕ, _+_, _-_}
+use borrow.Author.Tests.{le-leb, lt-leb}
+use Rattle.compact_u64.specs.Answers.{numberAnswer}
+use Rattle.compact_u64.proofs.Exits.{refused-number}
+use Rattle.grouping.specs.Range.{top}
+use Rattle.time_distance.specs.Distance.{timeFrom}
+use Rattle.time_distance.proofs.Exits.{from-refused, from-fault, from-read}
+use borrow.Author.Needs.{needs}
+use Rattle.time_distance.proofs.relative_decode.Statement.{statement}
+use Rattle.time_distance.proofs.relative_decode.Tie as tie
+use Rattle.time_distance.proofs.relative_decode.Reads as reads
+use Rattle.time_distance.proofs.relative_decode.Lts as lts
+use Rattle.compact_u64.proofs.relative_decode.Reads as relative-decode-reads
+
+relative-decode-requires : tie.Need-relative-decode-requires
+relative-decode-requires c κs = search needs
+
+enum-known-number : tie.Need-enum-known-number
+enum-known-number c = search needs
+
+returns : tie.Need-returns
+returns c =
+    let a = c .before .before .before .args in
+    let n = refused-number {A = ℕ} 0 (c .before .relative-decode .result) (c .match .keys2) in
+    n .number ∙ sym (from-refused (a .from) (a .added) (a .tag) (drop (a .start) (now (a .message))) (n .why) (sym (c .before .relative-decode .ensures) ∙ n .number))
+
+enum-known-from : tie.Need-enum-known-from
+enum-known-from c = search needs
+
+enum-told : tie.Need-enum-told
+enum-told c = search needs
+
+returns-2 : tie.Need-returns-2
+returns-2 c =
+    let a = c .before .before .before .before .before .before .before .args in
+    let e = sym (c .before .before .before .before .before .relative-decode .ensures) ∙ ap numberAnswer (c .before .before .before .number .given .1) in
+    sym (from-fault (a .from) (a .added) (a .tag) (drop (a .start) (now (a .message))) _ _ e (rw (c .enum-told .given .1)))
+
+sub-if2 : tie.Need-sub-if2
+sub-if2 c = search needs
+
+returns-3 : tie.Need-returns-3
+returns-3 c =
+    let a = c .before .before .before .before .before .before .before .before .before .before .args in
+    let e = sym (c .before .before .before .before .before .before .before .before .relative-decode .ensures) ∙ ap numberAnswer (c .before .before .before .before .before .before .number .given .1) in
+    sym (from-fault (a .from) (a .added) (a .tag) (drop (a .start) (now (a .message))) _ _ e (rw (c .before .before .before .from .given .1, c .before .if1 .taken) (lt-leb (c .before .before .before .from .given .0 .0 + c .before .before .before .before .before .before .number .given .0 .0) top (omega (arith, c .if2 .taken)))))
+
+add-t12 : tie.Need-add-t12
+add-t12 c = search needs
+
+returns-4 : tie.Need-returns-4
+returns-4 c =
+    let a = c .before .before .before .before .before .before .before .before .before .before .args in
+    let e = sym (c .before .before .before .before .before .before .before .before .relative-decode .ensures) ∙ ap numberAnswer (c .before .before .before .before .before .before .number .given .1) in
+    let x = c .before .before .before .from .given .0 .0 in
+    let is : timeFrom (a .from) (a .added) (c .before .before .before .before .before .before .number .given .0 .0) ≡ x + c .before .before .before .before .before .before .number .given .0 .0 = rw (c .before .before .before .from .given .1, c .before .if1 .taken) in
+    rw (← is) (sym (from-read (a .from) (a .added) (a .tag) (drop (a .start) (now (a .message))) _ _ e (rw (c .before .before .before .from .given .1, c .before .if1 .taken) (le-leb (x + c .before .before .before .before .before .before .number .given .0 .0) top (omega (arith, c .if2 .left))))))
+
+returns-5 : tie.Need-returns-5
+returns-5 c =
+    let a = c .before .before .before .before .before .before .before .before .before .before .args in
+    let e = sym (c .before .before .before .before .before .before .before .before .relative-decode .ensures) ∙ ap numberAnswer (c .before .before .before .before .before .before .number .given .1) in
+    sym (from-fault (a .from) (a .added) (a .tag) (drop (a .start) (now (a .message))) _ _ e (rw (c .before .before .before .from .given .1, c .before .if1 .left) (lt-leb _ _ (c .if3 .taken))))
+
+returns-6 : tie.Need-returns-6
+returns-6 c =
+    let a = c .before .before .before .before .before .before .before .before .before .before .args in
+    let e = sym (c .before .before .before .before .before .before .before .before .relative-decode .ensures) ∙ ap numberAnswer (c .before .before .before .before .before .before .number .given .1) in
+    let x = c .before .before .before .from .given .0 .0 in
+    let is : timeFrom (a .from) (a .added) (c .before .before .before .before .before .before .number .given .0 .0) ≡ x - c .before .before .before .before .before .before .number .given .0 .0 = rw (c .before .before .before .from .given .1, c .before .if1 .left) in
+    rw (← is) (sym (from-read (a .from) (a .added) (a .tag) (drop (a .start) (now (a .message))) _ _ e (rw (c .before .before .before .from .given .1, c .before .if1 .left) (le-leb _ _ (c .if3 .left)))))
+
+pub relative-decode-spec : {M : Type 1} → statement M
+relative-decode-spec =
+    tie.close
+    (tie.spec
+    relative-decode-requires
+    enum-known-number
+    returns
+    enum-known-from
+    enum-told
+    returns-2
+    sub-if2
+    returns-3
+    add-t12
+    returns-4
+    returns-5
+    returns-6)
