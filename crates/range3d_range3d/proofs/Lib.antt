@@ -1,0 +1,5 @@
+pub mod HeaderLayout
+pub mod Range
+pub mod Records
+pub mod DecodeExits
+pub mod Writing

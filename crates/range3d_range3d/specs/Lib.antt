@@ -1,0 +1,4 @@
+pub mod Header
+pub mod Range
+pub mod Records
+pub mod Answers

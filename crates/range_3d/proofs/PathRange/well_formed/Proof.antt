@@ -1,0 +1,36 @@
+use mathlib.Core.Path.{sym, _∙_}
+use borrow.Author.Tests.{not-true, not-false}
+use Rattle.range_3d.specs.Record.{wellFormedPaths}
+use borrow.Author.Needs.{needs}
+use Rattle.range_3d.proofs.PathRange.well_formed.Statement.{statement}
+use Rattle.range_3d.proofs.PathRange.well_formed.Tie as tie
+use Rattle.range_3d.proofs.PathRange.well_formed.Reads as reads
+use Rattle.range_3d.proofs.PathRange.well_formed.Lts as lts
+use Rattle.path.proofs.Path.well_formed.Reads as well-formed-reads
+
+well-formed-requires : tie.Need-well-formed-requires
+well-formed-requires c κs = search needs
+
+returns : tie.Need-returns
+unfolding wellFormedPaths
+returns c = rw (sym (c .before .well-formed .ensures) ∙ not-true _ (c .if1 .taken))
+
+well-formed-requires-2 : tie.Need-well-formed-requires-2
+well-formed-requires-2 c κs = search needs
+
+returns-2 : tie.Need-returns-2
+unfolding wellFormedPaths
+returns-2 c = rw (sym (c .before .before .before .well-formed .ensures) ∙ not-false _ (c .before .before .if1 .left), sym (c .before .well-formed2 .ensures) ∙ not-true _ (c .if2 .taken))
+
+returns-3 : tie.Need-returns-3
+unfolding wellFormedPaths
+returns-3 c = rw (sym (c .before .before .before .before .before .well-formed .ensures) ∙ not-false _ (c .before .before .before .before .if1 .left), sym (c .before .before .before .well-formed2 .ensures) ∙ not-false _ (c .before .before .if2 .left), c .before .if3 .taken)
+
+returns-4 : tie.Need-returns-4
+unfolding wellFormedPaths
+returns-4 c = rw (sym (c .before .before .before .before .well-formed .ensures) ∙ not-false _ (c .before .before .before .if1 .left), sym (c .before .before .well-formed2 .ensures) ∙ not-false _ (c .before .if2 .left), c .if3 .left)
+
+pub well-formed-spec : {M : Type 1} → statement M
+well-formed-spec =
+    tie.close
+    (tie.spec well-formed-requires returns well-formed-requires-2 returns-2 returns-3 returns-4)

@@ -1,0 +1,28 @@
+use mathlib.Core.Path.{sym, _∙_}
+use borrow.Author.Tests.{not-true, not-false}
+use Rattle.range_3d.specs.Record.{wellFormedRange3d}
+use borrow.Author.Needs.{needs}
+use Rattle.range_3d.proofs.Range3d.well_formed.Statement.{statement}
+use Rattle.range_3d.proofs.Range3d.well_formed.Tie as tie
+use Rattle.range_3d.proofs.Range3d.well_formed.Reads as reads
+use Rattle.range_3d.proofs.Range3d.well_formed.Lts as lts
+use Rattle.range_3d.proofs.PathRange.well_formed.Reads as PathRange-well-formed-reads
+use Rattle.range_3d.proofs.SubspaceRange.well_formed.Reads as SubspaceRange-well-formed-reads
+
+well-formed-requires : tie.Need-well-formed-requires
+well-formed-requires c κs = search needs
+
+returns : tie.Need-returns
+unfolding wellFormedRange3d
+returns c = rw (sym (c .before .well-formed .ensures) ∙ not-true _ (c .if1 .taken))
+
+well-formed-requires-2 : tie.Need-well-formed-requires-2
+well-formed-requires-2 c κs = search needs
+
+returns-2 : tie.Need-returns-2
+unfolding wellFormedRange3d
+returns-2 c = rw (sym (c .before .before .well-formed .ensures) ∙ not-false _ (c .before .if1 .left)) (c .well-formed2 .ensures)
+
+pub well-formed-spec : {M : Type 1} → statement M
+well-formed-spec =
+    tie.close (tie.spec well-formed-requires returns well-formed-requires-2 returns-2)

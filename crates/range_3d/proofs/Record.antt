@@ -1,0 +1,81 @@
+-- Records of ranges and their values: each well-formed record is the record of its values.
+use mathlib.Core.Path.{_≡_, refl, sym, ap, _∙_}
+use mathlib.Core.List.{[]}
+use mathlib.Core.Bool.{Bool, true, false, cond}
+use mathlib.Core.Option.{none, some}
+use lib.Dec.{eqb}
+use borrow.Author.Tests.{eqb-true}
+use Rattle.codec.specs.Bytes.{sameBytes, zeroId, TypedId}
+use Rattle.codec.proofs.SameBytes.{same-eq}
+use Rattle.codec.proofs.Tests.{and-left, and-right}
+use Rattle.path.specs.declared.Path.{Path}
+use Rattle.path.specs.Limits.{PathOk}
+use Rattle.path.specs.Record.{componentsOf, pathFrom, wellFormed, TypedPath}
+use Rattle.path.proofs.Record.{well-formed, apart}
+use Rattle.range_3d.specs.declared.SubspaceRange.{SubspaceRange}
+use Rattle.range_3d.specs.declared.PathRange.{PathRange}
+use Rattle.range_3d.specs.declared.Range3d.{Range3d}
+use Rattle.range_3d.specs.Range3d.{OnEnd, Both}
+use Rattle.range_3d.specs.Record.{subspacesOf, subspacesFor, subspacesFrom, pathsOf, pathsFor, pathsFrom, rangeOf, rangeFrom, wellFormedSubspaces, wellFormedPaths, wellFormedRange3d, TypedSubspaces, TypedPaths, TypedRange3d}
+
+-- ---- subspaces
+pub typed-ids : (s : SubspaceRange) → TypedSubspaces s → Both TypedId (subspacesOf s)
+typed-ids s t = record { start = t .start; end = go (s .«end_open») }
+  where
+    go : (b : Bool) → OnEnd TypedId (cond b none (some (s .end)))
+    go true = tt
+    go false = t .end
+
+pub made-subspaces : (s : SubspaceRange) → wellFormedSubspaces s ≡ true → subspacesFrom (subspacesOf s) ≡ s
+unfolding wellFormedSubspaces subspacesFrom
+made-subspaces s e = go (s .«end_open») refl e
+  where
+    go : (b : Bool) → s .«end_open» ≡ b → cond b (sameBytes (s .end) zeroId) true ≡ true → subspacesFor (s .start) (cond b none (some (s .end))) ≡ s
+    go true f q = rw (← (same-eq (s .end) zeroId q), ← f)
+    go false f q = rw (← f)
+
+-- ---- paths
+-- what 5 tests of paths, part by part
+pub record FormedPaths (p : PathRange) : Type 0 where
+  pub start : wellFormed (p .start) ≡ true
+  pub end : wellFormed (p .end) ≡ true
+  pub none : cond (p .«end_open») (eqb (p .end .count) 0) true ≡ true
+
+pub formed-paths : (p : PathRange) → wellFormedPaths p ≡ true → FormedPaths p
+unfolding wellFormedPaths
+formed-paths p w =
+    let rest = and-right (wellFormed (p .start)) _ w in
+    record { start = and-left _ _ w; end = and-left _ _ rest; none = and-right (wellFormed (p .end)) _ rest }
+
+path-ok : (p : Path) → TypedPath p → wellFormed p ≡ true → PathOk (componentsOf p)
+path-ok p t w = apart p t (well-formed p w) .ok
+
+path-made : (p : Path) → TypedPath p → wellFormed p ≡ true → pathFrom (componentsOf p) ≡ p
+path-made p t w = apart p t (well-formed p w) .made
+
+-- a well-formed path of no components is the empty path
+empty-made : (p : Path) → TypedPath p → wellFormed p ≡ true → p .count ≡ 0 → pathFrom [] ≡ p
+empty-made p t w e =
+    let none : componentsOf p ≡ [] = rw e in
+    ap pathFrom (sym none) ∙ path-made p t w
+
+module _ (p : PathRange) (t : TypedPaths p) (w : wellFormedPaths p ≡ true) where
+  pub paths-ok : Both PathOk (pathsOf p)
+  paths-ok = record { start = path-ok (p .start) (t .start) (formed-paths p w .start); end = go (p .«end_open») }
+    where
+      go : (b : Bool) → OnEnd PathOk (cond b none (some (componentsOf (p .end))))
+      go true = tt
+      go false = path-ok (p .end) (t .end) (formed-paths p w .end)
+
+  pub made-paths : pathsFrom (pathsOf p) ≡ p
+  unfolding pathsFrom
+  made-paths = rw (path-made (p .start) (t .start) (formed-paths p w .start)) (go (p .«end_open») refl (formed-paths p w .none))
+    where
+      go : (b : Bool) → p .«end_open» ≡ b → cond b (eqb (p .end .count) 0) true ≡ true → pathsFor (p .start) (cond b none (some (componentsOf (p .end)))) ≡ p
+      go true f q = rw (empty-made (p .end) (t .end) (formed-paths p w .end) (eqb-true (p .end .count) 0 q), ← f)
+      go false f q = rw (path-made (p .end) (t .end) (formed-paths p w .end), ← f)
+
+-- ---- 3d ranges
+pub made-range : (r : Range3d) → TypedRange3d r → wellFormedRange3d r ≡ true → rangeFrom (rangeOf r) ≡ r
+unfolding wellFormedRange3d rangeFrom
+made-range r t w = rw (made-subspaces (r .subspaces) (and-left _ _ w), made-paths (r .paths) (t .paths) (and-right (wellFormedSubspaces (r .subspaces)) _ w))

@@ -1,0 +1,34 @@
+use Rattle.range_3d.specs.Record.{wellFormedSubspaces}
+use borrow.Author.Needs.{needs}
+use Rattle.range_3d.proofs.SubspaceRange.well_formed.Statement.{statement}
+use Rattle.range_3d.proofs.SubspaceRange.well_formed.Tie as tie
+use Rattle.range_3d.proofs.SubspaceRange.well_formed.Reads as reads
+use Rattle.range_3d.proofs.SubspaceRange.well_formed.Lts as lts
+use Rattle.codec.proofs.same_bytes.Reads as same-bytes-reads
+
+slice-aggregate-same-bytes : tie.Need-slice-aggregate-same-bytes
+slice-aggregate-same-bytes c = search needs
+
+slice-aggregate-same-bytes-2 : tie.Need-slice-aggregate-same-bytes-2
+slice-aggregate-same-bytes-2 c = search needs
+
+same-bytes-requires : tie.Need-same-bytes-requires
+same-bytes-requires c κs = search needs
+
+returns : tie.Need-returns
+unfolding wellFormedSubspaces
+returns c = rw (c .before .before .before .before .if1 .taken) (c .same-bytes .ensures)
+
+returns-2 : tie.Need-returns-2
+unfolding wellFormedSubspaces
+returns-2 c = rw (c .if1 .left)
+
+pub well-formed-spec : {M : Type 1} → statement M
+well-formed-spec =
+    tie.close
+    (tie.spec
+    slice-aggregate-same-bytes
+    slice-aggregate-same-bytes-2
+    same-bytes-requires
+    returns
+    returns-2)

@@ -1,0 +1,2 @@
+pub mod Range3d
+pub mod Record

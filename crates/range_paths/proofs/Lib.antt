@@ -1,0 +1,3 @@
+pub mod Paths
+pub mod Writing
+pub mod DecodeExits

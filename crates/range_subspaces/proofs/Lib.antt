@@ -1,0 +1,2 @@
+pub mod Subspaces
+pub mod Exits

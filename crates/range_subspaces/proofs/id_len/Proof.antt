@@ -1,0 +1,30 @@
+use mathlib.Core.Path.{sym, ap, _∙_}
+use native.Mathlib.Omega.{arith}
+use lib.ListN.{length}
+use Rattle.range_3d.specs.Record.{subspacesOf}
+use Rattle.range_subspaces.specs.Subspaces.{isWritten}
+use Rattle.range_subspaces.proofs.Exits.{not-written, id-bytes, no-bytes}
+use borrow.Author.Needs.{needs}
+use Rattle.range_subspaces.proofs.id_len.Statement.{statement}
+use Rattle.range_subspaces.proofs.id_len.Tie as tie
+
+source-requires : tie.Need-source-requires
+source-requires c κs = search needs
+
+enum-told : tie.Need-enum-told
+enum-told c = search needs
+
+returns : tie.Need-returns
+returns c =
+    let a = c .before .before .args in
+    let e = no-bytes (subspacesOf (a .reference)) (a .id) (ap isWritten (sym (c .before .source .ensures)) ∙ not-written (c .before .source .result) (c .match .keys2)) in
+    (sym (ap length e), omega arith)
+
+returns-2 : tie.Need-returns-2
+returns-2 c =
+    let a = c .before .before .before .args in
+    let e = id-bytes (subspacesOf (a .reference)) (a .id) (ap isWritten (sym (c .before .before .source .ensures) ∙ c .enum-told .given .1)) in
+    (sym (ap length e ∙ c .before .before .before .good .0 .1 .0 .1), omega arith)
+
+pub id-len-spec : {M : Type 1} → statement M
+id-len-spec = tie.close (tie.spec source-requires enum-told returns returns-2)

@@ -1,0 +1,54 @@
+use mathlib.Core.Path.{sym, ap, _∙_}
+use mathlib.Core.List.{List}
+use Prim.Native.Nat.{ℕ}
+use native.Mathlib.Omega.{arith}
+use denote.Ref.{now}
+use lib.ListN.{length}
+use Rattle.codec.specs.Format.{over}
+use Rattle.codec.proofs.Lending.{put-over}
+use Rattle.range_3d.specs.Record.{subspacesOf}
+use Rattle.range_subspaces.specs.Subspaces.{isWritten}
+use Rattle.range_subspaces.proofs.Exits.{not-written, id-bytes, no-bytes}
+use borrow.Author.Needs.{needs}
+use Rattle.range_subspaces.proofs.put_id.Statement.{statement}
+use Rattle.range_subspaces.proofs.put_id.Tie as tie
+
+source-requires : tie.Need-source-requires
+source-requires c κs = search needs
+
+enum-told : tie.Need-enum-told
+enum-told c = search needs
+
+returns : tie.Need-returns
+returns c =
+    let a = c .before .before .before .args in
+    let e = no-bytes (subspacesOf (a .reference)) (a .t2) (ap isWritten (sym (c .before .source .ensures)) ∙ not-written (c .before .source .result) (c .match .keys2)) in
+    (sym (ap length e), rw e)
+
+slice-aggregate-put-bytes : tie.Need-slice-aggregate-put-bytes
+slice-aggregate-put-bytes c = search needs
+
+put-bytes-requires : tie.Need-put-bytes-requires
+put-bytes-requires c κs = search needs
+
+same-length : tie.Need-same-length
+same-length c = search needs
+
+returns-2 : tie.Need-returns-2
+returns-2 c =
+    let a = c .before .before .before .before .before .before .before .before .before .args in
+    let l = now (a .buffer) in
+    let e = id-bytes (subspacesOf (a .reference)) (a .t2) (ap isWritten (sym (c .before .before .before .before .before .before .before .source .ensures) ∙ c .before .before .before .before .before .enum-told .given .1)) in
+    (sym (ap length e ∙ c .before .before .before .before .before .before .before .before .before .good .1 .0 .1 .0 .1), c .before .before .put-bytes .ensures .1 ∙ put-over (a .t2) l (omega (arith, c .before .before .before .before .before .before .before .before .before .pre, ap length e)) ∙ ap (λ (bs : List ℕ). over bs l) (sym e))
+
+pub put-id-spec : {M : Type 1} → statement M
+put-id-spec =
+    tie.close
+    (tie.spec
+    source-requires
+    enum-told
+    returns
+    slice-aggregate-put-bytes
+    put-bytes-requires
+    same-length
+    returns-2)

@@ -1,0 +1,111 @@
+use mathlib.Core.Path.{_≡_, sym, ap, _∙_}
+use mathlib.Core.Option.{some}
+use Prim.Native.Nat.{_+_, _≤_}
+use native.Mathlib.Omega.{arith}
+use denote.Ref.{now}
+use lib.ListN.{length}
+use Rattle.codec.specs.Answers.{accepted, answerOf}
+use Rattle.codec.specs.Reader.{mapped}
+use Rattle.codec.specs.declared.Decoded.{Decoded}
+use Rattle.codec.proofs.Answers.{no-value, gives-refused, gives-accepted}
+use Rattle.codec.proofs.Bounded.{mapped-bounded}
+use Rattle.codec.proofs.Lending.{to-end}
+use Rattle.range_3d.specs.Record.{subspacesOf, subspacesFrom, noSubspaces}
+use Rattle.range_subspaces.specs.Subspaces.{readId, subspacesUpTo, readSubspaces}
+use Rattle.range_subspaces.proofs.Subspaces.{id-bounded, subspaces-bounded}
+use Rattle.range_subspaces.proofs.Exits.{start-refused, end-open, end-refused, both-read}
+use borrow.Author.Needs.{needs}
+use Rattle.range_subspaces.proofs.relative_decode.Statement.{statement}
+use Rattle.range_subspaces.proofs.relative_decode.Tie as tie
+
+start-is : (c : tie.After-known-told) → let a = c .before .before .before .before .before .args in
+    readId (subspacesOf (a .reference)) (a .sources .start) (now (a .message)) ≡ accepted (c .before .before .before .decode-id .result .id) (c .before .first-answer .given .0 .0)
+start-is c = sym (c .before .before .before .decode-id .ensures) ∙ ap (λ (d : Decoded). answerOf d (c .before .before .before .decode-id .result .id)) (c .before .first-answer .given .1)
+
+inside : (c : tie.At-match2-keys2) → c .before .before .before .first-answer .given .0 .0 ≤ length (now (c .before .before .before .before .before .before .before .args .message))
+inside c = let a = c .before .before .before .before .before .before .before .args in id-bounded (subspacesOf (a .reference)) (a .sources .start) .bound (now (a .message)) _ _ (start-is (c .before .before))
+
+both-are : (c : tie.After-end) → let a = c .before .before .before .before .before .before .before .before .before .before .before .before .before .args in
+    mapped subspacesFrom (readSubspaces (subspacesOf (a .reference)) (a .sources)) (now (a .message)) ≡ accepted (subspacesFrom (subspacesUpTo (c .before .before .before .before .before .before .before .before .before .before .before .decode-id .result .id) (some (c .before .before .before .before .decode-id2 .result .id)))) (c .before .before .before .before .before .before .before .before .before .first-answer .given .0 .0 + c .before .before .second-answer .given .0 .0)
+both-are c =
+    let a = c .before .before .before .before .before .before .before .before .before .before .before .before .before .args in
+    let e = rw (to-end (c .before .before .before .before .before .before .before .before .before .first-answer .given .0 .0) (now (a .message))) at (sym (c .before .before .before .before .decode-id2 .ensures) ∙ ap (λ (d : Decoded). answerOf d (c .before .before .before .before .decode-id2 .result .id)) (c .before .before .second-answer .given .1)) in
+    both-read (subspacesOf (a .reference)) (a .sources) (now (a .message)) _ _ (start-is (c .before .before .before .before .before .before .before .before)) (c .before .before .before .before .before .before .match2 .keys2) _ _ e
+
+decode-id-requires : tie.Need-decode-id-requires
+decode-id-requires c κs = search needs
+
+enum-known-first-answer : tie.Need-enum-known-first-answer
+enum-known-first-answer c = search needs
+
+refuse-requires : tie.Need-refuse-requires
+refuse-requires c κs = search needs
+
+returns : tie.Need-returns
+returns c =
+    let a = c .before .before .before .before .args in
+    let x = no-value (c .before .before .decode-id .result .answer) (c .before .match .keys2) in
+    rw (c .refuse .ensures .0, c .refuse .ensures .1) (gives-refused (x .why) (x .beside noSubspaces) (start-refused (subspacesOf (a .reference)) (a .sources) (now (a .message)) (x .why) (sym (c .before .before .decode-id .ensures) ∙ x .beside _)))
+
+enum-told : tie.Need-enum-told
+enum-told c = search needs
+
+returns-2 : tie.Need-returns-2
+unfolding subspacesFrom
+returns-2 c =
+    let a = c .before .before .before .before .before .before .before .before .args in
+    gives-accepted (end-open (subspacesOf (a .reference)) (a .sources) (now (a .message)) _ _ (start-is (c .before .before .before)) (c .enum-told .given .1))
+
+sub-decode-id : tie.Need-sub-decode-id
+sub-decode-id c = inside c
+
+part-decode-id-start : tie.Need-part-decode-id-start
+part-decode-id-start c = inside c
+
+part-decode-id-end : tie.Need-part-decode-id-end
+part-decode-id-end c = search needs
+
+decode-id-requires-2 : tie.Need-decode-id-requires-2
+decode-id-requires-2 c κs = search needs
+
+enum-known-second-answer : tie.Need-enum-known-second-answer
+enum-known-second-answer c = search needs
+
+refuse-requires-2 : tie.Need-refuse-requires-2
+refuse-requires-2 c κs = search needs
+
+returns-3 : tie.Need-returns-3
+returns-3 c =
+    let a = c .before .before .before .before .before .before .before .before .before .before .before .args in
+    let x = no-value (c .before .before .decode-id2 .result .answer) (c .before .match3 .keys2) in
+    let e = rw (to-end (c .before .before .before .before .before .before .before .first-answer .given .0 .0) (now (a .message))) at (sym (c .before .before .decode-id2 .ensures) ∙ x .beside _) in
+    rw (c .refuse2 .ensures .0, c .refuse2 .ensures .1) (gives-refused (x .why) (x .beside noSubspaces) (end-refused (subspacesOf (a .reference)) (a .sources) (now (a .message)) _ _ (start-is (c .before .before .before .before .before .before)) (c .before .before .before .before .match2 .keys2) (x .why) e))
+
+add-t18 : tie.Need-add-t18
+add-t18 c =
+    let a = c .before .before .before .before .before .before .before .before .before .before .before .before .before .args in
+    omega (arith, mapped-bounded subspacesFrom _ (subspaces-bounded (subspacesOf (a .reference)) (a .sources)) .bound (now (a .message)) _ _ (both-are c))
+
+returns-4 : tie.Need-returns-4
+unfolding subspacesFrom
+returns-4 c = gives-accepted (both-are c)
+
+pub relative-decode-spec : {M : Type 1} → statement M
+relative-decode-spec =
+    tie.close
+    (tie.spec
+    decode-id-requires
+    enum-known-first-answer
+    refuse-requires
+    returns
+    enum-told
+    returns-2
+    sub-decode-id
+    part-decode-id-start
+    part-decode-id-end
+    decode-id-requires-2
+    enum-known-second-answer
+    refuse-requires-2
+    returns-3
+    add-t18
+    returns-4)

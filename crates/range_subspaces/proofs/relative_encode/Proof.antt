@@ -1,0 +1,100 @@
+use mathlib.Core.Path.{_≡_, refl, sym, ap, _∙_}
+use mathlib.Core.List.{List, _++_}
+use Prim.Native.Nat.{ℕ, _≤_}
+use native.Mathlib.Omega.{arith}
+use denote.Ref.{now}
+use lib.ListN.{length, drop, length-append, length-drop}
+use Rattle.codec.specs.Format.{allowed, over}
+use Rattle.codec.proofs.Lending.{put-full, put-fits, over-then, to-end, put-end}
+use Rattle.range_3d.specs.Record.{subspacesOf}
+use Rattle.range_subspaces.specs.Subspaces.{idBytes, subspacesBytes}
+use Rattle.range_subspaces.proofs.Exits.{open-bytes, closed-bytes, start-inside}
+use borrow.Author.Needs.{needs}
+use Rattle.range_subspaces.proofs.relative_encode.Statement.{statement}
+use Rattle.range_subspaces.proofs.relative_encode.Tie as tie
+
+bytes : (c : tie.After-end) → let a = c .before .before .before .before .before .before .before .before .before .before .args in
+    subspacesBytes (subspacesOf (a .reference)) (subspacesOf (a .subspaces)) ≡ idBytes (subspacesOf (a .reference)) (a .subspaces .start) ++ idBytes (subspacesOf (a .reference)) (a .subspaces .end)
+bytes c = let a = c .before .before .before .before .before .before .before .before .before .before .args in closed-bytes (subspacesOf (a .reference)) (subspacesOf (a .subspaces)) (a .subspaces .end) (rw (c .before .if2 .left))
+
+-- the start's bytes are in the buffer
+inside : (c : tie.After-end) → c .before .before .before .before .put-id .result ≤ length (c .before .before .before .before .put-id .last .0)
+inside c =
+    let a = c .before .before .before .before .before .before .before .before .before .before .args in
+    omega (arith, c .before .before .before .before .before .before .before .if1 .left, c .before .before .before .before .before .before .before .before .relative-len-of-encoding .ensures .0, start-inside (subspacesOf (a .reference)) (subspacesOf (a .subspaces)), c .before .before .before .before .put-id .ensures .0, c .before .before .before .before .put-id .kept .0)
+
+-- and there is room for the end's
+room : (c : tie.After-end) → let a = c .before .before .before .before .before .before .before .before .before .before .args in
+    length (idBytes (subspacesOf (a .reference)) (a .subspaces .end)) ≤ length (drop (c .before .before .before .before .put-id .result) (c .before .before .before .before .put-id .last .0))
+room c =
+    let a = c .before .before .before .before .before .before .before .before .before .before .args in
+    rw length-drop (omega (arith, c .before .before .before .before .before .before .before .if1 .left, c .before .before .before .before .before .before .before .before .relative-len-of-encoding .ensures .0, ap length (bytes c), length-append (idBytes (subspacesOf (a .reference)) (a .subspaces .start)) (idBytes (subspacesOf (a .reference)) (a .subspaces .end)), c .before .before .before .before .put-id .ensures .0, c .before .before .before .before .put-id .kept .0))
+
+relative-len-of-encoding-requires : tie.Need-relative-len-of-encoding-requires
+relative-len-of-encoding-requires c κs = search needs
+
+returns : tie.Need-returns
+returns c =
+    let a = c .before .before .before .args in
+    put-full allowed (subspacesBytes (subspacesOf (a .reference)) (subspacesOf (a .subspaces))) (now (a .buffer)) refl (c .before .relative-len-of-encoding .result) (c .before .relative-len-of-encoding .ensures .0) (c .if1 .taken)
+
+put-id-requires : tie.Need-put-id-requires
+put-id-requires c κs =
+    let a = c .before .before .before .before .before .args in
+    omega (arith, c .before .before .if1 .left, c .before .before .before .relative-len-of-encoding .ensures .0, start-inside (subspacesOf (a .reference)) (subspacesOf (a .subspaces)))
+
+same-length : tie.Need-same-length
+same-length c = search needs
+
+returns-2 : tie.Need-returns-2
+returns-2 c =
+    let a = c .before .before .before .before .before .before .before .before .before .args in
+    let l = now (a .buffer) in
+    let e = open-bytes (subspacesOf (a .reference)) (subspacesOf (a .subspaces)) (rw (c .if2 .taken)) in
+    let fits = put-fits allowed (subspacesBytes (subspacesOf (a .reference)) (subspacesOf (a .subspaces))) l refl (c .before .before .before .before .before .before .before .relative-len-of-encoding .result) (c .before .before .before .before .before .before .before .relative-len-of-encoding .ensures .0) (omega (arith, c .before .before .before .before .before .before .if1 .left)) in
+    (fits .0, c .before .before .before .put-id .ensures .1 ∙ ap (λ (bs : List ℕ). over bs l) (sym e) ∙ fits .1)
+
+sub-put-id : tie.Need-sub-put-id
+sub-put-id c = inside c
+
+part-put-id-start : tie.Need-part-put-id-start
+part-put-id-start c = inside c
+
+part-put-id-end : tie.Need-part-put-id-end
+part-put-id-end c = search needs
+
+put-id-requires-2 : tie.Need-put-id-requires-2
+put-id-requires-2 c κs = rw (to-end (c .before .before .before .before .before .put-id .result) (c .before .before .before .before .before .put-id .last .0)) (room (c .before))
+
+same-length-2 : tie.Need-same-length-2
+same-length-2 c = search needs
+
+returns-3 : tie.Need-returns-3
+returns-3 c =
+    let a = c .before .before .before .before .before .before .before .before .before .before .before .before .before .before .args in
+    let l = now (a .buffer) in
+    let p = c .before .before .before .before .before .before .before .before .put-id in
+    let q = c .before .before .put-id2 in
+    let x = idBytes (subspacesOf (a .reference)) (a .subspaces .start) in
+    let y = idBytes (subspacesOf (a .reference)) (a .subspaces .end) in
+    let fits = put-fits allowed (subspacesBytes (subspacesOf (a .reference)) (subspacesOf (a .subspaces))) l refl (c .before .before .before .before .before .before .before .before .before .before .before .before .relative-len-of-encoding .result) (c .before .before .before .before .before .before .before .before .before .before .before .before .relative-len-of-encoding .ensures .0) (omega (arith, c .before .before .before .before .before .before .before .before .before .before .before .if1 .left)) in
+    let rest = rw (to-end (p .result) (p .last .0)) at (q .ensures .1) in (
+      fits .0,
+      put-end (p .result) (p .last .0) (q .last .0) ∙ rw (rest, p .ensures .1, p .ensures .0) (over-then l x y) ∙ ap (λ (bs : List ℕ). over bs l) (sym (bytes (c .before .before .before .before))) ∙ fits .1,
+    )
+
+pub relative-encode-spec : {M : Type 1} → statement M
+relative-encode-spec =
+    tie.close
+    (tie.spec
+    relative-len-of-encoding-requires
+    returns
+    put-id-requires
+    same-length
+    returns-2
+    sub-put-id
+    part-put-id-start
+    part-put-id-end
+    put-id-requires-2
+    same-length-2
+    returns-3)

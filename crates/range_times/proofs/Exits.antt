@@ -1,0 +1,52 @@
+-- What the definitions say at each exit of the code.
+use mathlib.Core.Path.{_≡_}
+use mathlib.Core.List.{List, _++_, append-nil}
+use mathlib.Core.Bool.{Bool, true, false}
+use Prim.Native.Nat.{ℕ, _+_}
+use lib.ListN.{drop}
+use Rattle.codec.specs.Answers.{accepted, refused}
+use Rattle.compact_u64.specs.Number.{numberBytes}
+use Rattle.grouping.specs.declared.RangeEnd.{RangeEnd}
+use Rattle.grouping.specs.declared.RangeEnd.the-variants.{Closed, Open}
+use Rattle.grouping.specs.declared.TimeRange.{TimeRange}
+use Rattle.time_distance.specs.Distance.{nearestOf, sideOf, readFrom}
+use Rattle.range_times.specs.declared.Header.{Header}
+use Rattle.range_times.specs.Times.{timesBytes, readEnd, timesFrom, readTimes}
+
+-- ---- reading
+module _ (r : TimeRange) (endOpen : Bool) (h : Header) (s : List ℕ) where
+  pub end-open : endOpen ≡ true → readEnd r endOpen h s ≡ accepted Open 0
+  unfolding readEnd
+  end-open o = rw o
+
+  module _ (o : endOpen ≡ false) where
+    pub end-refused : (k : ℕ) → readFrom (sideOf r (h .«end_from_start»)) (h .«end_added») (h .«end_tag») s ≡ refused k → readEnd r endOpen h s ≡ refused k
+    unfolding readEnd
+    end-refused k e = rw (o, e)
+
+    pub end-read : (x n : ℕ) → readFrom (sideOf r (h .«end_from_start»)) (h .«end_added») (h .«end_tag») s ≡ accepted x n → readEnd r endOpen h s ≡ accepted (Closed x) n
+    unfolding readEnd
+    end-read x n e = rw (o, e)
+
+  pub times-start : (k : ℕ) → readFrom (sideOf r (h .«start_from_start»)) (h .«start_added») (h .«start_tag») s ≡ refused k → readTimes r endOpen h s ≡ refused k
+  unfolding readTimes
+  times-start k e = rw e
+
+  module _ (x a : ℕ) (e : readFrom (sideOf r (h .«start_from_start»)) (h .«start_added») (h .«start_tag») s ≡ accepted x a) where
+    pub times-end : (k : ℕ) → readEnd r endOpen h (drop a s) ≡ refused k → readTimes r endOpen h s ≡ refused k
+    unfolding readTimes
+    times-end k f = rw (e, f)
+
+    pub times-read : (y : RangeEnd) (b : ℕ) → readEnd r endOpen h (drop a s) ≡ accepted y b → readTimes r endOpen h s ≡ accepted (timesFrom x y) (a + b)
+    unfolding readTimes
+    times-read y b f = rw (e, f)
+
+-- ---- writing
+module _ (r t : TimeRange) where
+  pub times-open : t .end ≡ Open → timesBytes r t ≡ numberBytes 2 (nearestOf r (t .start) .difference)
+  unfolding timesBytes
+  times-open e = rw e (append-nil _)
+
+  pub times-closed : (x : ℕ) → t .end ≡ Closed x → timesBytes r t ≡ numberBytes 2 (nearestOf r (t .start) .difference) ++ numberBytes 2 (nearestOf r x .difference)
+  unfolding timesBytes
+  times-closed x e = rw e

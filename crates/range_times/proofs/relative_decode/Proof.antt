@@ -1,0 +1,96 @@
+use Rattle.range_3d.specs.Record.{noTimes}
+use mathlib.Core.Path.{_≡_, sym, ap, _∙_}
+use Prim.Native.Nat.{_+_}
+use native.Mathlib.Omega.{arith}
+use denote.Ref.{now}
+use Rattle.codec.specs.Answers.{accepted, answerOf}
+use Rattle.codec.specs.declared.Decoded.{Decoded}
+use Rattle.codec.proofs.Answers.{no-value, gives-refused, gives-accepted}
+use Rattle.compact_u64.specs.Answers.{numberAnswer}
+use Rattle.compact_u64.proofs.Exits.{refused-number}
+use Rattle.time_distance.specs.Distance.{sideOf, readFrom}
+use Rattle.range_times.specs.Header.{unpackHeader}
+use Rattle.range_times.specs.Times.{timesFrom, readTimes}
+use Rattle.range_times.proofs.Exits.{times-start, times-end, times-read}
+use Rattle.range_times.proofs.Times.{times-bounded}
+use borrow.Author.Needs.{needs}
+use Rattle.range_times.proofs.relative_decode.Statement.{statement}
+use Rattle.range_times.proofs.relative_decode.Tie as tie
+
+start-is : (c : tie.After-known-told) → let a = c .before .before .before .before .before .before .before .args in let x = c .before .first .given .0 in let h = unpackHeader (a .header) in
+    readFrom (sideOf (a .reference) (h .«start_from_start»)) (h .«start_added») (h .«start_tag») (now (a .message)) ≡ accepted (x .0) (x .1 .0)
+start-is c = rw (c .before .before .before .before .side .ensures, c .before .before .before .before .before .unpack .ensures) at (sym (c .before .before .before .relative-decode .ensures) ∙ ap numberAnswer (c .before .first .given .1))
+
+times-are : (c : tie.After-known-told2) → let a = c .before .before .before .before .before .before .before .before .before .before .before .args in let x = c .before .before .before .before .before .first .given .0 in
+    readTimes (a .reference) (a .end-open) (unpackHeader (a .header)) (now (a .message)) ≡ accepted (timesFrom (x .0) (c .before .before .before .decode-end .result .end)) (x .1 .0 + c .before .answer .given .0 .0)
+times-are c =
+    let a = c .before .before .before .before .before .before .before .before .before .before .before .args in
+    let e = rw (c .before .before .before .before .before .before .before .before .before .unpack .ensures) at (sym (c .before .before .before .decode-end .ensures) ∙ ap (λ (d : Decoded). answerOf d (c .before .before .before .decode-end .result .end)) (c .before .answer .given .1)) in
+    times-read (a .reference) (a .end-open) (unpackHeader (a .header)) (now (a .message)) _ _ (start-is (c .before .before .before .before)) _ _ e
+
+unpack-requires : tie.Need-unpack-requires
+unpack-requires c κs = search needs
+
+side-requires : tie.Need-side-requires
+side-requires c κs = search needs
+
+relative-decode-requires : tie.Need-relative-decode-requires
+relative-decode-requires c κs = search needs
+
+enum-known-first : tie.Need-enum-known-first
+enum-known-first c = search needs
+
+refusal-requires : tie.Need-refusal-requires
+refusal-requires c κs = search needs
+
+refuse-requires : tie.Need-refuse-requires
+refuse-requires c κs = search needs
+
+returns : tie.Need-returns
+returns c =
+    let a = c .before .before .before .before .before .before .before .args in
+    let x = refused-number noTimes (c .before .before .before .relative-decode .result) (c .before .before .match .keys2) in
+    let e = rw (c .before .before .before .before .side .ensures, c .before .before .before .before .before .unpack .ensures) at (sym (c .before .before .before .relative-decode .ensures) ∙ x .number) in
+    rw (c .refuse .ensures .0, c .refuse .ensures .1, c .before .refusal .ensures) (gives-refused (x .why) (x .whole) (times-start (a .reference) (a .end-open) (unpackHeader (a .header)) (now (a .message)) (x .why) e))
+
+decode-end-requires : tie.Need-decode-end-requires
+decode-end-requires c κs = search needs
+
+enum-known-answer : tie.Need-enum-known-answer
+enum-known-answer c = search needs
+
+refuse-requires-2 : tie.Need-refuse-requires-2
+refuse-requires-2 c κs = search needs
+
+returns-2 : tie.Need-returns-2
+returns-2 c =
+    let a = c .before .before .before .before .before .before .before .before .before .before .args in
+    let x = no-value (c .before .before .decode-end .result .answer) (c .before .match2 .keys2) in
+    let e = rw (c .before .before .before .before .before .before .before .before .unpack .ensures) at (sym (c .before .before .decode-end .ensures) ∙ x .beside (c .before .before .decode-end .result .end)) in
+    rw (c .refuse2 .ensures .0, c .refuse2 .ensures .1) (gives-refused (x .why) (x .beside noTimes) (times-end (a .reference) (a .end-open) (unpackHeader (a .header)) (now (a .message)) _ _ (start-is (c .before .before .before)) (x .why) e))
+
+add-t15 : tie.Need-add-t15
+add-t15 c =
+    let a = c .before .before .before .before .before .before .before .before .before .before .before .args in
+    omega (arith, times-bounded (a .reference) (a .end-open) (unpackHeader (a .header)) .bound (now (a .message)) _ _ (times-are c))
+
+returns-3 : tie.Need-returns-3
+returns-3 c = gives-accepted (times-are c)
+
+pub relative-decode-spec : {M : Type 1} → statement M
+relative-decode-spec =
+    tie.close
+    (tie.spec
+    unpack-requires
+    side-requires
+    relative-decode-requires
+    enum-known-first
+    refusal-requires
+    refuse-requires
+    returns
+    decode-end-requires
+    enum-known-answer
+    refuse-requires-2
+    returns-2
+    add-t15
+    returns-3)

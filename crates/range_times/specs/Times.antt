@@ -1,0 +1,45 @@
+-- docs/FORMAT.md, "3d ranges": the times of a 3d range against those of another.
+use mathlib.Core.List.{List, [], _++_}
+use mathlib.Core.Bool.{Bool}
+use Prim.Native.Nat.{ℕ}
+use Rattle.codec.specs.Reader.{Reader, give, andThen, mapped, choose}
+use Rattle.compact_u64.specs.Number.{minTag, numberBytes}
+use Rattle.grouping.specs.declared.RangeEnd.{RangeEnd}
+use Rattle.grouping.specs.declared.RangeEnd.the-variants.{Closed, Open}
+use Rattle.grouping.specs.declared.TimeRange.{TimeRange}
+use Rattle.time_distance.specs.Distance.{nearestOf, endNearest, sideOf, readFrom}
+use Rattle.range_times.specs.declared.Header.{Header}
+
+-- ---- writing: the start's difference, then the end's. For an open end flags and tag are zero, and no byte is written
+unfoldable pub headerOf : TimeRange → TimeRange → Header
+headerOf r t = record {
+  «start_from_start» = nearestOf r (t .start) .«from_start»;
+  «start_added» = nearestOf r (t .start) .added;
+  «start_tag» = minTag 2 (nearestOf r (t .start) .difference);
+  «end_from_start» = endNearest r (t .end) .«from_start»;
+  «end_added» = endNearest r (t .end) .added;
+  «end_tag» = minTag 2 (endNearest r (t .end) .difference);
+}
+
+abbrev pub endBytes : TimeRange → RangeEnd → List ℕ
+endBytes r (Closed x) = numberBytes 2 (nearestOf r x .difference)
+endBytes r Open = []
+
+unfoldable pub timesBytes : TimeRange → TimeRange → List ℕ
+timesBytes r t = numberBytes 2 (nearestOf r (t .start) .difference) ++ endBytes r (t .end)
+
+-- ---- reading: a flag that names an open end is refused once the difference is read. Flags and tag of an open end are not looked at
+unfoldable pub readEnd : TimeRange → Bool → Header → Reader RangeEnd
+readEnd r endOpen h =
+    choose endOpen
+    (give Open)
+    (mapped Closed (readFrom (sideOf r (h .«end_from_start»)) (h .«end_added») (h .«end_tag»)))
+
+abbrev pub timesFrom : ℕ → RangeEnd → TimeRange
+timesFrom start end = record { start = start; end = end }
+
+unfoldable pub readTimes : TimeRange → Bool → Header → Reader TimeRange
+readTimes r endOpen h =
+    andThen (readFrom (sideOf r (h .«start_from_start»)) (h .«start_added») (h .«start_tag»)) (λ start.
+    mapped (timesFrom start) (
+    readEnd r endOpen h))

@@ -1,0 +1,183 @@
+// The times of a 3d range against those of another: docs/FORMAT.md, "3d ranges". Part of a port of relative_encodings/range3d_range3d.rs.
+ghost use mathlib.Core.Path.{_≡_};
+ghost use Prim.Native.Nat.{_≤_};
+ghost use lib.ListN.{length, drop};
+ghost use Rattle.codec.specs.Answers.{answerOf, outcomeOf, Gives};
+ghost use Rattle.codec.specs.Format.{allowed, putAnswer, putBuffer};
+ghost use Rattle.time_distance.specs.Distance.{sideOf};
+ghost use Rattle.range_3d.specs.Record.{noTimes};
+ghost use Rattle.range_times.specs.Header.{unpackHeader, packHeader};
+ghost use Rattle.range_times.specs.Times.{headerOf, timesBytes, readEnd, readTimes};
+use codec::Decoded;
+use codec::Encoded;
+use compact_u64::DecodedU64;
+use compact_u64::TagWidth;
+use grouping::RangeEnd;
+use grouping::TimeRange;
+
+mod times_header;
+
+// What the header byte of the times says.
+pub struct Header {
+    pub start_from_start: bool,
+    pub start_added: bool,
+    pub start_tag: u8,
+    pub end_from_start: bool,
+    pub end_added: bool,
+    pub end_tag: u8,
+}
+
+// Times beside the answer; beside a refusal no time lies in them.
+pub struct DecodedTimes {
+    pub answer: Decoded,
+    pub times: TimeRange,
+}
+
+pub struct DecodedEnd {
+    pub answer: Decoded,
+    pub end: RangeEnd,
+}
+
+fn header_of(times: TimeRange, reference: TimeRange) -> Header
+    ensures { λ r. ⌜ r ≡ headerOf reference times ⌝ }
+{
+    let end = times.end;
+    let first = time_distance::nearest(reference, times.start);
+    let last = time_distance::end_nearest(reference, end);
+    Header {
+        start_from_start: first.from_start,
+        start_added: first.added,
+        start_tag: compact_u64::min_tag(TagWidth::Two, first.difference),
+        end_from_start: last.from_start,
+        end_added: last.added,
+        end_tag: compact_u64::min_tag(TagWidth::Two, last.difference),
+    }
+}
+
+// The header byte of times against a reference.
+pub fn header_byte(times: TimeRange, reference: TimeRange) -> u8
+    ensures { λ r. ⌜ r ≡ packHeader (headerOf reference times) ⌝ }
+{
+    times_header::pack(header_of(times, reference))
+}
+
+fn side(reference: TimeRange, from_start: bool) -> RangeEnd
+    ensures { λ r. ⌜ r ≡ sideOf reference «from_start» ⌝ }
+{
+    if from_start {
+        return RangeEnd::Closed(reference.start);
+    }
+    reference.end
+}
+
+fn refuse(answer: Decoded) -> DecodedTimes
+    ensures { λ r. ⌜ (r .answer ≡ answer) × (r .times ≡ noTimes) ⌝ }
+{
+    DecodedTimes {
+        answer: answer,
+        times: TimeRange {
+            start: 0,
+            end: RangeEnd::Closed(0),
+        },
+    }
+}
+
+// The end starts at `start`.
+fn decode_end(
+    message: &[u8],
+    start: usize,
+    header: Header,
+    end_open: bool,
+    reference: TimeRange,
+) -> DecodedEnd
+    ensures { λ r. ⌜ answerOf (r .answer) (r .end) ≡ readEnd reference «end_open» header (drop start (now (message .entry))) ⌝ }
+{
+    if end_open {
+        return DecodedEnd {
+            answer: Decoded::Consumed(0),
+            end: RangeEnd::Open,
+        };
+    }
+    let from = side(reference, header.end_from_start);
+    let read = time_distance::relative_decode(
+        message,
+        start,
+        from,
+        header.end_added,
+        header.end_tag,
+    );
+    let DecodedU64::Value(end, n) = read else {
+        return DecodedEnd {
+            answer: compact_u64::refusal(read),
+            end: RangeEnd::Open,
+        };
+    };
+    DecodedEnd {
+        answer: Decoded::Consumed(n),
+        end: RangeEnd::Closed(end),
+    }
+}
+
+// Reads times by their header byte; whether the end is open is told elsewhere.
+pub fn relative_decode(
+    message: &[u8],
+    header: u8,
+    end_open: bool,
+    reference: TimeRange,
+) -> DecodedTimes
+    ensures { λ r. ⌜ Gives noTimes (r .answer) (r .times) (readTimes reference «end_open» (unpackHeader header) (now (message .entry))) ⌝ }
+{
+    let said = times_header::unpack(header);
+    let from = side(reference, said.start_from_start);
+    let first = time_distance::relative_decode(message, 0, from, said.start_added, said.start_tag);
+    let DecodedU64::Value(start, a) = first else {
+        return refuse(compact_u64::refusal(first));
+    };
+    let second = decode_end(message, a, said, end_open, reference);
+    let answer = second.answer;
+    let Decoded::Consumed(b) = answer else {
+        return refuse(answer);
+    };
+    let end = second.end;
+    DecodedTimes {
+        answer: Decoded::Consumed(a + b),
+        times: TimeRange {
+            start: start,
+            end: end,
+        },
+    }
+}
+
+// How many bytes times take after their header.
+pub fn relative_len_of_encoding(times: TimeRange, reference: TimeRange) -> usize
+    ensures { λ r. ⌜ (r ≡ length (timesBytes reference times)) × (r ≤ 16) ⌝ }
+{
+    let first = time_distance::nearest(reference, times.start);
+    let a = compact_u64::relative_len_of_encoding(TagWidth::Two, first.difference);
+    let end = times.end;
+    let RangeEnd::Closed(time) = end else {
+        return a;
+    };
+    let last = time_distance::nearest(reference, time);
+    a + compact_u64::relative_len_of_encoding(TagWidth::Two, last.difference)
+}
+
+// Writes times after their header.
+pub fn relative_encode(buffer: &mut [u8], times: TimeRange, reference: TimeRange) -> Encoded
+    ensures { λ r. ⌜ (outcomeOf r ≡ putAnswer allowed (timesBytes reference times) (length (now (buffer .entry)))) × (now (buffer .exit) ≡ putBuffer allowed (timesBytes reference times) (now (buffer .entry))) ⌝ }
+{
+    let n = relative_len_of_encoding(times, reference);
+    if buffer.len() < n {
+        return Encoded::NoRoom;
+    }
+    let first = time_distance::nearest(reference, times.start);
+    let a = compact_u64::relative_len_of_encoding(TagWidth::Two, first.difference);
+    compact_u64::relative_encode(buffer, TagWidth::Two, first.difference);
+    let end = times.end;
+    let RangeEnd::Closed(time) = end else {
+        return Encoded::Length(n);
+    };
+    let last = time_distance::nearest(reference, time);
+    compact_u64::relative_encode(&mut buffer[a..], TagWidth::Two, last.difference);
+    Encoded::Length(n)
+}

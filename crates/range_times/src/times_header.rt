@@ -1,0 +1,42 @@
+// The header byte of the times of a 3d range.
+ghost use mathlib.Core.Path.{_≡_};
+ghost use Rattle.range_times.specs.Header.{unpackHeader, packHeader, HeaderFits};
+use crate::Header;
+
+// What one of each part adds to the byte.
+const START_FROM_START: u8 = 128;
+
+const START_ADDED: u8 = 64;
+
+const START_TAG: u8 = 16;
+
+const END_FROM_START: u8 = 8;
+
+const END_ADDED: u8 = 4;
+
+const END_TAG: u8 = 1;
+
+pub(crate) fn unpack(b: u8) -> Header
+    ensures { λ r. ⌜ r ≡ unpackHeader b ⌝ }
+{
+    Header {
+        start_from_start: b / START_FROM_START % 2 == 1,
+        start_added: b / START_ADDED % 2 == 1,
+        start_tag: b / START_TAG % 4,
+        end_from_start: b / END_FROM_START % 2 == 1,
+        end_added: b / END_ADDED % 2 == 1,
+        end_tag: b / END_TAG % 4,
+    }
+}
+
+pub(crate) fn pack(header: Header) -> u8
+    requires { ⌜ HeaderFits header ⌝ }
+    ensures { λ r. ⌜ r ≡ packHeader header ⌝ }
+{
+    codec::bit(header.start_from_start) * START_FROM_START
+        + codec::bit(header.start_added) * START_ADDED
+        + header.start_tag * START_TAG
+        + codec::bit(header.end_from_start) * END_FROM_START
+        + codec::bit(header.end_added) * END_ADDED
+        + header.end_tag * END_TAG
+}
