@@ -1,6 +1,6 @@
 """The lists of case lines of make_cases.py. Bytes are in hex; a path is a list of components in hex."""
 
-KINDS = ["number", "standalone", "path", "path_path", "path_extends", "area_area", "entry_area"]
+KINDS = ["number", "standalone", "path", "path_path", "path_extends", "area_area", "entry_area", "entry_entry", "range3d_range3d"]
 TOP = 2**64 - 1
 MODES = "sl"
 WIDTHS = [1, 2, 4, 8]

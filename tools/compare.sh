@@ -6,7 +6,7 @@ set -eu
 [ $# -ge 2 ] || { sed -n '2,4s/^# //p' "$0"; exit 2; }
 n=$1
 seed=$2
-kinds=${3:-number standalone path path_path path_extends area_area entry_area}
+kinds=${3:-number standalone path path_path path_extends area_area entry_area entry_entry range3d_range3d}
 chunk=200000
 
 cd "$(dirname "$0")/.."

@@ -9,7 +9,9 @@ from pathlib import Path
 sys.dont_write_bytecode = True
 import area_lists
 import case_lists
+import entry_entry_lists
 import entry_lists
+import range_lists
 from case_lists import KINDS, TOP, tabbed, text, write
 
 ROOT = Path(__file__).resolve().parent.parent
@@ -107,7 +109,7 @@ def answers(lines):
 def main():
     env = {**os.environ, "CARGO_TARGET_DIR": str(TARGET)}
     subprocess.run(["cargo", "build", "--release", "--offline", "-q"], cwd=ROOT / "oracle", env=env, check=True)
-    malformed = case_lists.malformed() + area_lists.malformed() + entry_lists.malformed()
+    malformed = case_lists.malformed() + area_lists.malformed() + entry_lists.malformed() + entry_entry_lists.malformed() + range_lists.malformed()
     if set(answers(malformed)) != {"no\t6"}:
         sys.exit("a malformed line is answered")
     lines = [
@@ -122,6 +124,8 @@ def main():
         *case_lists.raw_lines(),
         *area_lists.areas(),
         *entry_lists.entries(),
+        *entry_entry_lists.entries(),
+        *range_lists.ranges(),
         *malformed,
         *case_lists.long_lines(),
         *other_kinds(),

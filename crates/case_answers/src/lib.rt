@@ -5,7 +5,7 @@ ghost use lib.ListN.{length};
 ghost use Rattle.codec.specs.Format.{over};
 ghost use Rattle.lines.specs.Lines.{span, answers, fittingLines};
 ghost use Rattle.case_text.specs.Answers.{PutsWithin};
-ghost use Rattle.case_answers.specs.Lines.{kindOf, answerTo};
+ghost use Rattle.case_answers.specs.Lines.{recordKind, kindOf, answerTo};
 use case_paths::Encoding;
 use case_text::MAX_ANSWER;
 
@@ -17,6 +17,8 @@ pub enum Kind {
     PathExtends,
     AreaArea,
     EntryArea,
+    EntryEntry,
+    Range3d,
     Raw,
     Unknown,
 }
@@ -28,6 +30,28 @@ pub const MAX_LINE: usize = 16384;
 pub struct Answered {
     pub taken: usize,
     pub put: usize,
+}
+
+// The kinds of records other than numbers and paths.
+fn record_kind(field: &[u8]) -> Kind
+    ensures { λ r. ⌜ r ≡ recordKind (now (field .entry)) ⌝ }
+{
+    if codec::same_bytes(field, b"area_area") {
+        return Kind::AreaArea;
+    }
+    if codec::same_bytes(field, b"entry_area") {
+        return Kind::EntryArea;
+    }
+    if codec::same_bytes(field, b"entry_entry") {
+        return Kind::EntryEntry;
+    }
+    if codec::same_bytes(field, b"range3d_range3d") {
+        return Kind::Range3d;
+    }
+    if codec::same_bytes(field, b"raw") {
+        return Kind::Raw;
+    }
+    Kind::Unknown
 }
 
 fn kind_of(field: &[u8]) -> Kind
@@ -48,16 +72,7 @@ fn kind_of(field: &[u8]) -> Kind
     if codec::same_bytes(field, b"path_extends") {
         return Kind::PathExtends;
     }
-    if codec::same_bytes(field, b"area_area") {
-        return Kind::AreaArea;
-    }
-    if codec::same_bytes(field, b"entry_area") {
-        return Kind::EntryArea;
-    }
-    if codec::same_bytes(field, b"raw") {
-        return Kind::Raw;
-    }
-    Kind::Unknown
+    record_kind(field)
 }
 
 // Writes the answer to a line from a place on, and answers the next place; where fewer than MAX_ANSWER bytes are free, nothing changes.
@@ -76,6 +91,8 @@ pub fn answer(line: &[u8], out: &mut [u8], at: usize) -> usize
         Kind::PathExtends => case_paths::relative(line, out, at, Encoding::Extends),
         Kind::AreaArea => case_areas::area(line, out, at),
         Kind::EntryArea => case_entries::entry(line, out, at),
+        Kind::EntryEntry => case_entry_entry::entry(line, out, at),
+        Kind::Range3d => case_ranges::range(line, out, at),
         Kind::Raw => case_paths::raw::raw(line, out, at),
         Kind::Unknown => case_text::put::refuse(out, at),
     }

@@ -1,20 +1,16 @@
 -- Case lines of areas against an area: docs/CASES.md.
 use mathlib.Core.List.{List, _++_}
-use mathlib.Core.Bool.{false, cond}
+use mathlib.Core.Bool.{false}
 use Prim.Native.Nat.{ℕ, _+_}
-use Rattle.grouping.specs.declared.RangeEnd.{RangeEnd}
-use Rattle.grouping.specs.declared.AreaSubspace.{AreaSubspace}
 use Rattle.grouping.specs.declared.Area.{Area}
 use Rattle.area_area.specs.Answers.{emptyArea}
 use Rattle.area_area.specs.Records.{againstArea, readAgainstArea}
 use Rattle.text.specs.Decimal.{decimalText}
 use Rattle.path_text.specs.PathText.{pathTextOf}
-use Rattle.area_text.specs.declared.SubspaceField.{SubspaceField}
-use Rattle.area_text.specs.declared.EndField.{EndField}
 use Rattle.area_text.specs.AreaText.{readSubspaceText, readEndText, subspaceText, endText}
-use Rattle.case_text.specs.Texts.{six, afterTab}
+use Rattle.case_text.specs.Texts.{afterTab}
 use Rattle.case_text.specs.declared.Op.{Op}
-use Rattle.case_text.specs.Fields.{field, decimalField, pathField, opOf}
+use Rattle.case_text.specs.Fields.{field, onField, decimalField, pathField, opOf}
 use Rattle.case_text.specs.Records.{recordLine}
 use Rattle.case_areas.specs.declared.AreaField.{AreaField}
 
@@ -22,18 +18,12 @@ use Rattle.case_areas.specs.declared.AreaField.{AreaField}
 abbrev pub areaText : Area → List ℕ
 areaText a = subspaceText (a .subspace) ++ afterTab (pathTextOf (a .path)) ++ afterTab (decimalText (a .times .start)) ++ afterTab (endText (a .times .end))
 
-abbrev pub onSubspace : SubspaceField → (AreaSubspace → List ℕ) → List ℕ
-onSubspace f k = cond (f .ok) (k (f .subspace)) six
-
-abbrev pub onEnd : EndField → (RangeEnd → List ℕ) → List ℕ
-onEnd f k = cond (f .ok) (k (f .end)) six
-
 abbrev pub areaField : ℕ → List ℕ → (Area → List ℕ) → List ℕ
 areaField i line k =
-    onSubspace (readSubspaceText (field i line)) (λ subspace.
+    onField (readSubspaceText (field i line) .ok) (readSubspaceText (field i line) .subspace) (λ subspace.
     pathField (i + 1) line (λ path.
     decimalField (i + 2) line (λ start.
-    onEnd (readEndText (field (i + 3) line)) (λ end.
+    onField (readEndText (field (i + 3) line) .ok) (readEndText (field (i + 3) line) .end) (λ end.
     k (record { subspace = subspace; path = path; times = record { start = start; end = end } })))))
 
 -- ---- the line: the reference stands before the other fields
@@ -43,9 +33,6 @@ againstLine r op line = recordLine areaField areaText (λ canonic. readAgainstAr
 abbrev pub areaLine : List ℕ → List ℕ
 areaLine line = areaField 2 line (λ r. againstLine r (opOf (field 1 line)) line)
 
--- ---- what four fields that were read say to whatever comes after them
-abbrev pub onArea : AreaField → (Area → List ℕ) → List ℕ
-onArea f k = cond (f .ok) (k (f .area)) six
-
+-- what stands beside fields that are not in their form
 unfoldable pub noArea : AreaField
 noArea = record { ok = false; area = emptyArea }

@@ -1,15 +1,13 @@
 // Case lines of areas against an area: docs/CASES.md. A line is answered where MAX_ANSWER bytes are free; elsewhere nothing changes.
 ghost use mathlib.Core.Path.{_≡_};
 ghost use mathlib.Core.Bool.{cond};
-ghost use mathlib.Core.List.{List};
-ghost use Prim.Native.Nat.{ℕ};
 ghost use lib.ListN.{take};
-ghost use Rattle.grouping.specs.declared.Area as declared;
 ghost use Rattle.area_area.specs.Records.{againstArea, readAgainstArea};
 ghost use Rattle.case_text.specs.Texts.{ended};
+ghost use Rattle.case_text.specs.Fields.{Says};
 ghost use Rattle.case_text.specs.Records.{readLine, writeLine, lengthLine};
 ghost use Rattle.case_text.specs.Answers.{PutsWithin};
-ghost use Rattle.case_areas.specs.Lines.{areaText, areaField, onArea, noArea, areaLine};
+ghost use Rattle.case_areas.specs.Lines.{areaText, areaField, noArea, areaLine};
 use case_text::HexField;
 use case_text::MAX_BYTES;
 use case_text::MessageField;
@@ -52,7 +50,7 @@ fn no_area() -> AreaField
 
 // Reads the place-th field of a line and the three after it.
 pub fn read_area(line: &[u8], place: u8) -> AreaField
-    ensures { λ r. ⌜ ((k : declared.Area → List ℕ) → onArea r k ≡ areaField place (now (line .entry)) k) × (r ≡ cond (r .ok) r noArea) ⌝ }
+    ensures { λ r. ⌜ Says (areaField place (now (line .entry))) (r .ok) (r .area) × (r ≡ cond (r .ok) r noArea) ⌝ }
 {
     let i = place as usize;
     let first = area_text::read_subspace(text::part(line, b'\t', i));

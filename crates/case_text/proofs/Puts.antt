@@ -14,7 +14,7 @@ use Rattle.codec.specs.declared.Encoded.the-variants as encoded
 use Rattle.codec.specs.Answers.{outcomeOf}
 use Rattle.text.specs.Buffer.{overAt, putAt, placeAfter}
 use Rattle.text.proofs.Buffer.{overAt-then, overAt-long, putAt-fits}
-use Rattle.case_text.specs.Texts.{writtenText, writtenNumberText}
+use Rattle.case_text.specs.Texts.{afterTab, writtenText, writtenNumberText}
 use Rattle.case_text.specs.Answers.{Puts, PutsWithin}
 
 -- a put of the crate text, where there is room
@@ -43,6 +43,15 @@ puts-two {at} a b {l} {m} k few h e g =
     let long : length m ≡ length l = rw xb (overAt-long at a l (omega arith)) in
     let y = puts-fits b (omega arith) g in
     (puts-then (omega arith) x y, omega (arith, y .place))
+
+-- a text after a tab
+pub puts-tab : {a l m n o : List ℕ} {p q r : ℕ} → Puts 0 a l m p → (t : List ℕ) → length a + (1 + length t) ≤ length l
+    → (q ≡ placeAfter p (9 ∷ []) m) × (n ≡ putAt p (9 ∷ []) m) → (r ≡ placeAfter q t n) × (o ≡ putAt q t n) → Puts 0 (a ++ afterTab t) l o r
+puts-tab {a} {l} {m} x t h e f =
+    let p = x .place in
+    let b = x .buffer in
+    let long : length m ≡ length l = rw b (overAt-long 0 a l (omega arith)) in
+    puts-then (omega arith) x (puts-two (9 ∷ []) t (length t) (omega arith) (omega arith) e f .0)
 
 -- a text put from the first byte on
 pub puts-first : {t l l' : List ℕ} {r : ℕ} → Puts 0 t l l' r → take r l' ≡ t

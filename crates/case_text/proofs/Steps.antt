@@ -1,6 +1,7 @@
 -- What each way out of a line says of the answer to it: each law takes the text of the line, or of what is left of it, to the text that was put.
 use mathlib.Core.Path.{_≡_, sym, ap, _∙_}
 use mathlib.Core.List.{List, _++_}
+use mathlib.Core.Bool.{Bool, true, false}
 use Prim.Native.Nat.{ℕ, _≤_}
 use borrow.Author.Tests.{eq-eqb, ne-eqb}
 use lib.ListN.{length, take, drop}
@@ -19,7 +20,7 @@ use Rattle.case_text.specs.declared.MessageField.{MessageField}
 use Rattle.case_text.specs.declared.MessageField.the-variants as message
 use Rattle.case_text.specs.declared.Op.{Op}
 use Rattle.case_text.specs.Texts.{six, ended}
-use Rattle.case_text.specs.Fields.{exactly, decimalField, hexFieldIn, messageFieldIn, pathField, opOf}
+use Rattle.case_text.specs.Fields.{field, onField, Says, exactly, decimalField, hexFieldIn, messageFieldIn, pathField, opOf}
 use Rattle.case_text.specs.Answers.{PutsWithin, ReadsHex, ReadsMessage}
 use Rattle.case_text.proofs.Puts.{within-same}
 
@@ -43,6 +44,12 @@ module _ (i : ℕ) (line : List ℕ) {s : List ℕ} {r : Decimal} (part : s ≡ 
   pub decimal-value : {v : ℕ} → r ≡ decimal.Value v → (k : ℕ → List ℕ) → decimalField i line k ≡ k v
   decimal-value e k = rw (← part, ← read, e)
 
+  pub decimal-says : {v : ℕ} → r ≡ decimal.Value v → Says (decimalField i line) true v
+  decimal-says e = record { said = λ k. sym (decimal-value e k) }
+
+  pub decimal-says-no : r ≡ decimal.Refused → Says (decimalField i line) false 0
+  decimal-says-no e = record { said = λ k. sym (decimal-refused e k) }
+
 -- ---- the i-th field as a path, which was read
 module _ (i : ℕ) (line : List ℕ) {s : List ℕ} {r : PathField} (part : s ≡ partAt 9 i line) (read : r ≡ readPathText s) where
   pub path-refused : r .found ≡ found.Refused → (k : Path → List ℕ) → pathField i line k ≡ six
@@ -50,6 +57,12 @@ module _ (i : ℕ) (line : List ℕ) {s : List ℕ} {r : PathField} (part : s �
 
   pub path-value : r .found ≡ found.Read → (k : Path → List ℕ) → pathField i line k ≡ k (r .path)
   path-value e k = rw (← part, ← read, e)
+
+  pub path-says : r .found ≡ found.Read → Says (pathField i line) true (r .path)
+  path-says e = record { said = λ k. sym (path-value e k) }
+
+  pub path-says-no : r .found ≡ found.Refused → Says (pathField i line) false (r .path)
+  path-says-no e = record { said = λ k. sym (path-refused e k) }
 
 -- ---- the i-th field as bytes in hex, which was read into a buffer
 module _ {room : ℕ} (i : ℕ) (line : List ℕ) {buffer : List ℕ} {r : HexField} (read : ReadsHex room i line buffer r) where
@@ -86,6 +99,29 @@ module _ {room : ℕ} (i : ℕ) (line : List ℕ) {buffer : List ℕ} {r : Messa
     -- as long as it says
     pub message-long : length (take n buffer) ≡ n
     message-long = length-take-le n buffer message-inside
+
+-- ---- the i-th field read by a parser that says whether it is in its form
+module _ {R A : Type 0} (parse : List ℕ → R) (ok : R → Bool) (value : R → A) (i : ℕ) (line : List ℕ) {s : List ℕ} {r : R} (part : s ≡ partAt 9 i line) (read : r ≡ parse s) where
+  pub field-says : (b : Bool) → ok r ≡ b → Says (λ k. onField (ok (parse (field i line))) (value (parse (field i line))) k) b (value r)
+  field-says b e = record { said = λ k. rw (← part, ← read, e) }
+
+-- ---- fields one after another: the first was in its form, or it was not
+module _ {A B : Type 0} {f : (A → List ℕ) → List ℕ} {a : A} (g : A → (B → List ℕ) → List ℕ) where
+  pub says-then : {ok : Bool} {b : B} → Says f true a → Says (g a) ok b → Says (λ k. f (λ a. g a k)) ok b
+  says-then first second = record { said = λ k. second .said k ∙ first .said (λ a. g a k) }
+
+  pub says-none : (b : B) → Says f false a → Says (λ k. f (λ a. g a k)) false b
+  says-none b first = record { said = λ k. first .said (λ a. g a k) }
+
+module _ {A : Type 0} {f : (A → List ℕ) → List ℕ} {ok : Bool} {a : A} (s : Says f ok a) where
+  pub says-as : {b : Bool} → ok ≡ b → Says f b a
+  says-as e = rw (← e) s
+
+  pub says-value : ok ≡ true → (k : A → List ℕ) → f k ≡ k a
+  says-value e k = rw e at (sym (s .said k))
+
+  pub says-refused : ok ≡ false → (k : A → List ℕ) → f k ≡ six
+  says-refused e k = rw e at (sym (s .said k))
 
 -- ---- the operation, which was told from its field
 pub op-told : (line : List ℕ) {s : List ℕ} {r x : Op} → s ≡ partAt 9 1 line → r ≡ opOf s → r ≡ x → (f : Op → List ℕ) → f (opOf (partAt 9 1 line)) ≡ f x

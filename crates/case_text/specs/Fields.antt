@@ -1,6 +1,7 @@
 -- The fields of a line, parted by tabs. What is not in its form is answered 6.
+use mathlib.Core.Path.{_≡_}
 use mathlib.Core.List.{List, [], _∷_}
-use mathlib.Core.Bool.{cond}
+use mathlib.Core.Bool.{Bool, cond}
 use Prim.Native.Nat.{ℕ, _+_}
 use lib.Dec.{eqb}
 use lib.ListN.{length}
@@ -11,6 +12,7 @@ use Rattle.path_text.specs.PathText.{readPathText}
 use Rattle.codec.specs.Bytes.{sameBytes}
 use Rattle.text.specs.Parts.{parts, partAt}
 use Rattle.text.specs.Hex.{unhex}
+use Rattle.text.specs.Ids.{readId}
 use Rattle.text.specs.Fields.{readDecimal, readHex}
 use Rattle.text.specs.declared.Decimal.{Decimal}
 use Rattle.text.specs.declared.Decimal.the-variants as decimal
@@ -26,6 +28,14 @@ field i line = partAt 9 i line
 -- so many fields, no more and no fewer
 abbrev pub exactly : ℕ → List ℕ → List ℕ → List ℕ
 exactly n line t = cond (eqb (length (parts 9 line)) n) t six
+
+-- what a field that was read, or several, says to whatever comes after it
+abbrev pub onField : {A : Type 0} → Bool → A → (A → List ℕ) → List ℕ
+onField ok a k = cond ok (k a) six
+
+-- a and whether it is in its form are what fields say
+pub record Says {A : Type 0} (f : (A → List ℕ) → List ℕ) (ok : Bool) (a : A) : Type 0 where
+  pub said : (k : A → List ℕ) → onField ok a k ≡ f k
 
 -- a number in decimal
 abbrev pub onDecimal : Decimal → (ℕ → List ℕ) → List ℕ
@@ -54,6 +64,10 @@ messageFieldIn room i line k = exactly (i + 2) line (decimalField i line (λ sta
 
 abbrev pub messageField : ℕ → List ℕ → (ℕ → List ℕ → List ℕ) → List ℕ
 messageField i line k = messageFieldIn 8192 i line k
+
+-- an id or a digest
+abbrev pub idField : ℕ → List ℕ → (List ℕ → List ℕ) → List ℕ
+idField i line k = onField (readId (field i line) .ok) (readId (field i line) .id) k
 
 -- a path
 abbrev pub onPath : Found → Path → (Path → List ℕ) → List ℕ

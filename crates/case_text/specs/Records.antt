@@ -38,3 +38,11 @@ recordLine parse print reader format i j op.Lenient line = readLine print (reade
 recordLine parse print reader format i j op.Write line = writeLine parse format i j line
 recordLine parse print reader format i j op.Length line = lengthLine parse format i j line
 recordLine parse print reader format i j op.Unknown line = six
+
+-- the same of a record that is read leniently only
+abbrev pub lenientLine : {A : Type 0} → (ℕ → List ℕ → (A → List ℕ) → List ℕ) → (A → List ℕ) → Reader A → Format A → ℕ → ℕ → Op → List ℕ → List ℕ
+lenientLine parse print reader format i j op.Lenient line = readLine print reader i line
+lenientLine parse print reader format i j op.Write line = writeLine parse format i j line
+lenientLine parse print reader format i j op.Length line = lengthLine parse format i j line
+lenientLine parse print reader format i j op.Strict line = six
+lenientLine parse print reader format i j op.Unknown line = six

@@ -68,11 +68,23 @@ entry-requires c κs = search needs
 enum-told-8 : tie.Need-enum-told-8
 enum-told-8 c = search needs
 
-raw-requires : tie.Need-raw-requires
-raw-requires c κs = search needs
+entry-requires-2 : tie.Need-entry-requires-2
+entry-requires-2 c κs = search needs
 
 enum-told-9 : tie.Need-enum-told-9
 enum-told-9 c = search needs
+
+range-requires : tie.Need-range-requires
+range-requires c κs = search needs
+
+enum-told-10 : tie.Need-enum-told-10
+enum-told-10 c = search needs
+
+raw-requires : tie.Need-raw-requires
+raw-requires c κs = search needs
+
+enum-told-11 : tie.Need-enum-told-11
+enum-told-11 c = search needs
 
 refuse-requires-2 : tie.Need-refuse-requires-2
 refuse-requires-2 c κs = search needs
@@ -139,7 +151,7 @@ same-length-9 c = search needs
 returns-9 : tie.Need-returns-9
 returns-9 c =
     let line = now (c .before .before .before .before .before .before .before .before .before .before .before .args .line) in
-    within-same (kind-told line (omega arith) (c .before .before .before .before .before .before .before .part .ensures) (c .before .before .before .before .before .before .kind-of .ensures) (c .before .before .before .before .enum-told8 .given .1)) (c .before .before .raw .ensures)
+    within-same (kind-told line (omega arith) (c .before .before .before .before .before .before .before .part .ensures) (c .before .before .before .before .before .before .kind-of .ensures) (c .before .before .before .before .enum-told8 .given .1)) (c .before .before .entry2 .ensures)
 
 same-length-10 : tie.Need-same-length-10
 same-length-10 c = search needs
@@ -147,7 +159,23 @@ same-length-10 c = search needs
 returns-10 : tie.Need-returns-10
 returns-10 c =
     let line = now (c .before .before .before .before .before .before .before .before .before .before .before .args .line) in
-    within-same (kind-told line (omega arith) (c .before .before .before .before .before .before .before .part .ensures) (c .before .before .before .before .before .before .kind-of .ensures) (c .before .before .before .before .enum-told9 .given .1)) (c .before .before .refuse2 .ensures)
+    within-same (kind-told line (omega arith) (c .before .before .before .before .before .before .before .part .ensures) (c .before .before .before .before .before .before .kind-of .ensures) (c .before .before .before .before .enum-told9 .given .1)) (c .before .before .range .ensures)
+
+same-length-11 : tie.Need-same-length-11
+same-length-11 c = search needs
+
+returns-11 : tie.Need-returns-11
+returns-11 c =
+    let line = now (c .before .before .before .before .before .before .before .before .before .before .before .args .line) in
+    within-same (kind-told line (omega arith) (c .before .before .before .before .before .before .before .part .ensures) (c .before .before .before .before .before .before .kind-of .ensures) (c .before .before .before .before .enum-told10 .given .1)) (c .before .before .raw .ensures)
+
+same-length-12 : tie.Need-same-length-12
+same-length-12 c = search needs
+
+returns-12 : tie.Need-returns-12
+returns-12 c =
+    let line = now (c .before .before .before .before .before .before .before .before .before .before .before .args .line) in
+    within-same (kind-told line (omega arith) (c .before .before .before .before .before .before .before .part .ensures) (c .before .before .before .before .before .before .kind-of .ensures) (c .before .before .before .before .enum-told11 .given .1)) (c .before .before .refuse2 .ensures)
 
 pub answer-spec : {M : Type 1} → statement M
 answer-spec =
@@ -173,8 +201,12 @@ answer-spec =
     enum-told-7
     entry-requires
     enum-told-8
-    raw-requires
+    entry-requires-2
     enum-told-9
+    range-requires
+    enum-told-10
+    raw-requires
+    enum-told-11
     refuse-requires-2
     same-length-2
     returns-2
@@ -193,4 +225,8 @@ answer-spec =
     same-length-9
     returns-9
     same-length-10
-    returns-10)
+    returns-10
+    same-length-11
+    returns-11
+    same-length-12
+    returns-12)

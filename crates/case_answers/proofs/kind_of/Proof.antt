@@ -11,7 +11,8 @@ same-bytes-requires c κs = search needs
 
 returns : tie.Need-returns
 unfolding kindOf
-returns c = rw (← (c .before .same-bytes .ensures), c .if1 .taken)
+returns c =
+    rw (← (c .before .same-bytes .ensures), c .if1 .taken)
 
 slice-aggregate-same-bytes-2 : tie.Need-slice-aggregate-same-bytes-2
 slice-aggregate-same-bytes-2 c = search needs
@@ -36,14 +37,7 @@ unfolding kindOf
 returns-3 c =
     let c2 = c .before .before .before in
     let c1 = c2 .before .before .before in
-    rw (
-      ← (c1 .before .same-bytes .ensures),
-      c1 .if1 .left,
-      ← (c2 .before .same-bytes2 .ensures),
-      c2 .if2 .left,
-      ← (c .before .same-bytes3 .ensures),
-      c .if3 .taken,
-    )
+    rw (← (c1 .before .same-bytes .ensures), c1 .if1 .left, ← (c2 .before .same-bytes2 .ensures), c2 .if2 .left, ← (c .before .same-bytes3 .ensures), c .if3 .taken)
 
 slice-aggregate-same-bytes-4 : tie.Need-slice-aggregate-same-bytes-4
 slice-aggregate-same-bytes-4 c = search needs
@@ -57,16 +51,7 @@ returns-4 c =
     let c3 = c .before .before .before in
     let c2 = c3 .before .before .before in
     let c1 = c2 .before .before .before in
-    rw (
-      ← (c1 .before .same-bytes .ensures),
-      c1 .if1 .left,
-      ← (c2 .before .same-bytes2 .ensures),
-      c2 .if2 .left,
-      ← (c3 .before .same-bytes3 .ensures),
-      c3 .if3 .left,
-      ← (c .before .same-bytes4 .ensures),
-      c .if4 .taken,
-    )
+    rw (← (c1 .before .same-bytes .ensures), c1 .if1 .left, ← (c2 .before .same-bytes2 .ensures), c2 .if2 .left, ← (c3 .before .same-bytes3 .ensures), c3 .if3 .left, ← (c .before .same-bytes4 .ensures), c .if4 .taken)
 
 slice-aggregate-same-bytes-5 : tie.Need-slice-aggregate-same-bytes-5
 slice-aggregate-same-bytes-5 c = search needs
@@ -81,143 +66,20 @@ returns-5 c =
     let c3 = c4 .before .before .before in
     let c2 = c3 .before .before .before in
     let c1 = c2 .before .before .before in
-    rw (
-      ← (c1 .before .same-bytes .ensures),
-      c1 .if1 .left,
-      ← (c2 .before .same-bytes2 .ensures),
-      c2 .if2 .left,
-      ← (c3 .before .same-bytes3 .ensures),
-      c3 .if3 .left,
-      ← (c4 .before .same-bytes4 .ensures),
-      c4 .if4 .left,
-      ← (c .before .same-bytes5 .ensures),
-      c .if5 .taken,
-    )
+    rw (← (c1 .before .same-bytes .ensures), c1 .if1 .left, ← (c2 .before .same-bytes2 .ensures), c2 .if2 .left, ← (c3 .before .same-bytes3 .ensures), c3 .if3 .left, ← (c4 .before .same-bytes4 .ensures), c4 .if4 .left, ← (c .before .same-bytes5 .ensures), c .if5 .taken)
 
-slice-aggregate-same-bytes-6 : tie.Need-slice-aggregate-same-bytes-6
-slice-aggregate-same-bytes-6 c = search needs
-
-same-bytes-requires-6 : tie.Need-same-bytes-requires-6
-same-bytes-requires-6 c κs = search needs
+record-kind-requires : tie.Need-record-kind-requires
+record-kind-requires c κs = search needs
 
 returns-6 : tie.Need-returns-6
 unfolding kindOf
 returns-6 c =
-    let c5 = c .before .before .before in
+    let c5 = c .before in
     let c4 = c5 .before .before .before in
     let c3 = c4 .before .before .before in
     let c2 = c3 .before .before .before in
     let c1 = c2 .before .before .before in
-    rw (
-      ← (c1 .before .same-bytes .ensures),
-      c1 .if1 .left,
-      ← (c2 .before .same-bytes2 .ensures),
-      c2 .if2 .left,
-      ← (c3 .before .same-bytes3 .ensures),
-      c3 .if3 .left,
-      ← (c4 .before .same-bytes4 .ensures),
-      c4 .if4 .left,
-      ← (c5 .before .same-bytes5 .ensures),
-      c5 .if5 .left,
-      ← (c .before .same-bytes6 .ensures),
-      c .if6 .taken,
-    )
-
-slice-aggregate-same-bytes-7 : tie.Need-slice-aggregate-same-bytes-7
-slice-aggregate-same-bytes-7 c = search needs
-
-same-bytes-requires-7 : tie.Need-same-bytes-requires-7
-same-bytes-requires-7 c κs = search needs
-
-returns-7 : tie.Need-returns-7
-unfolding kindOf
-returns-7 c =
-    let c6 = c .before .before .before in
-    let c5 = c6 .before .before .before in
-    let c4 = c5 .before .before .before in
-    let c3 = c4 .before .before .before in
-    let c2 = c3 .before .before .before in
-    let c1 = c2 .before .before .before in
-    rw (
-      ← (c1 .before .same-bytes .ensures),
-      c1 .if1 .left,
-      ← (c2 .before .same-bytes2 .ensures),
-      c2 .if2 .left,
-      ← (c3 .before .same-bytes3 .ensures),
-      c3 .if3 .left,
-      ← (c4 .before .same-bytes4 .ensures),
-      c4 .if4 .left,
-      ← (c5 .before .same-bytes5 .ensures),
-      c5 .if5 .left,
-      ← (c6 .before .same-bytes6 .ensures),
-      c6 .if6 .left,
-      ← (c .before .same-bytes7 .ensures),
-      c .if7 .taken,
-    )
-
-slice-aggregate-same-bytes-8 : tie.Need-slice-aggregate-same-bytes-8
-slice-aggregate-same-bytes-8 c = search needs
-
-same-bytes-requires-8 : tie.Need-same-bytes-requires-8
-same-bytes-requires-8 c κs = search needs
-
-returns-8 : tie.Need-returns-8
-unfolding kindOf
-returns-8 c =
-    let c7 = c .before .before .before in
-    let c6 = c7 .before .before .before in
-    let c5 = c6 .before .before .before in
-    let c4 = c5 .before .before .before in
-    let c3 = c4 .before .before .before in
-    let c2 = c3 .before .before .before in
-    let c1 = c2 .before .before .before in
-    rw (
-      ← (c1 .before .same-bytes .ensures),
-      c1 .if1 .left,
-      ← (c2 .before .same-bytes2 .ensures),
-      c2 .if2 .left,
-      ← (c3 .before .same-bytes3 .ensures),
-      c3 .if3 .left,
-      ← (c4 .before .same-bytes4 .ensures),
-      c4 .if4 .left,
-      ← (c5 .before .same-bytes5 .ensures),
-      c5 .if5 .left,
-      ← (c6 .before .same-bytes6 .ensures),
-      c6 .if6 .left,
-      ← (c7 .before .same-bytes7 .ensures),
-      c7 .if7 .left,
-      ← (c .before .same-bytes8 .ensures),
-      c .if8 .taken,
-    )
-
-returns-9 : tie.Need-returns-9
-unfolding kindOf
-returns-9 c =
-    let c7 = c .before .before .before in
-    let c6 = c7 .before .before .before in
-    let c5 = c6 .before .before .before in
-    let c4 = c5 .before .before .before in
-    let c3 = c4 .before .before .before in
-    let c2 = c3 .before .before .before in
-    let c1 = c2 .before .before .before in
-    rw (
-      ← (c1 .before .same-bytes .ensures),
-      c1 .if1 .left,
-      ← (c2 .before .same-bytes2 .ensures),
-      c2 .if2 .left,
-      ← (c3 .before .same-bytes3 .ensures),
-      c3 .if3 .left,
-      ← (c4 .before .same-bytes4 .ensures),
-      c4 .if4 .left,
-      ← (c5 .before .same-bytes5 .ensures),
-      c5 .if5 .left,
-      ← (c6 .before .same-bytes6 .ensures),
-      c6 .if6 .left,
-      ← (c7 .before .same-bytes7 .ensures),
-      c7 .if7 .left,
-      ← (c .before .same-bytes8 .ensures),
-      c .if8 .left,
-    )
+    rw (← (c1 .before .same-bytes .ensures), c1 .if1 .left, ← (c2 .before .same-bytes2 .ensures), c2 .if2 .left, ← (c3 .before .same-bytes3 .ensures), c3 .if3 .left, ← (c4 .before .same-bytes4 .ensures), c4 .if4 .left, ← (c5 .before .same-bytes5 .ensures), c5 .if5 .left) (c .record-kind .ensures)
 
 pub kind-of-spec : {M : Type 1} → statement M
 kind-of-spec =
@@ -238,13 +100,5 @@ kind-of-spec =
     slice-aggregate-same-bytes-5
     same-bytes-requires-5
     returns-5
-    slice-aggregate-same-bytes-6
-    same-bytes-requires-6
-    returns-6
-    slice-aggregate-same-bytes-7
-    same-bytes-requires-7
-    returns-7
-    slice-aggregate-same-bytes-8
-    same-bytes-requires-8
-    returns-8
-    returns-9)
+    record-kind-requires
+    returns-6)

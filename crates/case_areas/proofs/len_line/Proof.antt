@@ -2,9 +2,8 @@ use denote.Ref.{now}
 use Rattle.area_area.specs.Records.{againstArea}
 use Rattle.case_areas.specs.Lines.{areaField}
 use borrow.Author.Tests.{not-true, not-false}
-use Rattle.case_text.proofs.Steps.{puts}
+use Rattle.case_text.proofs.Steps.{puts, says-refused, says-value}
 use Rattle.case_text.proofs.RecordSteps.{length-fields, length-value, length-answer}
-use Rattle.case_areas.proofs.AreaSteps.{area-refused, area-value}
 use borrow.Author.Needs.{needs}
 use Rattle.case_areas.proofs.len_line.Statement.{statement}
 use Rattle.case_areas.proofs.len_line.Tie as tie
@@ -36,7 +35,7 @@ returns-2 : tie.Need-returns-2
 returns-2 c =
     let a = c .before .before .before .before .before .before .before .before .before .before .before .args in
     let line = now (a .line) in
-    puts (length-value areaField (againstArea (a .reference)) 6 10 line (c .before .before .before .before .before .before .before .before .part-count .ensures) (c .before .before .before .before .before .before .before .if1 .left) (area-refused 6 line (c .before .before .before .before .before .before .read-area .result) (c .before .before .before .before .before .before .read-area .ensures .0) (not-true _ (c .before .before .before .before .if2 .taken)))) (c .before .before .refuse2 .ensures)
+    puts (length-value areaField (againstArea (a .reference)) 6 10 line (c .before .before .before .before .before .before .before .before .part-count .ensures) (c .before .before .before .before .before .before .before .if1 .left) (says-refused (c .before .before .before .before .before .before .read-area .ensures .0) (not-true _ (c .before .before .before .before .if2 .taken)))) (c .before .before .refuse2 .ensures)
 
 relative-len-of-encoding-requires : tie.Need-relative-len-of-encoding-requires
 relative-len-of-encoding-requires c κs = search needs
@@ -51,7 +50,7 @@ returns-3 : tie.Need-returns-3
 returns-3 c =
     let a = c .before .before .before .before .before .before .before .before .before .before .before .before .before .args in
     let line = now (a .line) in
-    let value = area-value 6 line (c .before .before .before .before .before .before .before .before .read-area .result) (c .before .before .before .before .before .before .before .before .read-area .ensures .0) (not-false _ (c .before .before .before .before .before .before .if2 .left)) in
+    let value = says-value (c .before .before .before .before .before .before .before .before .read-area .ensures .0) (not-false _ (c .before .before .before .before .before .before .if2 .left)) in
     puts (length-answer areaField (againstArea (a .reference)) 6 10 line (c .before .before .before .before .before .before .before .before .before .before .part-count .ensures) (c .before .before .before .before .before .before .before .before .before .if1 .left) _ value (c .before .before .before .relative-len-of-encoding .ensures)) (c .before .before .length .ensures)
 
 pub len-line-spec : {M : Type 1} → statement M

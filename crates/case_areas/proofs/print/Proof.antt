@@ -6,10 +6,10 @@ use Rattle.path_text.proofs.Back.{path-text-laws}
 use Rattle.area_text.specs.AreaText.{subspaceText, endText}
 use Rattle.grouping.proofs.Typed.{typed-area}
 use Rattle.case_text.specs.Texts.{afterTab}
-use Rattle.case_text.proofs.Puts.{puts-fits, puts-first}
+use Rattle.case_text.proofs.Puts.{puts-tab, puts-fits, puts-first}
 use lib.ListN.{length-append}
 use mathlib.Core.List.{_++_}
-use Rattle.case_areas.proofs.AreaSteps.{puts-tab, subspace-few, end-few}
+use Rattle.area_text.proofs.Short.{subspace-few, end-few}
 use borrow.Author.Needs.{needs}
 use Rattle.case_areas.proofs.print.Statement.{statement}
 use Rattle.case_areas.proofs.print.Tie as tie

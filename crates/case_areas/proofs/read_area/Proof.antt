@@ -1,9 +1,17 @@
-use mathlib.Core.Path.{refl}
-use Prim.Native.Nat.{_+_}
+use mathlib.Core.Path.{_≡_, refl, sym, ap, _∙_}
+use mathlib.Core.Bool.{true, false}
+use mathlib.Core.List.{List}
+use Prim.Native.Nat.{ℕ, _+_}
 use denote.Ref.{now}
 use borrow.Author.Tests.{not-true, not-false}
-use Rattle.case_text.proofs.Steps.{path-refused, path-value, decimal-refused, decimal-value}
-use Rattle.case_areas.proofs.AreaSteps.{subspace-refused, subspace-value, end-refused, end-value, no-ok, no-beside, none-read, no-first, no-second, no-third, no-fourth, four-read}
+use Rattle.path.specs.declared.Path.{Path}
+use Rattle.grouping.specs.declared.RangeEnd.{RangeEnd}
+use Rattle.grouping.specs.declared.AreaSubspace.{AreaSubspace}
+use Rattle.grouping.specs.declared.Area.{Area}
+use Rattle.area_text.specs.AreaText.{readSubspaceText, readEndText}
+use Rattle.case_text.specs.Fields.{field, onField, decimalField, pathField}
+use Rattle.case_text.proofs.Steps.{decimal-says, decimal-says-no, path-says, path-says-no, field-says, says-then, says-none}
+use Rattle.case_areas.specs.Lines.{noArea}
 use borrow.Author.Needs.{needs}
 use Rattle.case_areas.proofs.read_area.Statement.{statement}
 use Rattle.case_areas.proofs.read_area.Tie as tie
@@ -16,105 +24,141 @@ use Rattle.path_text.proofs.read_path.Reads as read-path-reads
 use Rattle.text.proofs.part.Reads as part-reads
 use Rattle.text.proofs.read_decimal.Reads as read-decimal-reads
 
+-- what comes after each field
+abbrev end-of : AreaSubspace → Path → ℕ → RangeEnd → (Area → List ℕ) → List ℕ
+end-of s p t e k = k (record { subspace = s; path = p; times = record { start = t; end = e } })
+
+abbrev start-of : ℕ → List ℕ → AreaSubspace → Path → ℕ → (Area → List ℕ) → List ℕ
+start-of i line s p t k = onField (readEndText (field (i + 3) line) .ok) (readEndText (field (i + 3) line) .end) (λ e. end-of s p t e k)
+
+abbrev path-of : ℕ → List ℕ → AreaSubspace → Path → (Area → List ℕ) → List ℕ
+path-of i line s p k = decimalField (i + 2) line (λ t. start-of i line s p t k)
+
+abbrev subspace-of : ℕ → List ℕ → AreaSubspace → (Area → List ℕ) → List ℕ
+subspace-of i line s k = pathField (i + 1) line (λ p. path-of i line s p k)
+
+-- src/lib.rt:56:42
 part-requires : tie.Need-part-requires
 part-requires c κs = search needs
 
+-- src/lib.rt:56:9
 read-subspace-requires : tie.Need-read-subspace-requires
 read-subspace-requires c κs = search needs
 
+-- src/lib.rt:58:9
 no-area-requires : tie.Need-no-area-requires
 no-area-requires c κs = search needs
 
+-- src/lib.rt:58:9
 returns : tie.Need-returns
+unfolding noArea
 returns c =
     let i = c .before .before .before .before .before .before .args .place in
     let line = now (c .before .before .before .before .before .before .args .line) in
-    let none = c .no-area in
-    (λ k. none-read i line (none .result) (no-ok (none .result) (none .ensures)) k (no-first i line k (subspace-refused i line (c .before .before .before .before .part .ensures) (c .before .before .before .read-subspace .ensures) (not-true _ (c .before .if1 .taken)))), no-beside (none .result) (none .ensures))
+    rw (c .no-area .ensures) (says-none (subspace-of i line) _ (field-says readSubspaceText (λ r. r .ok) (λ r. r .subspace) i line (c .before .before .before .before .part .ensures) (c .before .before .before .read-subspace .ensures) false (not-true _ (c .before .if1 .taken))), refl)
 
+-- src/lib.rt:60:63
 add-part : tie.Need-add-part
 add-part c = search needs
 
+-- src/lib.rt:60:39
 part-requires-2 : tie.Need-part-requires-2
 part-requires-2 c κs = search needs
 
+-- src/lib.rt:60:9
 read-path-requires : tie.Need-read-path-requires
 read-path-requires c κs = search needs
 
 enum-told : tie.Need-enum-told
 enum-told c = search needs
 
+-- src/lib.rt:63:9
 enum-told-2 : tie.Need-enum-told-2
 enum-told-2 c = search needs
 
+-- src/lib.rt:63:9
 no-area-requires-2 : tie.Need-no-area-requires-2
 no-area-requires-2 c κs = search needs
 
+-- src/lib.rt:63:9
 returns-2 : tie.Need-returns-2
+unfolding noArea
 returns-2 c =
     let i = c .before .before .before .before .before .before .before .before .before .before .args .place in
     let line = now (c .before .before .before .before .before .before .before .before .before .before .args .line) in
-    let first = subspace-value i line (c .before .before .before .before .before .before .before .before .part .ensures) (c .before .before .before .before .before .before .before .read-subspace .ensures) (not-false _ (c .before .before .before .before .before .if1 .left)) in
-    let none = c .no-area2 in
-    (λ k. none-read i line (none .result) (no-ok (none .result) (none .ensures)) k (no-second i line k _ first (path-refused (i + 1) line (c .before .before .before .before .part2 .ensures) (c .before .before .before .read-path .ensures) (c .before .enum-told2 .given .1))), no-beside (none .result) (none .ensures))
+    let first = field-says readSubspaceText (λ r. r .ok) (λ r. r .subspace) i line (c .before .before .before .before .before .before .before .before .part .ensures) (c .before .before .before .before .before .before .before .read-subspace .ensures) true (not-false _ (c .before .before .before .before .before .if1 .left)) in
+    rw (c .no-area2 .ensures) (says-then (subspace-of i line) first (says-none (path-of i line _) _ (path-says-no (i + 1) line (c .before .before .before .before .part2 .ensures) (c .before .before .before .read-path .ensures) (c .before .enum-told2 .given .1))), refl)
 
+-- src/lib.rt:65:60
 add-part-2 : tie.Need-add-part-2
 add-part-2 c = search needs
 
+-- src/lib.rt:65:36
 part-requires-3 : tie.Need-part-requires-3
 part-requires-3 c κs = search needs
 
+-- src/lib.rt:65:9
 read-decimal-requires : tie.Need-read-decimal-requires
 read-decimal-requires c κs = search needs
 
+-- src/lib.rt:66:24
 enum-known-third : tie.Need-enum-known-third
 enum-known-third c = search needs
 
+-- src/lib.rt:67:9
 enum-told-3 : tie.Need-enum-told-3
 enum-told-3 c = search needs
 
+-- src/lib.rt:67:9
 no-area-requires-3 : tie.Need-no-area-requires-3
 no-area-requires-3 c κs = search needs
 
+-- src/lib.rt:67:9
 returns-3 : tie.Need-returns-3
+unfolding noArea
 returns-3 c =
     let i = c .before .before .before .before .before .before .before .before .before .before .before .before .before .before .args .place in
     let line = now (c .before .before .before .before .before .before .before .before .before .before .before .before .before .before .args .line) in
-    let first = subspace-value i line (c .before .before .before .before .before .before .before .before .before .before .before .before .part .ensures) (c .before .before .before .before .before .before .before .before .before .before .before .read-subspace .ensures) (not-false _ (c .before .before .before .before .before .before .before .before .before .if1 .left)) in
-    let second = path-value (i + 1) line (c .before .before .before .before .before .before .before .before .part2 .ensures) (c .before .before .before .before .before .before .before .read-path .ensures) (c .before .before .before .before .before .enum-told .given .1) in
-    let none = c .no-area3 in
-    (λ k. none-read i line (none .result) (no-ok (none .result) (none .ensures)) k (no-third i line k _ first _ second (decimal-refused (i + 2) line (c .before .before .before .before .part3 .ensures) (c .before .before .before .read-decimal .ensures) (c .before .enum-told3 .given .1))), no-beside (none .result) (none .ensures))
+    let first = field-says readSubspaceText (λ r. r .ok) (λ r. r .subspace) i line (c .before .before .before .before .before .before .before .before .before .before .before .before .part .ensures) (c .before .before .before .before .before .before .before .before .before .before .before .read-subspace .ensures) true (not-false _ (c .before .before .before .before .before .before .before .before .before .if1 .left)) in
+    let second = path-says (i + 1) line (c .before .before .before .before .before .before .before .before .part2 .ensures) (c .before .before .before .before .before .before .before .read-path .ensures) (c .before .before .before .before .before .enum-told .given .1) in
+    rw (c .no-area3 .ensures) (says-then (subspace-of i line) first (says-then (path-of i line _) second (says-none (start-of i line _ _) _ (decimal-says-no (i + 2) line (c .before .before .before .before .part3 .ensures) (c .before .before .before .read-decimal .ensures) (c .before .enum-told3 .given .1)))), refl)
 
+-- src/lib.rt:69:62
 add-part-3 : tie.Need-add-part-3
 add-part-3 c = search needs
 
+-- src/lib.rt:69:38
 part-requires-4 : tie.Need-part-requires-4
 part-requires-4 c κs = search needs
 
+-- src/lib.rt:69:9
 read-end-requires : tie.Need-read-end-requires
 read-end-requires c κs = search needs
 
+-- src/lib.rt:71:9
 no-area-requires-4 : tie.Need-no-area-requires-4
 no-area-requires-4 c κs = search needs
 
+-- src/lib.rt:71:9
 returns-4 : tie.Need-returns-4
+unfolding noArea
 returns-4 c =
     let i = c .before .before .before .before .before .before .before .before .before .before .before .before .before .before .before .before .before .before .before .args .place in
     let line = now (c .before .before .before .before .before .before .before .before .before .before .before .before .before .before .before .before .before .before .before .args .line) in
-    let first = subspace-value i line (c .before .before .before .before .before .before .before .before .before .before .before .before .before .before .before .before .before .part .ensures) (c .before .before .before .before .before .before .before .before .before .before .before .before .before .before .before .before .read-subspace .ensures) (not-false _ (c .before .before .before .before .before .before .before .before .before .before .before .before .before .before .if1 .left)) in
-    let second = path-value (i + 1) line (c .before .before .before .before .before .before .before .before .before .before .before .before .before .part2 .ensures) (c .before .before .before .before .before .before .before .before .before .before .before .before .read-path .ensures) (c .before .before .before .before .before .before .before .before .before .before .enum-told .given .1) in
-    let third = decimal-value (i + 2) line (c .before .before .before .before .before .before .before .before .before .part3 .ensures) (c .before .before .before .before .before .before .before .before .read-decimal .ensures) (c .before .before .before .before .before .before .third .given .1) in
-    let none = c .no-area4 in
-    (λ k. none-read i line (none .result) (no-ok (none .result) (none .ensures)) k (no-fourth i line k _ first _ second _ third (end-refused (i + 3) line (c .before .before .before .before .part4 .ensures) (c .before .before .before .read-end .ensures) (not-true _ (c .before .if2 .taken)))), no-beside (none .result) (none .ensures))
+    let first = field-says readSubspaceText (λ r. r .ok) (λ r. r .subspace) i line (c .before .before .before .before .before .before .before .before .before .before .before .before .before .before .before .before .before .part .ensures) (c .before .before .before .before .before .before .before .before .before .before .before .before .before .before .before .before .read-subspace .ensures) true (not-false _ (c .before .before .before .before .before .before .before .before .before .before .before .before .before .before .if1 .left)) in
+    let second = path-says (i + 1) line (c .before .before .before .before .before .before .before .before .before .before .before .before .before .part2 .ensures) (c .before .before .before .before .before .before .before .before .before .before .before .before .read-path .ensures) (c .before .before .before .before .before .before .before .before .before .before .enum-told .given .1) in
+    let third = decimal-says (i + 2) line (c .before .before .before .before .before .before .before .before .before .part3 .ensures) (c .before .before .before .before .before .before .before .before .read-decimal .ensures) (c .before .before .before .before .before .before .third .given .1) in
+    rw (c .no-area4 .ensures) (says-then (subspace-of i line) first (says-then (path-of i line _) second (says-then (start-of i line _ _) third (says-none (end-of _ _ _) _ (field-says readEndText (λ r. r .ok) (λ r. r .end) (i + 3) line (c .before .before .before .before .part4 .ensures) (c .before .before .before .read-end .ensures) false (not-true _ (c .before .if2 .taken)))))), refl)
 
+-- src/lib.rt:52:1
 returns-5 : tie.Need-returns-5
 returns-5 c =
     let i = c .before .before .before .before .before .before .before .before .before .before .before .before .before .before .before .before .before .before .before .before .args .place in
     let line = now (c .before .before .before .before .before .before .before .before .before .before .before .before .before .before .before .before .before .before .before .before .args .line) in
-    let first = subspace-value i line (c .before .before .before .before .before .before .before .before .before .before .before .before .before .before .before .before .before .before .part .ensures) (c .before .before .before .before .before .before .before .before .before .before .before .before .before .before .before .before .before .read-subspace .ensures) (not-false _ (c .before .before .before .before .before .before .before .before .before .before .before .before .before .before .before .if1 .left)) in
-    let second = path-value (i + 1) line (c .before .before .before .before .before .before .before .before .before .before .before .before .before .before .part2 .ensures) (c .before .before .before .before .before .before .before .before .before .before .before .before .before .read-path .ensures) (c .before .before .before .before .before .before .before .before .before .before .before .enum-told .given .1) in
-    let third = decimal-value (i + 2) line (c .before .before .before .before .before .before .before .before .before .before .part3 .ensures) (c .before .before .before .before .before .before .before .before .before .read-decimal .ensures) (c .before .before .before .before .before .before .before .third .given .1) in
-    (λ k. four-read i line k _ first _ second _ third _ (end-value (i + 3) line (c .before .before .before .before .before .part4 .ensures) (c .before .before .before .before .read-end .ensures) (not-false _ (c .before .before .if2 .left))), refl)
+    let first = field-says readSubspaceText (λ r. r .ok) (λ r. r .subspace) i line (c .before .before .before .before .before .before .before .before .before .before .before .before .before .before .before .before .before .before .part .ensures) (c .before .before .before .before .before .before .before .before .before .before .before .before .before .before .before .before .before .read-subspace .ensures) true (not-false _ (c .before .before .before .before .before .before .before .before .before .before .before .before .before .before .before .if1 .left)) in
+    let second = path-says (i + 1) line (c .before .before .before .before .before .before .before .before .before .before .before .before .before .before .part2 .ensures) (c .before .before .before .before .before .before .before .before .before .before .before .before .before .read-path .ensures) (c .before .before .before .before .before .before .before .before .before .before .before .enum-told .given .1) in
+    let third = decimal-says (i + 2) line (c .before .before .before .before .before .before .before .before .before .before .part3 .ensures) (c .before .before .before .before .before .before .before .before .before .read-decimal .ensures) (c .before .before .before .before .before .before .before .third .given .1) in
+    (says-then (subspace-of i line) first (says-then (path-of i line _) second (says-then (start-of i line _ _) third (says-then (end-of _ _ _) (field-says readEndText (λ r. r .ok) (λ r. r .end) (i + 3) line (c .before .before .before .before .before .part4 .ensures) (c .before .before .before .before .read-end .ensures) true (not-false _ (c .before .before .if2 .left))) (record { said = λ k. refl })))), refl)
 
 pub read-area-spec : {M : Type 1} → statement M
 read-area-spec =

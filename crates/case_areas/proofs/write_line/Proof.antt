@@ -3,9 +3,8 @@ use denote.Ref.{now}
 use Rattle.area_area.specs.Records.{againstArea}
 use Rattle.case_areas.specs.Lines.{areaField}
 use borrow.Author.Tests.{not-true, not-false}
-use Rattle.case_text.proofs.Steps.{puts, hex-inside, hex-long}
+use Rattle.case_text.proofs.Steps.{puts, hex-inside, hex-long, says-refused, says-value}
 use Rattle.case_text.proofs.RecordSteps.{write-fields, write-value, write-buffer, write-answer}
-use Rattle.case_areas.proofs.AreaSteps.{area-refused, area-value}
 use borrow.Author.Needs.{needs}
 use Rattle.case_areas.proofs.write_line.Statement.{statement}
 use Rattle.case_areas.proofs.write_line.Tie as tie
@@ -37,7 +36,7 @@ returns-2 : tie.Need-returns-2
 returns-2 c =
     let a = c .before .before .before .before .before .before .before .before .before .before .before .args in
     let line = now (a .line) in
-    puts (write-value areaField (againstArea (a .reference)) 6 10 line (c .before .before .before .before .before .before .before .before .part-count .ensures) (c .before .before .before .before .before .before .before .if1 .left) (area-refused 6 line (c .before .before .before .before .before .before .read-area .result) (c .before .before .before .before .before .before .read-area .ensures .0) (not-true _ (c .before .before .before .before .if2 .taken)))) (c .before .before .refuse2 .ensures)
+    puts (write-value areaField (againstArea (a .reference)) 6 10 line (c .before .before .before .before .before .before .before .before .part-count .ensures) (c .before .before .before .before .before .before .before .if1 .left) (says-refused (c .before .before .before .before .before .before .read-area .ensures .0) (not-true _ (c .before .before .before .before .if2 .taken)))) (c .before .before .refuse2 .ensures)
 
 slice-aggregate-hex : tie.Need-slice-aggregate-hex
 slice-aggregate-hex c = search needs
@@ -61,7 +60,7 @@ returns-3 : tie.Need-returns-3
 returns-3 c =
     let a = c .before .before .before .before .before .before .before .before .before .before .before .before .before .before .before .before .before .args in
     let line = now (a .line) in
-    let value = area-value 6 line (c .before .before .before .before .before .before .before .before .before .before .before .before .read-area .result) (c .before .before .before .before .before .before .before .before .before .before .before .before .read-area .ensures .0) (not-false _ (c .before .before .before .before .before .before .before .before .before .before .if2 .left)) in
+    let value = says-value (c .before .before .before .before .before .before .before .before .before .before .before .before .read-area .ensures .0) (not-false _ (c .before .before .before .before .before .before .before .before .before .before .if2 .left)) in
     puts (write-buffer areaField (againstArea (a .reference)) 6 10 line (c .before .before .before .before .before .before .before .before .before .before .before .before .before .before .part-count .ensures) (c .before .before .before .before .before .before .before .before .before .before .before .before .before .if1 .left) _ value (c .before .before .before .before .before .before .before .hex .ensures) (c .before .before .before .before .enum-told .given .1)) (c .before .before .refuse3 .ensures)
 
 array-borrow-prefix-buffer : tie.Need-array-borrow-prefix-buffer
@@ -83,7 +82,7 @@ returns-4 : tie.Need-returns-4
 returns-4 c =
     let a = c .before .before .before .before .before .before .before .before .before .before .before .before .before .before .before .before .before .before .before .before .before .before .args in
     let line = now (a .line) in
-    let value = area-value 6 line (c .before .before .before .before .before .before .before .before .before .before .before .before .before .before .before .before .before .read-area .result) (c .before .before .before .before .before .before .before .before .before .before .before .before .before .before .before .before .before .read-area .ensures .0) (not-false _ (c .before .before .before .before .before .before .before .before .before .before .before .before .before .before .before .if2 .left)) in
+    let value = says-value (c .before .before .before .before .before .before .before .before .before .before .before .before .before .before .before .before .before .read-area .ensures .0) (not-false _ (c .before .before .before .before .before .before .before .before .before .before .before .before .before .before .before .if2 .left)) in
     let written = c .before .before .before .before .before .before .relative-encode in
     puts (write-answer areaField (againstArea (a .reference)) 6 10 line (c .before .before .before .before .before .before .before .before .before .before .before .before .before .before .before .before .before .before .before .part-count .ensures) (c .before .before .before .before .before .before .before .before .before .before .before .before .before .before .before .before .before .before .if1 .left) _ value (c .before .before .before .before .before .before .before .before .before .before .before .before .hex .ensures) (c .before .before .before .before .before .before .before .before .before .hex2 .given .1) (written .ensures .0) (written .ensures .1) (written .kept .0)) (c .before .before .written .ensures)
 

@@ -1,11 +1,12 @@
+use mathlib.Core.Path.{refl}
+use mathlib.Core.Bool.{true, false}
+use Rattle.text.specs.Ids.{readId}
 use mathlib.Core.Path.{_∙_}
 use denote.Ref.{now}
 use borrow.Author.Tests.{not-true, not-false}
 use Rattle.case_text.specs.Fields.{field, opOf}
-use Rattle.case_text.proofs.Steps.{puts, op-told}
-use Rattle.case_areas.proofs.AreaSteps.{area-refused, area-value}
+use Rattle.case_text.proofs.Steps.{puts, says-refused, says-value, field-says, op-told}
 use Rattle.case_entries.specs.Lines.{againstLine, onNamespace}
-use Rattle.case_entries.proofs.EntrySteps.{id-refused, id-value}
 use borrow.Author.Needs.{needs}
 use Rattle.case_entries.proofs.entry.Statement.{statement}
 use Rattle.case_entries.proofs.entry.Tie as tie
@@ -25,7 +26,7 @@ same-length c = search needs
 returns : tie.Need-returns
 returns c =
     let line = now (c .before .before .before .before .before .before .before .before .before .before .args .line) in
-    puts (id-refused 2 line (c .before .before .before .before .before .before .before .part .ensures) (c .before .before .before .before .before .before .read-id .ensures) (not-true _ (c .before .before .before .before .if1 .taken)) (onNamespace line)) (c .before .before .refuse .ensures)
+    puts (says-refused (field-says readId (λ r. r .ok) (λ r. r .id) 2 line (c .before .before .before .before .before .before .before .part .ensures) (c .before .before .before .before .before .before .read-id .ensures) false (not-true _ (c .before .before .before .before .if1 .taken))) refl (onNamespace line)) (c .before .before .refuse .ensures)
 
 read-area-requires : tie.Need-read-area-requires
 read-area-requires c κs = search needs
@@ -40,8 +41,8 @@ returns-2 : tie.Need-returns-2
 returns-2 c =
     let line = now (c .before .before .before .before .before .before .before .before .before .before .before .before .before .args .line) in
     let namespace = c .before .before .before .before .before .before .before .before .before .read-id .result .id in
-    let first = id-value 2 line (c .before .before .before .before .before .before .before .before .before .before .part .ensures) (c .before .before .before .before .before .before .before .before .before .read-id .ensures) (not-false _ (c .before .before .before .before .before .before .before .if1 .left)) in
-    puts (first (onNamespace line) ∙ area-refused 3 line (c .before .before .before .before .before .before .read-area .result) (c .before .before .before .before .before .before .read-area .ensures .0) (not-true _ (c .before .before .before .before .if2 .taken)) (λ r. againstLine namespace r (opOf (field 1 line)) line)) (c .before .before .refuse2 .ensures)
+    let first = says-value (field-says readId (λ r. r .ok) (λ r. r .id) 2 line (c .before .before .before .before .before .before .before .before .before .before .part .ensures) (c .before .before .before .before .before .before .before .before .before .read-id .ensures) true (not-false _ (c .before .before .before .before .before .before .before .if1 .left))) refl in
+    puts (first (onNamespace line) ∙ says-refused (c .before .before .before .before .before .before .read-area .ensures .0) (not-true _ (c .before .before .before .before .if2 .taken)) (λ r. againstLine namespace r (opOf (field 1 line)) line)) (c .before .before .refuse2 .ensures)
 
 part-requires-2 : tie.Need-part-requires-2
 part-requires-2 c κs = search needs
@@ -87,8 +88,8 @@ returns-3 c =
     let line = now (c .before .before .before .before .before .before .before .before .before .before .before .before .before .before .before .before .before .before .before .args .line) in
     let namespace = c .before .before .before .before .before .before .before .before .before .before .before .before .before .before .before .read-id .result .id in
     let area = c .before .before .before .before .before .before .before .before .before .before .before .before .read-area .result .area in
-    let first = id-value 2 line (c .before .before .before .before .before .before .before .before .before .before .before .before .before .before .before .before .part .ensures) (c .before .before .before .before .before .before .before .before .before .before .before .before .before .before .before .read-id .ensures) (not-false _ (c .before .before .before .before .before .before .before .before .before .before .before .before .before .if1 .left)) in
-    let second = area-value 3 line (c .before .before .before .before .before .before .before .before .before .before .before .before .read-area .result) (c .before .before .before .before .before .before .before .before .before .before .before .before .read-area .ensures .0) (not-false _ (c .before .before .before .before .before .before .before .before .before .before .if2 .left)) in
+    let first = says-value (field-says readId (λ r. r .ok) (λ r. r .id) 2 line (c .before .before .before .before .before .before .before .before .before .before .before .before .before .before .before .before .part .ensures) (c .before .before .before .before .before .before .before .before .before .before .before .before .before .before .before .read-id .ensures) true (not-false _ (c .before .before .before .before .before .before .before .before .before .before .before .before .before .if1 .left))) refl in
+    let second = says-value (c .before .before .before .before .before .before .before .before .before .before .before .before .read-area .ensures .0) (not-false _ (c .before .before .before .before .before .before .before .before .before .before .if2 .left)) in
     let told = op-told line (c .before .before .before .before .before .before .before .part2 .ensures) (c .before .before .before .before .before .before .op .ensures) (c .before .before .before .before .enum-told .given .1) in
     puts (first (onNamespace line) ∙ second (λ r. againstLine namespace r (opOf (field 1 line)) line) ∙ told (λ o. againstLine namespace area o line)) (c .before .before .read-line .ensures)
 
@@ -100,8 +101,8 @@ returns-4 c =
     let line = now (c .before .before .before .before .before .before .before .before .before .before .before .before .before .before .before .before .before .before .before .args .line) in
     let namespace = c .before .before .before .before .before .before .before .before .before .before .before .before .before .before .before .read-id .result .id in
     let area = c .before .before .before .before .before .before .before .before .before .before .before .before .read-area .result .area in
-    let first = id-value 2 line (c .before .before .before .before .before .before .before .before .before .before .before .before .before .before .before .before .part .ensures) (c .before .before .before .before .before .before .before .before .before .before .before .before .before .before .before .read-id .ensures) (not-false _ (c .before .before .before .before .before .before .before .before .before .before .before .before .before .if1 .left)) in
-    let second = area-value 3 line (c .before .before .before .before .before .before .before .before .before .before .before .before .read-area .result) (c .before .before .before .before .before .before .before .before .before .before .before .before .read-area .ensures .0) (not-false _ (c .before .before .before .before .before .before .before .before .before .before .if2 .left)) in
+    let first = says-value (field-says readId (λ r. r .ok) (λ r. r .id) 2 line (c .before .before .before .before .before .before .before .before .before .before .before .before .before .before .before .before .part .ensures) (c .before .before .before .before .before .before .before .before .before .before .before .before .before .before .before .read-id .ensures) true (not-false _ (c .before .before .before .before .before .before .before .before .before .before .before .before .before .if1 .left))) refl in
+    let second = says-value (c .before .before .before .before .before .before .before .before .before .before .before .before .read-area .ensures .0) (not-false _ (c .before .before .before .before .before .before .before .before .before .before .if2 .left)) in
     let told = op-told line (c .before .before .before .before .before .before .before .part2 .ensures) (c .before .before .before .before .before .before .op .ensures) (c .before .before .before .before .enum-told2 .given .1) in
     puts (first (onNamespace line) ∙ second (λ r. againstLine namespace r (opOf (field 1 line)) line) ∙ told (λ o. againstLine namespace area o line)) (c .before .before .read-line2 .ensures)
 
@@ -113,8 +114,8 @@ returns-5 c =
     let line = now (c .before .before .before .before .before .before .before .before .before .before .before .before .before .before .before .before .before .before .before .args .line) in
     let namespace = c .before .before .before .before .before .before .before .before .before .before .before .before .before .before .before .read-id .result .id in
     let area = c .before .before .before .before .before .before .before .before .before .before .before .before .read-area .result .area in
-    let first = id-value 2 line (c .before .before .before .before .before .before .before .before .before .before .before .before .before .before .before .before .part .ensures) (c .before .before .before .before .before .before .before .before .before .before .before .before .before .before .before .read-id .ensures) (not-false _ (c .before .before .before .before .before .before .before .before .before .before .before .before .before .if1 .left)) in
-    let second = area-value 3 line (c .before .before .before .before .before .before .before .before .before .before .before .before .read-area .result) (c .before .before .before .before .before .before .before .before .before .before .before .before .read-area .ensures .0) (not-false _ (c .before .before .before .before .before .before .before .before .before .before .if2 .left)) in
+    let first = says-value (field-says readId (λ r. r .ok) (λ r. r .id) 2 line (c .before .before .before .before .before .before .before .before .before .before .before .before .before .before .before .before .part .ensures) (c .before .before .before .before .before .before .before .before .before .before .before .before .before .before .before .read-id .ensures) true (not-false _ (c .before .before .before .before .before .before .before .before .before .before .before .before .before .if1 .left))) refl in
+    let second = says-value (c .before .before .before .before .before .before .before .before .before .before .before .before .read-area .ensures .0) (not-false _ (c .before .before .before .before .before .before .before .before .before .before .if2 .left)) in
     let told = op-told line (c .before .before .before .before .before .before .before .part2 .ensures) (c .before .before .before .before .before .before .op .ensures) (c .before .before .before .before .enum-told3 .given .1) in
     puts (first (onNamespace line) ∙ second (λ r. againstLine namespace r (opOf (field 1 line)) line) ∙ told (λ o. againstLine namespace area o line)) (c .before .before .write-line .ensures)
 
@@ -126,8 +127,8 @@ returns-6 c =
     let line = now (c .before .before .before .before .before .before .before .before .before .before .before .before .before .before .before .before .before .before .before .args .line) in
     let namespace = c .before .before .before .before .before .before .before .before .before .before .before .before .before .before .before .read-id .result .id in
     let area = c .before .before .before .before .before .before .before .before .before .before .before .before .read-area .result .area in
-    let first = id-value 2 line (c .before .before .before .before .before .before .before .before .before .before .before .before .before .before .before .before .part .ensures) (c .before .before .before .before .before .before .before .before .before .before .before .before .before .before .before .read-id .ensures) (not-false _ (c .before .before .before .before .before .before .before .before .before .before .before .before .before .if1 .left)) in
-    let second = area-value 3 line (c .before .before .before .before .before .before .before .before .before .before .before .before .read-area .result) (c .before .before .before .before .before .before .before .before .before .before .before .before .read-area .ensures .0) (not-false _ (c .before .before .before .before .before .before .before .before .before .before .if2 .left)) in
+    let first = says-value (field-says readId (λ r. r .ok) (λ r. r .id) 2 line (c .before .before .before .before .before .before .before .before .before .before .before .before .before .before .before .before .part .ensures) (c .before .before .before .before .before .before .before .before .before .before .before .before .before .before .before .read-id .ensures) true (not-false _ (c .before .before .before .before .before .before .before .before .before .before .before .before .before .if1 .left))) refl in
+    let second = says-value (c .before .before .before .before .before .before .before .before .before .before .before .before .read-area .ensures .0) (not-false _ (c .before .before .before .before .before .before .before .before .before .before .if2 .left)) in
     let told = op-told line (c .before .before .before .before .before .before .before .part2 .ensures) (c .before .before .before .before .before .before .op .ensures) (c .before .before .before .before .enum-told4 .given .1) in
     puts (first (onNamespace line) ∙ second (λ r. againstLine namespace r (opOf (field 1 line)) line) ∙ told (λ o. againstLine namespace area o line)) (c .before .before .len-line .ensures)
 
@@ -139,8 +140,8 @@ returns-7 c =
     let line = now (c .before .before .before .before .before .before .before .before .before .before .before .before .before .before .before .before .before .before .before .args .line) in
     let namespace = c .before .before .before .before .before .before .before .before .before .before .before .before .before .before .before .read-id .result .id in
     let area = c .before .before .before .before .before .before .before .before .before .before .before .before .read-area .result .area in
-    let first = id-value 2 line (c .before .before .before .before .before .before .before .before .before .before .before .before .before .before .before .before .part .ensures) (c .before .before .before .before .before .before .before .before .before .before .before .before .before .before .before .read-id .ensures) (not-false _ (c .before .before .before .before .before .before .before .before .before .before .before .before .before .if1 .left)) in
-    let second = area-value 3 line (c .before .before .before .before .before .before .before .before .before .before .before .before .read-area .result) (c .before .before .before .before .before .before .before .before .before .before .before .before .read-area .ensures .0) (not-false _ (c .before .before .before .before .before .before .before .before .before .before .if2 .left)) in
+    let first = says-value (field-says readId (λ r. r .ok) (λ r. r .id) 2 line (c .before .before .before .before .before .before .before .before .before .before .before .before .before .before .before .before .part .ensures) (c .before .before .before .before .before .before .before .before .before .before .before .before .before .before .before .read-id .ensures) true (not-false _ (c .before .before .before .before .before .before .before .before .before .before .before .before .before .if1 .left))) refl in
+    let second = says-value (c .before .before .before .before .before .before .before .before .before .before .before .before .read-area .ensures .0) (not-false _ (c .before .before .before .before .before .before .before .before .before .before .if2 .left)) in
     let told = op-told line (c .before .before .before .before .before .before .before .part2 .ensures) (c .before .before .before .before .before .before .op .ensures) (c .before .before .before .before .enum-told5 .given .1) in
     puts (first (onNamespace line) ∙ second (λ r. againstLine namespace r (opOf (field 1 line)) line) ∙ told (λ o. againstLine namespace area o line)) (c .before .before .refuse3 .ensures)
 

@@ -1,7 +1,8 @@
+use Rattle.case_text.proofs.Puts.{puts-first}
 use mathlib.Core.Path.{sym, _∙_}
 use denote.Ref.{now}
 use Rattle.entry_area.specs.Records.{readAgainstNamespaceArea}
-use Rattle.case_entries.specs.Lines.{entryText}
+use Rattle.case_entry_text.specs.Fields.{entryText}
 use Rattle.case_text.proofs.Steps.{puts, message-inside, message-long}
 use Rattle.case_text.proofs.RecordSteps.{read-refused, read-answer, read-printed}
 use borrow.Author.Needs.{needs}
@@ -40,8 +41,8 @@ slice-aggregate-relative-decode c = sym (message-long 7 (now (c .before .before 
 relative-decode-requires : tie.Need-relative-decode-requires
 relative-decode-requires c κs = search needs
 
-print-requires : tie.Need-print-requires
-print-requires c κs = search needs
+print-entry-requires : tie.Need-print-entry-requires
+print-entry-requires c κs = search needs
 
 value-requires : tie.Need-value-requires
 value-requires c κs = search needs
@@ -55,7 +56,7 @@ returns-2 c =
     let read = c .before .before .before .before .before .before .before .relative-decode in
     puts
     (read-answer entryText (readAgainstNamespaceArea (a .canonic) (a .namespace) (a .area)) 7 (now (a .line)) (c .before .before .before .before .before .before .before .before .before .before .before .before .before .message .ensures) (c .before .before .before .before .before .before .before .before .before .before .message2 .given .1) (read .ensures .answer)
-    ∙ read-printed entryText (read .result .answer) (read .result .entry) (c .before .before .before .before .before .print .ensures))
+    ∙ read-printed entryText (read .result .answer) (read .result .entry) (puts-first (c .before .before .before .before .before .print-entry .ensures)))
     (c .before .before .value .ensures)
 
 pub read-line-spec : {M : Type 1} → statement M
@@ -72,7 +73,7 @@ read-line-spec =
     array-share-prefix-bytes
     slice-aggregate-relative-decode
     relative-decode-requires
-    print-requires
+    print-entry-requires
     value-requires
     same-length-2
     returns-2)

@@ -1,11 +1,10 @@
 use mathlib.Core.Path.{sym}
 use denote.Ref.{now}
 use Rattle.entry_area.specs.Records.{againstNamespaceArea}
-use Rattle.case_entries.specs.Lines.{entryField}
+use Rattle.case_entry_text.specs.Fields.{entryField}
 use borrow.Author.Tests.{not-true, not-false}
-use Rattle.case_text.proofs.Steps.{puts, hex-inside, hex-long}
+use Rattle.case_text.proofs.Steps.{puts, says-refused, says-value, hex-inside, hex-long}
 use Rattle.case_text.proofs.RecordSteps.{write-fields, write-value, write-buffer, write-answer}
-use Rattle.case_entries.proofs.EntrySteps.{entry-refused, entry-value}
 use borrow.Author.Needs.{needs}
 use Rattle.case_entries.proofs.write_line.Statement.{statement}
 use Rattle.case_entries.proofs.write_line.Tie as tie
@@ -37,7 +36,7 @@ returns-2 : tie.Need-returns-2
 returns-2 c =
     let a = c .before .before .before .before .before .before .before .before .before .before .before .args in
     let line = now (a .line) in
-    puts (write-value entryField (againstNamespaceArea (a .namespace) (a .area)) 7 13 line (c .before .before .before .before .before .before .before .before .part-count .ensures) (c .before .before .before .before .before .before .before .if1 .left) (entry-refused 7 line (c .before .before .before .before .before .before .read-entry .result) (c .before .before .before .before .before .before .read-entry .ensures) (not-true _ (c .before .before .before .before .if2 .taken)))) (c .before .before .refuse2 .ensures)
+    puts (write-value entryField (againstNamespaceArea (a .namespace) (a .area)) 7 13 line (c .before .before .before .before .before .before .before .before .part-count .ensures) (c .before .before .before .before .before .before .before .if1 .left) (says-refused (c .before .before .before .before .before .before .read-entry .ensures .0) (not-true _ (c .before .before .before .before .if2 .taken)))) (c .before .before .refuse2 .ensures)
 
 slice-aggregate-hex : tie.Need-slice-aggregate-hex
 slice-aggregate-hex c = search needs
@@ -61,7 +60,7 @@ returns-3 : tie.Need-returns-3
 returns-3 c =
     let a = c .before .before .before .before .before .before .before .before .before .before .before .before .before .before .before .before .before .args in
     let line = now (a .line) in
-    let value = entry-value 7 line (c .before .before .before .before .before .before .before .before .before .before .before .before .read-entry .result) (c .before .before .before .before .before .before .before .before .before .before .before .before .read-entry .ensures) (not-false _ (c .before .before .before .before .before .before .before .before .before .before .if2 .left)) in
+    let value = says-value (c .before .before .before .before .before .before .before .before .before .before .before .before .read-entry .ensures .0) (not-false _ (c .before .before .before .before .before .before .before .before .before .before .if2 .left)) in
     puts (write-buffer entryField (againstNamespaceArea (a .namespace) (a .area)) 7 13 line (c .before .before .before .before .before .before .before .before .before .before .before .before .before .before .part-count .ensures) (c .before .before .before .before .before .before .before .before .before .before .before .before .before .if1 .left) _ value (c .before .before .before .before .before .before .before .hex .ensures) (c .before .before .before .before .enum-told .given .1)) (c .before .before .refuse3 .ensures)
 
 array-borrow-prefix-buffer : tie.Need-array-borrow-prefix-buffer
@@ -83,7 +82,7 @@ returns-4 : tie.Need-returns-4
 returns-4 c =
     let a = c .before .before .before .before .before .before .before .before .before .before .before .before .before .before .before .before .before .before .before .before .before .before .args in
     let line = now (a .line) in
-    let value = entry-value 7 line (c .before .before .before .before .before .before .before .before .before .before .before .before .before .before .before .before .before .read-entry .result) (c .before .before .before .before .before .before .before .before .before .before .before .before .before .before .before .before .before .read-entry .ensures) (not-false _ (c .before .before .before .before .before .before .before .before .before .before .before .before .before .before .before .if2 .left)) in
+    let value = says-value (c .before .before .before .before .before .before .before .before .before .before .before .before .before .before .before .before .before .read-entry .ensures .0) (not-false _ (c .before .before .before .before .before .before .before .before .before .before .before .before .before .before .before .if2 .left)) in
     let written = c .before .before .before .before .before .before .relative-encode in
     puts (write-answer entryField (againstNamespaceArea (a .namespace) (a .area)) 7 13 line (c .before .before .before .before .before .before .before .before .before .before .before .before .before .before .before .before .before .before .before .part-count .ensures) (c .before .before .before .before .before .before .before .before .before .before .before .before .before .before .before .before .before .before .if1 .left) _ value (c .before .before .before .before .before .before .before .before .before .before .before .before .hex .ensures) (c .before .before .before .before .before .before .before .before .before .hex2 .given .1) (written .ensures .0) (written .ensures .1) (written .kept .0)) (c .before .before .written .ensures)
 

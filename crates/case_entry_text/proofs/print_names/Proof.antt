@@ -7,10 +7,10 @@ use Rattle.entry.proofs.Typed.{typed-entry}
 use Rattle.case_text.specs.Texts.{afterTab}
 use lib.ListN.{length-append}
 use Rattle.case_text.proofs.Puts.{puts-fits}
-use Rattle.case_areas.proofs.AreaSteps.{puts-tab}
+use Rattle.case_text.proofs.Puts.{puts-tab}
 use borrow.Author.Needs.{needs}
-use Rattle.case_entries.proofs.print_names.Statement.{statement}
-use Rattle.case_entries.proofs.print_names.Tie as tie
+use Rattle.case_entry_text.proofs.print_names.Statement.{statement}
+use Rattle.case_entry_text.proofs.print_names.Tie as tie
 
 slice-aggregate-put-hex : tie.Need-slice-aggregate-put-hex
 slice-aggregate-put-hex c = search needs

@@ -9,13 +9,12 @@ use Rattle.case_text.specs.Texts.{afterTab}
 use mathlib.Core.List.{_++_}
 use Rattle.text.specs.Decimal.{decimalText}
 use Rattle.text.proofs.DecimalPrinted.{decimal-few}
-use Rattle.case_text.proofs.Puts.{puts-first}
-use Rattle.case_areas.proofs.AreaSteps.{puts-tab}
-use Rattle.case_entries.specs.Lines.{namesText}
-use Rattle.case_entries.proofs.EntrySteps.{names-few}
+use Rattle.case_text.proofs.Puts.{puts-tab}
+use Rattle.case_entry_text.specs.Fields.{namesText}
+use Rattle.case_entry_text.proofs.Printed.{names-few}
 use borrow.Author.Needs.{needs}
-use Rattle.case_entries.proofs.print.Statement.{statement}
-use Rattle.case_entries.proofs.print.Tie as tie
+use Rattle.case_entry_text.proofs.print_entry.Statement.{statement}
+use Rattle.case_entry_text.proofs.print_entry.Tie as tie
 
 print-names-requires : tie.Need-print-names-requires
 print-names-requires c κs = search needs
@@ -67,17 +66,16 @@ returns c =
     let ht = t .digest .0 in
     let xd = length-append x (afterTab d) in
     let xdz = length-append (x ++ afterTab d) (afterTab z) in
-    puts-first
-    (puts-tab
+    puts-tab
     (puts-tab
     (puts-tab {a = x} {l = now b}
     (c .before .before .before .before .before .before .before .before .before .before .before .before .before .before .before .before .before .print-names .ensures .0)
     d (omega (arith, g)) (c .before .before .before .before .before .before .before .before .before .before .before .before .before .before .put-bytes .ensures) (c .before .before .before .before .before .before .before .before .before .before .before .before .put-decimal .ensures))
     z (omega (arith, g)) (c .before .before .before .before .before .before .before .before .before .put-bytes2 .ensures) (c .before .before .before .before .before .before .before .put-decimal2 .ensures))
-    h (omega (arith, g)) (c .before .before .before .before .put-bytes3 .ensures) (c .put-hex .ensures))
+    h (omega (arith, g)) (c .before .before .before .before .put-bytes3 .ensures) (c .put-hex .ensures)
 
-pub print-spec : {M : Type 1} → statement M
-print-spec =
+pub print-entry-spec : {M : Type 1} → statement M
+print-entry-spec =
     tie.close
     (tie.spec
     print-names-requires

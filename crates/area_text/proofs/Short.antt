@@ -1,0 +1,25 @@
+-- How long the text of an area's fields is.
+use mathlib.Core.Path.{_≡_}
+use mathlib.Core.Bool.{Bool, true, false, cond}
+use Prim.Native.Nat.{ℕ, _≤_}
+use native.Mathlib.Omega.{arith}
+use lib.ListN.{length}
+use Rattle.grouping.specs.declared.RangeEnd.{RangeEnd}
+use Rattle.grouping.specs.declared.RangeEnd.the-variants.{Closed, Open}
+use Rattle.grouping.specs.declared.AreaSubspace.{AreaSubspace}
+use Rattle.text.specs.Hex.{hexText}
+use Rattle.text.proofs.DecimalPrinted.{decimal-few}
+use Rattle.text.proofs.HexSteps.{hexText-long}
+use Rattle.area_text.specs.AreaText.{star, subspaceText, endText}
+
+pub subspace-few : (s : AreaSubspace) → length (s .id) ≡ 32 → length (subspaceText s) ≤ 64
+unfolding subspaceText
+subspace-few s h = go (s .any)
+  where
+    go : (b : Bool) → length (cond b star (hexText (s .id))) ≤ 64
+    go true = omega arith
+    go false = omega (arith, hexText-long (s .id))
+
+pub end-few : (e : RangeEnd) → length (endText e) ≤ 20
+end-few (Closed x) = decimal-few x
+end-few Open = omega arith

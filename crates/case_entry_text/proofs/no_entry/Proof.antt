@@ -1,0 +1,18 @@
+use Rattle.entry.specs.Record.{entryFrom}
+use Rattle.case_entry_text.specs.Fields.{noEntry}
+use borrow.Author.Needs.{needs}
+use Rattle.case_entry_text.proofs.no_entry.Statement.{statement}
+use Rattle.case_entry_text.proofs.no_entry.Tie as tie
+use Rattle.case_entry_text.proofs.no_entry.Reads as reads
+use Rattle.case_entry_text.proofs.no_entry.Lts as lts
+use Rattle.path.proofs.Path.new_empty.Reads as new-empty-reads
+
+new-empty-requires : tie.Need-new-empty-requires
+new-empty-requires c κs = search needs
+
+returns : tie.Need-returns
+unfolding noEntry entryFrom
+returns c = rw (c .new-empty .ensures)
+
+pub no-entry-spec : {M : Type 1} → statement M
+no-entry-spec = tie.close (tie.spec new-empty-requires returns)

@@ -1,0 +1,124 @@
+use mathlib.Core.Path.{refl}
+use mathlib.Core.Bool.{true, false}
+use mathlib.Core.List.{List}
+use Prim.Native.Nat.{ℕ, _+_}
+use denote.Ref.{now}
+use borrow.Author.Tests.{not-true, not-false}
+use Rattle.text.specs.Ids.{readId}
+use Rattle.case_text.specs.Fields.{idField, pathField}
+use Rattle.case_text.proofs.Steps.{path-says, path-says-no, field-says, says-then, says-none}
+use Rattle.case_entry_text.specs.Fields.{noNames}
+use Rattle.path.specs.declared.Path.{Path}
+use Rattle.case_entry_text.specs.declared.Names.{Names}
+use borrow.Author.Needs.{needs}
+use Rattle.case_entry_text.proofs.read_names.Statement.{statement}
+use Rattle.case_entry_text.proofs.read_names.Tie as tie
+use Rattle.case_entry_text.proofs.read_names.Reads as reads
+use Rattle.case_entry_text.proofs.read_names.Lts as lts
+use Rattle.case_entry_text.proofs.no_names.Reads as no-names-reads
+use Rattle.path_text.proofs.read_path.Reads as read-path-reads
+use Rattle.text.proofs.ids.read_id.Reads as read-id-reads
+use Rattle.text.proofs.part.Reads as part-reads
+
+-- what comes after each field
+abbrev third-of : List ℕ → List ℕ → Path → (Names → List ℕ) → List ℕ
+third-of n s p k = k (record { «namespace_id» = n; «subspace_id» = s; path = p })
+
+abbrev second-of : ℕ → List ℕ → List ℕ → List ℕ → (Names → List ℕ) → List ℕ
+second-of i line n s k = pathField (i + 2) line (λ p. third-of n s p k)
+
+abbrev first-of : ℕ → List ℕ → List ℕ → (Names → List ℕ) → List ℕ
+first-of i line n k = idField (i + 1) line (λ s. second-of i line n s k)
+
+part-requires : tie.Need-part-requires
+part-requires c κs = search needs
+
+read-id-requires : tie.Need-read-id-requires
+read-id-requires c κs = search needs
+
+no-names-requires : tie.Need-no-names-requires
+no-names-requires c κs = search needs
+
+returns : tie.Need-returns
+unfolding noNames
+returns c =
+    let i = c .before .before .before .before .before .before .args .place in
+    let line = now (c .before .before .before .before .before .before .args .line) in
+    rw (c .no-names .ensures) (says-none (first-of i line) _ (field-says readId (λ r. r .ok) (λ r. r .id) i line (c .before .before .before .before .part .ensures) (c .before .before .before .read-id .ensures) false (not-true _ (c .before .if1 .taken))))
+
+add-part : tie.Need-add-part
+add-part c = search needs
+
+part-requires-2 : tie.Need-part-requires-2
+part-requires-2 c κs = search needs
+
+read-id-requires-2 : tie.Need-read-id-requires-2
+read-id-requires-2 c κs = search needs
+
+no-names-requires-2 : tie.Need-no-names-requires-2
+no-names-requires-2 c κs = search needs
+
+returns-2 : tie.Need-returns-2
+unfolding noNames
+returns-2 c =
+    let i = c .before .before .before .before .before .before .before .before .before .before .args .place in
+    let line = now (c .before .before .before .before .before .before .before .before .before .before .args .line) in
+    let first = field-says readId (λ r. r .ok) (λ r. r .id) i line (c .before .before .before .before .before .before .before .before .part .ensures) (c .before .before .before .before .before .before .before .read-id .ensures) true (not-false _ (c .before .before .before .before .before .if1 .left)) in
+    rw (c .no-names2 .ensures) (says-then (first-of i line) first (says-none (second-of i line _) _ (field-says readId (λ r. r .ok) (λ r. r .id) (i + 1) line (c .before .before .before .before .part2 .ensures) (c .before .before .before .read-id2 .ensures) false (not-true _ (c .before .if2 .taken)))))
+
+add-part-2 : tie.Need-add-part-2
+add-part-2 c = search needs
+
+part-requires-3 : tie.Need-part-requires-3
+part-requires-3 c κs = search needs
+
+read-path-requires : tie.Need-read-path-requires
+read-path-requires c κs = search needs
+
+enum-told : tie.Need-enum-told
+enum-told c = search needs
+
+enum-told-2 : tie.Need-enum-told-2
+enum-told-2 c = search needs
+
+no-names-requires-3 : tie.Need-no-names-requires-3
+no-names-requires-3 c κs = search needs
+
+returns-3 : tie.Need-returns-3
+unfolding noNames
+returns-3 c =
+    let i = c .before .before .before .before .before .before .before .before .before .before .before .before .before .before .args .place in
+    let line = now (c .before .before .before .before .before .before .before .before .before .before .before .before .before .before .args .line) in
+    let first = field-says readId (λ r. r .ok) (λ r. r .id) i line (c .before .before .before .before .before .before .before .before .before .before .before .before .part .ensures) (c .before .before .before .before .before .before .before .before .before .before .before .read-id .ensures) true (not-false _ (c .before .before .before .before .before .before .before .before .before .if1 .left)) in
+    let second = field-says readId (λ r. r .ok) (λ r. r .id) (i + 1) line (c .before .before .before .before .before .before .before .before .part2 .ensures) (c .before .before .before .before .before .before .before .read-id2 .ensures) true (not-false _ (c .before .before .before .before .before .if2 .left)) in
+    rw (c .no-names3 .ensures) (says-then (first-of i line) first (says-then (second-of i line _) second (says-none (third-of _ _) _ (path-says-no (i + 2) line (c .before .before .before .before .part3 .ensures) (c .before .before .before .read-path .ensures) (c .before .enum-told2 .given .1)))))
+
+returns-4 : tie.Need-returns-4
+returns-4 c =
+    let i = c .before .before .before .before .before .before .before .before .before .before .before .before .before .before .before .before .args .place in
+    let line = now (c .before .before .before .before .before .before .before .before .before .before .before .before .before .before .before .before .args .line) in
+    let first = field-says readId (λ r. r .ok) (λ r. r .id) i line (c .before .before .before .before .before .before .before .before .before .before .before .before .before .before .part .ensures) (c .before .before .before .before .before .before .before .before .before .before .before .before .before .read-id .ensures) true (not-false _ (c .before .before .before .before .before .before .before .before .before .before .before .if1 .left)) in
+    let second = field-says readId (λ r. r .ok) (λ r. r .id) (i + 1) line (c .before .before .before .before .before .before .before .before .before .before .part2 .ensures) (c .before .before .before .before .before .before .before .before .before .read-id2 .ensures) true (not-false _ (c .before .before .before .before .before .before .before .if2 .left)) in
+    says-then (first-of i line) first (says-then (second-of i line _) second (says-then (third-of _ _) (path-says (i + 2) line (c .before .before .before .before .before .before .part3 .ensures) (c .before .before .before .before .before .read-path .ensures) (c .before .before .before .enum-told .given .1)) (record { said = λ k. refl })))
+
+pub read-names-spec : {M : Type 1} → statement M
+read-names-spec =
+    tie.close
+    (tie.spec
+    part-requires
+    read-id-requires
+    no-names-requires
+    returns
+    add-part
+    part-requires-2
+    read-id-requires-2
+    no-names-requires-2
+    returns-2
+    add-part-2
+    part-requires-3
+    read-path-requires
+    enum-told
+    enum-told-2
+    no-names-requires-3
+    returns-3
+    returns-4)

@@ -1,0 +1,13 @@
+use mathlib.Core.Path.{refl}
+use Rattle.case_range_text.specs.Fields.{noSubspacesField}
+use Rattle.case_range_text.proofs.no_subspaces.Statement.{statement}
+use Rattle.case_range_text.proofs.no_subspaces.Tie as tie
+use Rattle.case_range_text.proofs.no_subspaces.Reads as reads
+use Rattle.case_range_text.proofs.no_subspaces.Lts as lts
+
+returns : tie.Need-returns
+unfolding noSubspacesField
+returns c = refl
+
+pub no-subspaces-spec : {M : Type 1} → statement M
+no-subspaces-spec = tie.close (tie.spec returns)

@@ -1,0 +1,114 @@
+use mathlib.Core.Path.{_≡_}
+use mathlib.Core.List.{_++_}
+use denote.Ref.{now}
+use native.Mathlib.Omega.{arith}
+use lib.ListN.{length, length-append}
+use Rattle.text.specs.Decimal.{decimalText}
+use Rattle.text.proofs.DecimalPrinted.{decimal-few}
+use Rattle.path_text.specs.PathText.{pathTextOf}
+use Rattle.path_text.proofs.Back.{path-text-laws}
+use Rattle.area_text.specs.AreaText.{endText}
+use Rattle.area_text.proofs.Short.{end-few}
+use Rattle.range_3d.proofs.Typed.{typed-range3d}
+use Rattle.case_text.specs.Texts.{afterTab}
+use Rattle.case_text.proofs.Puts.{puts-tab}
+use Rattle.case_range_text.proofs.Printed.{subspaces-few, path-end-few}
+use Rattle.case_range_text.specs.Fields.{subspacesText, pathEndText}
+use borrow.Author.Needs.{needs}
+use Rattle.case_range_text.proofs.print_range.Statement.{statement}
+use Rattle.case_range_text.proofs.print_range.Tie as tie
+use Rattle.case_range_text.proofs.print_range.Reads as reads
+use Rattle.case_range_text.proofs.print_range.Lts as lts
+use Rattle.area_text.proofs.put_end.Reads as put-end-reads
+use Rattle.case_range_text.proofs.print_subspaces.Reads as print-subspaces-reads
+use Rattle.case_range_text.proofs.put_path_end.Reads as put-path-end-reads
+use Rattle.path_text.proofs.put_path.Reads as put-path-reads
+use Rattle.text.proofs.put_bytes.Reads as put-bytes-reads
+use Rattle.text.proofs.put_decimal.Reads as put-decimal-reads
+
+print-subspaces-requires : tie.Need-print-subspaces-requires
+print-subspaces-requires c κs = search needs
+
+slice-aggregate-put-bytes : tie.Need-slice-aggregate-put-bytes
+slice-aggregate-put-bytes c = search needs
+
+put-bytes-requires : tie.Need-put-bytes-requires
+put-bytes-requires c κs = search needs
+
+put-path-requires : tie.Need-put-path-requires
+put-path-requires c κs = search needs
+
+slice-aggregate-put-bytes-2 : tie.Need-slice-aggregate-put-bytes-2
+slice-aggregate-put-bytes-2 c = search needs
+
+put-bytes-requires-2 : tie.Need-put-bytes-requires-2
+put-bytes-requires-2 c κs = search needs
+
+put-path-end-requires : tie.Need-put-path-end-requires
+put-path-end-requires c κs = search needs
+
+slice-aggregate-put-bytes-3 : tie.Need-slice-aggregate-put-bytes-3
+slice-aggregate-put-bytes-3 c = search needs
+
+put-bytes-requires-3 : tie.Need-put-bytes-requires-3
+put-bytes-requires-3 c κs = search needs
+
+put-decimal-requires : tie.Need-put-decimal-requires
+put-decimal-requires c κs = search needs
+
+slice-aggregate-put-bytes-4 : tie.Need-slice-aggregate-put-bytes-4
+slice-aggregate-put-bytes-4 c = search needs
+
+put-bytes-requires-4 : tie.Need-put-bytes-requires-4
+put-bytes-requires-4 c κs = search needs
+
+put-end-requires : tie.Need-put-end-requires
+put-end-requires c κs = search needs
+
+returns : tie.Need-returns
+returns c =
+    let a = c .before .before .before .before .before .before .before .before .before .before .before .before .before .before .before .before .before .before .before .before .before .before .before .before .args .range in
+    let b = c .before .before .before .before .before .before .before .before .before .before .before .before .before .before .before .before .before .before .before .before .before .before .before .before .args .buffer in
+    let g : length (now b) ≡ 8192 = c .before .before .before .before .before .before .before .before .before .before .before .before .before .before .before .before .before .before .before .before .print-subspaces .ensures .1 in
+    let t = typed-range3d a (c .before .before .before .before .before .before .before .before .before .before .before .before .before .before .before .before .before .before .before .before .before .before .before .before .good .0) in
+    let x = subspacesText (a .subspaces) in
+    let p = pathTextOf (a .paths .start) in
+    let q = pathEndText (a .paths) in
+    let d = decimalText (a .times .start) in
+    let e = endText (a .times .end) in
+    let xf = subspaces-few (a .subspaces) (t .subspaces) in
+    let pf = path-text-laws .path-few (a .paths .start) (t .paths .start) in
+    let qf = path-end-few (a .paths) (t .paths) in
+    let df = decimal-few (a .times .start) in
+    let ef = end-few (a .times .end) in
+    let xp = length-append x (afterTab p) in
+    let xpq = length-append (x ++ afterTab p) (afterTab q) in
+    let xpqd = length-append (x ++ afterTab p ++ afterTab q) (afterTab d) in
+    puts-tab
+    (puts-tab
+    (puts-tab
+    (puts-tab {a = x} {l = now b}
+    (c .before .before .before .before .before .before .before .before .before .before .before .before .before .before .before .before .before .before .before .before .print-subspaces .ensures .0)
+    p (omega (arith, g, xf, pf)) (c .before .before .before .before .before .before .before .before .before .before .before .before .before .before .before .before .before .put-bytes .ensures) (c .before .before .before .before .before .before .before .before .before .before .before .before .before .before .before .put-path .ensures))
+    q (omega (arith, g, xf, pf, qf, xp)) (c .before .before .before .before .before .before .before .before .before .before .before .before .put-bytes2 .ensures) (c .before .before .before .before .before .before .before .before .before .before .put-path-end .ensures))
+    d (omega (arith, g, xf, pf, qf, df, xp, xpq)) (c .before .before .before .before .before .before .before .put-bytes3 .ensures) (c .before .before .before .before .before .put-decimal .ensures))
+    e (omega (arith, g, xf, pf, qf, df, ef, xp, xpq, xpqd)) (c .before .before .put-bytes4 .ensures) (c .put-end .ensures)
+
+pub print-range-spec : {M : Type 1} → statement M
+print-range-spec =
+    tie.close
+    (tie.spec
+    print-subspaces-requires
+    slice-aggregate-put-bytes
+    put-bytes-requires
+    put-path-requires
+    slice-aggregate-put-bytes-2
+    put-bytes-requires-2
+    put-path-end-requires
+    slice-aggregate-put-bytes-3
+    put-bytes-requires-3
+    put-decimal-requires
+    slice-aggregate-put-bytes-4
+    put-bytes-requires-4
+    put-end-requires
+    returns)

@@ -1,0 +1,56 @@
+use native.Mathlib.Omega.{arith}
+use Rattle.text.specs.Hex.{hexText}
+use Rattle.text.proofs.HexSteps.{hexText-long}
+use Rattle.area_text.specs.AreaText.{subspaceText}
+use Rattle.area_text.proofs.Short.{subspace-few}
+use Rattle.range_3d.proofs.Typed.{typed-subspaces}
+use Rattle.case_text.proofs.Puts.{puts-fits, puts-tab}
+use borrow.Author.Needs.{needs}
+use Rattle.case_range_text.proofs.print_subspaces.Statement.{statement}
+use Rattle.case_range_text.proofs.print_subspaces.Tie as tie
+use Rattle.case_range_text.proofs.print_subspaces.Reads as reads
+use Rattle.case_range_text.proofs.print_subspaces.Lts as lts
+use Rattle.area_text.proofs.put_subspace.Reads as put-subspace-reads
+use Rattle.text.proofs.put_bytes.Reads as put-bytes-reads
+use Rattle.text.proofs.put_hex.Reads as put-hex-reads
+
+slice-aggregate-put-hex : tie.Need-slice-aggregate-put-hex
+slice-aggregate-put-hex c = search needs
+
+put-hex-requires : tie.Need-put-hex-requires
+put-hex-requires c κs = search needs
+
+slice-aggregate-put-bytes : tie.Need-slice-aggregate-put-bytes
+slice-aggregate-put-bytes c = search needs
+
+put-bytes-requires : tie.Need-put-bytes-requires
+put-bytes-requires c κs = search needs
+
+put-subspace-requires : tie.Need-put-subspace-requires
+put-subspace-requires c κs = search needs
+
+returns : tie.Need-returns
+returns c =
+    let a = c .before .before .before .before .before .before .before .before .before .before .args .subspaces in
+    let t = typed-subspaces a (c .before .before .before .before .before .before .before .before .before .before .good .0) in
+    let n = hexText (a .start) in
+    let s = subspaceText (record { any = a .«end_open»; id = a .end }) in
+    let nl = hexText-long (a .start) in
+    let nt = t .start .0 in
+    let sf = subspace-few (record { any = a .«end_open»; id = a .end }) (t .end .0) in (
+      puts-tab
+          (puts-fits n (omega arith) (c .before .before .before .before .before .put-hex .ensures))
+          s (omega arith) (c .before .before .put-bytes .ensures) (c .put-subspace .ensures),
+      omega arith,
+    )
+
+pub print-subspaces-spec : {M : Type 1} → statement M
+print-subspaces-spec =
+    tie.close
+    (tie.spec
+    slice-aggregate-put-hex
+    put-hex-requires
+    slice-aggregate-put-bytes
+    put-bytes-requires
+    put-subspace-requires
+    returns)

@@ -1,0 +1,94 @@
+use mathlib.Core.Path.{refl}
+use mathlib.Core.Bool.{true, false}
+use mathlib.Core.List.{List}
+use Prim.Native.Nat.{ℕ, _+_}
+use denote.Ref.{now}
+use borrow.Author.Tests.{not-true, not-false}
+use Rattle.case_text.specs.Fields.{field, onField}
+use Rattle.case_text.proofs.Steps.{path-says, path-says-no, field-says, says-then, says-none}
+use Rattle.path.specs.declared.Path.{Path}
+use Rattle.range_3d.specs.declared.PathRange.{PathRange}
+use Rattle.case_range_text.specs.declared.PathEnd.{PathEnd}
+use Rattle.case_range_text.specs.Fields.{readPathEnd, noPathsField}
+use borrow.Author.Needs.{needs}
+use Rattle.case_range_text.proofs.read_paths.Statement.{statement}
+use Rattle.case_range_text.proofs.read_paths.Tie as tie
+use Rattle.case_range_text.proofs.read_paths.Reads as reads
+use Rattle.case_range_text.proofs.read_paths.Lts as lts
+use Rattle.case_range_text.proofs.no_paths.Reads as no-paths-reads
+use Rattle.case_range_text.proofs.read_path_end.Reads as read-path-end-reads
+use Rattle.path_text.proofs.read_path.Reads as read-path-reads
+use Rattle.text.proofs.part.Reads as part-reads
+
+-- what comes after each field
+abbrev end-of : Path → PathEnd → (PathRange → List ℕ) → List ℕ
+end-of start end k = k (record { start = start; «end_open» = end .«end_open»; end = end .path })
+
+abbrev start-of : ℕ → List ℕ → Path → (PathRange → List ℕ) → List ℕ
+start-of i line start k = onField (readPathEnd (field (i + 1) line) .ok) (readPathEnd (field (i + 1) line) .end) (λ end. end-of start end k)
+
+part-requires : tie.Need-part-requires
+part-requires c κs = search needs
+
+read-path-requires : tie.Need-read-path-requires
+read-path-requires c κs = search needs
+
+enum-told : tie.Need-enum-told
+enum-told c = search needs
+
+enum-told-2 : tie.Need-enum-told-2
+enum-told-2 c = search needs
+
+no-paths-requires : tie.Need-no-paths-requires
+no-paths-requires c κs = search needs
+
+returns : tie.Need-returns
+unfolding noPathsField
+returns c =
+    let i = c .before .before .before .before .before .before .args .i in
+    let line = now (c .before .before .before .before .before .before .args .line) in
+    rw (c .no-paths .ensures) (says-none (start-of i line) _ (path-says-no i line (c .before .before .before .before .part .ensures) (c .before .before .before .read-path .ensures) (c .before .enum-told2 .given .1)))
+
+add-part : tie.Need-add-part
+add-part c = search needs
+
+part-requires-2 : tie.Need-part-requires-2
+part-requires-2 c κs = search needs
+
+read-path-end-requires : tie.Need-read-path-end-requires
+read-path-end-requires c κs = search needs
+
+no-paths-requires-2 : tie.Need-no-paths-requires-2
+no-paths-requires-2 c κs = search needs
+
+returns-2 : tie.Need-returns-2
+unfolding noPathsField
+returns-2 c =
+    let i = c .before .before .before .before .before .before .before .before .before .before .args .i in
+    let line = now (c .before .before .before .before .before .before .before .before .before .before .args .line) in
+    let first = path-says i line (c .before .before .before .before .before .before .before .before .part .ensures) (c .before .before .before .before .before .before .before .read-path .ensures) (c .before .before .before .before .before .enum-told .given .1) in
+    rw (c .no-paths2 .ensures) (says-then (start-of i line) first (says-none (end-of _) _ (field-says readPathEnd (λ r. r .ok) (λ r. r .end) (i + 1) line (c .before .before .before .before .part2 .ensures) (c .before .before .before .read-path-end .ensures) false (not-true _ (c .before .if1 .taken)))))
+
+returns-3 : tie.Need-returns-3
+returns-3 c =
+    let i = c .before .before .before .before .before .before .before .before .before .before .before .before .args .i in
+    let line = now (c .before .before .before .before .before .before .before .before .before .before .before .before .args .line) in
+    let first = path-says i line (c .before .before .before .before .before .before .before .before .before .before .part .ensures) (c .before .before .before .before .before .before .before .before .before .read-path .ensures) (c .before .before .before .before .before .before .before .enum-told .given .1) in
+    says-then (start-of i line) first (says-then (end-of _) (field-says readPathEnd (λ r. r .ok) (λ r. r .end) (i + 1) line (c .before .before .before .before .before .before .part2 .ensures) (c .before .before .before .before .before .read-path-end .ensures) true (not-false _ (c .before .before .before .if1 .left))) (record { said = λ k. refl }))
+
+pub read-paths-spec : {M : Type 1} → statement M
+read-paths-spec =
+    tie.close
+    (tie.spec
+    part-requires
+    read-path-requires
+    enum-told
+    enum-told-2
+    no-paths-requires
+    returns
+    add-part
+    part-requires-2
+    read-path-end-requires
+    no-paths-requires-2
+    returns-2
+    returns-3)

@@ -1,0 +1,98 @@
+use mathlib.Core.Path.{refl}
+use mathlib.Core.List.{List}
+use Prim.Native.Nat.{ℕ, _+_}
+use denote.Ref.{now}
+use borrow.Author.Tests.{not-true, not-false}
+use Rattle.case_text.proofs.Steps.{says-then, says-none, says-as}
+use Rattle.grouping.specs.declared.TimeRange.{TimeRange}
+use Rattle.range_3d.specs.declared.SubspaceRange.{SubspaceRange}
+use Rattle.range_3d.specs.declared.PathRange.{PathRange}
+use Rattle.range_3d.specs.declared.Range3d.{Range3d}
+use Rattle.case_range_text.specs.Fields.{pathsField, timesField, noRangeField}
+use borrow.Author.Needs.{needs}
+use Rattle.case_range_text.proofs.read_range.Statement.{statement}
+use Rattle.case_range_text.proofs.read_range.Tie as tie
+use Rattle.case_range_text.proofs.read_range.Reads as reads
+use Rattle.case_range_text.proofs.read_range.Lts as lts
+use Rattle.case_range_text.proofs.no_range.Reads as no-range-reads
+use Rattle.case_range_text.proofs.read_paths.Reads as read-paths-reads
+use Rattle.case_range_text.proofs.read_subspaces.Reads as read-subspaces-reads
+use Rattle.case_range_text.proofs.read_times.Reads as read-times-reads
+
+-- what comes after each part
+abbrev times-of : SubspaceRange → PathRange → TimeRange → (Range3d → List ℕ) → List ℕ
+times-of s p t k = k (record { subspaces = s; paths = p; times = t })
+
+abbrev paths-of : ℕ → List ℕ → SubspaceRange → PathRange → (Range3d → List ℕ) → List ℕ
+paths-of i line s p k = timesField (i + 4) line (λ t. times-of s p t k)
+
+abbrev subspaces-of : ℕ → List ℕ → SubspaceRange → (Range3d → List ℕ) → List ℕ
+subspaces-of i line s k = pathsField (i + 2) line (λ p. paths-of i line s p k)
+
+read-subspaces-requires : tie.Need-read-subspaces-requires
+read-subspaces-requires c κs = search needs
+
+no-range-requires : tie.Need-no-range-requires
+no-range-requires c κs = search needs
+
+returns : tie.Need-returns
+unfolding noRangeField
+returns c =
+    let i = c .before .before .before .before .before .args .place in
+    let line = now (c .before .before .before .before .before .args .line) in
+    rw (c .no-range .ensures) (says-none (subspaces-of i line) _ (says-as (c .before .before .before .read-subspaces .ensures) (not-true _ (c .before .if1 .taken))), refl)
+
+add-read-paths : tie.Need-add-read-paths
+add-read-paths c = search needs
+
+read-paths-requires : tie.Need-read-paths-requires
+read-paths-requires c κs = search needs
+
+no-range-requires-2 : tie.Need-no-range-requires-2
+no-range-requires-2 c κs = search needs
+
+returns-2 : tie.Need-returns-2
+unfolding noRangeField
+returns-2 c =
+    let i = c .before .before .before .before .before .before .before .before .args .place in
+    let line = now (c .before .before .before .before .before .before .before .before .args .line) in
+    rw (c .no-range2 .ensures) (says-then (subspaces-of i line) (says-as (c .before .before .before .before .before .before .read-subspaces .ensures) (not-false _ (c .before .before .before .before .if1 .left))) (says-none (paths-of i line _) _ (says-as (c .before .before .before .read-paths .ensures) (not-true _ (c .before .if2 .taken)))), refl)
+
+add-read-times : tie.Need-add-read-times
+add-read-times c = search needs
+
+read-times-requires : tie.Need-read-times-requires
+read-times-requires c κs = search needs
+
+no-range-requires-3 : tie.Need-no-range-requires-3
+no-range-requires-3 c κs = search needs
+
+returns-3 : tie.Need-returns-3
+unfolding noRangeField
+returns-3 c =
+    let i = c .before .before .before .before .before .before .before .before .before .before .before .args .place in
+    let line = now (c .before .before .before .before .before .before .before .before .before .before .before .args .line) in
+    rw (c .no-range3 .ensures) (says-then (subspaces-of i line) (says-as (c .before .before .before .before .before .before .before .before .before .read-subspaces .ensures) (not-false _ (c .before .before .before .before .before .before .before .if1 .left))) (says-then (paths-of i line _) (says-as (c .before .before .before .before .before .before .read-paths .ensures) (not-false _ (c .before .before .before .before .if2 .left))) (says-none (times-of _ _) _ (says-as (c .before .before .before .read-times .ensures) (not-true _ (c .before .if3 .taken))))), refl)
+
+returns-4 : tie.Need-returns-4
+returns-4 c =
+    let i = c .before .before .before .before .before .before .before .before .before .before .before .before .before .args .place in
+    let line = now (c .before .before .before .before .before .before .before .before .before .before .before .before .before .args .line) in
+    (says-then (subspaces-of i line) (says-as (c .before .before .before .before .before .before .before .before .before .before .before .read-subspaces .ensures) (not-false _ (c .before .before .before .before .before .before .before .before .before .if1 .left))) (says-then (paths-of i line _) (says-as (c .before .before .before .before .before .before .before .before .read-paths .ensures) (not-false _ (c .before .before .before .before .before .before .if2 .left))) (says-then (times-of _ _) (says-as (c .before .before .before .before .before .read-times .ensures) (not-false _ (c .before .before .before .if3 .left))) (record { said = λ k. refl }))), refl)
+
+pub read-range-spec : {M : Type 1} → statement M
+read-range-spec =
+    tie.close
+    (tie.spec
+    read-subspaces-requires
+    no-range-requires
+    returns
+    add-read-paths
+    read-paths-requires
+    no-range-requires-2
+    returns-2
+    add-read-times
+    read-times-requires
+    no-range-requires-3
+    returns-3
+    returns-4)

@@ -1,0 +1,87 @@
+use mathlib.Core.Path.{refl}
+use mathlib.Core.Bool.{true, false}
+use mathlib.Core.List.{List}
+use Prim.Native.Nat.{ℕ, _+_}
+use denote.Ref.{now}
+use borrow.Author.Tests.{not-true, not-false}
+use Rattle.text.specs.Ids.{readId}
+use Rattle.area_text.specs.AreaText.{readSubspaceText}
+use Rattle.case_text.specs.Fields.{field, onField}
+use Rattle.case_text.proofs.Steps.{field-says, says-then, says-none}
+use Rattle.grouping.specs.declared.AreaSubspace.{AreaSubspace}
+use Rattle.range_3d.specs.declared.SubspaceRange.{SubspaceRange}
+use Rattle.case_range_text.specs.Fields.{noSubspacesField}
+use borrow.Author.Needs.{needs}
+use Rattle.case_range_text.proofs.read_subspaces.Statement.{statement}
+use Rattle.case_range_text.proofs.read_subspaces.Tie as tie
+use Rattle.case_range_text.proofs.read_subspaces.Reads as reads
+use Rattle.case_range_text.proofs.read_subspaces.Lts as lts
+use Rattle.area_text.proofs.read_subspace.Reads as read-subspace-reads
+use Rattle.case_range_text.proofs.no_subspaces.Reads as no-subspaces-reads
+use Rattle.text.proofs.ids.read_id.Reads as read-id-reads
+use Rattle.text.proofs.part.Reads as part-reads
+
+-- what comes after each field
+abbrev end-of : List ℕ → AreaSubspace → (SubspaceRange → List ℕ) → List ℕ
+end-of start end k = k (record { start = start; «end_open» = end .any; end = end .id })
+
+abbrev start-of : ℕ → List ℕ → List ℕ → (SubspaceRange → List ℕ) → List ℕ
+start-of i line start k = onField (readSubspaceText (field (i + 1) line) .ok) (readSubspaceText (field (i + 1) line) .subspace) (λ end. end-of start end k)
+
+part-requires : tie.Need-part-requires
+part-requires c κs = search needs
+
+read-id-requires : tie.Need-read-id-requires
+read-id-requires c κs = search needs
+
+no-subspaces-requires : tie.Need-no-subspaces-requires
+no-subspaces-requires c κs = search needs
+
+returns : tie.Need-returns
+unfolding noSubspacesField
+returns c =
+    let i = c .before .before .before .before .before .before .args .i in
+    let line = now (c .before .before .before .before .before .before .args .line) in
+    rw (c .no-subspaces .ensures) (says-none (start-of i line) _ (field-says readId (λ r. r .ok) (λ r. r .id) i line (c .before .before .before .before .part .ensures) (c .before .before .before .read-id .ensures) false (not-true _ (c .before .if1 .taken))))
+
+add-part : tie.Need-add-part
+add-part c = search needs
+
+part-requires-2 : tie.Need-part-requires-2
+part-requires-2 c κs = search needs
+
+read-subspace-requires : tie.Need-read-subspace-requires
+read-subspace-requires c κs = search needs
+
+no-subspaces-requires-2 : tie.Need-no-subspaces-requires-2
+no-subspaces-requires-2 c κs = search needs
+
+returns-2 : tie.Need-returns-2
+unfolding noSubspacesField
+returns-2 c =
+    let i = c .before .before .before .before .before .before .before .before .before .before .args .i in
+    let line = now (c .before .before .before .before .before .before .before .before .before .before .args .line) in
+    let first = field-says readId (λ r. r .ok) (λ r. r .id) i line (c .before .before .before .before .before .before .before .before .part .ensures) (c .before .before .before .before .before .before .before .read-id .ensures) true (not-false _ (c .before .before .before .before .before .if1 .left)) in
+    rw (c .no-subspaces2 .ensures) (says-then (start-of i line) first (says-none (end-of _) _ (field-says readSubspaceText (λ r. r .ok) (λ r. r .subspace) (i + 1) line (c .before .before .before .before .part2 .ensures) (c .before .before .before .read-subspace .ensures) false (not-true _ (c .before .if2 .taken)))))
+
+returns-3 : tie.Need-returns-3
+returns-3 c =
+    let i = c .before .before .before .before .before .before .before .before .before .before .before .before .args .i in
+    let line = now (c .before .before .before .before .before .before .before .before .before .before .before .before .args .line) in
+    let first = field-says readId (λ r. r .ok) (λ r. r .id) i line (c .before .before .before .before .before .before .before .before .before .before .part .ensures) (c .before .before .before .before .before .before .before .before .before .read-id .ensures) true (not-false _ (c .before .before .before .before .before .before .before .if1 .left)) in
+    says-then (start-of i line) first (says-then (end-of _) (field-says readSubspaceText (λ r. r .ok) (λ r. r .subspace) (i + 1) line (c .before .before .before .before .before .before .part2 .ensures) (c .before .before .before .before .before .read-subspace .ensures) true (not-false _ (c .before .before .before .if2 .left))) (record { said = λ k. refl }))
+
+pub read-subspaces-spec : {M : Type 1} → statement M
+read-subspaces-spec =
+    tie.close
+    (tie.spec
+    part-requires
+    read-id-requires
+    no-subspaces-requires
+    returns
+    add-part
+    part-requires-2
+    read-subspace-requires
+    no-subspaces-requires-2
+    returns-2
+    returns-3)

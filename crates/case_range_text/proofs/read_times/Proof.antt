@@ -1,0 +1,94 @@
+use mathlib.Core.Path.{refl}
+use mathlib.Core.Bool.{true, false}
+use mathlib.Core.List.{List}
+use Prim.Native.Nat.{ℕ, _+_}
+use denote.Ref.{now}
+use borrow.Author.Tests.{not-true, not-false}
+use Rattle.area_text.specs.AreaText.{readEndText}
+use Rattle.case_text.specs.Fields.{field, onField}
+use Rattle.case_text.proofs.Steps.{decimal-says, decimal-says-no, field-says, says-then, says-none}
+use Rattle.grouping.specs.declared.RangeEnd.{RangeEnd}
+use Rattle.grouping.specs.declared.TimeRange.{TimeRange}
+use Rattle.case_range_text.specs.Fields.{noTimesField}
+use borrow.Author.Needs.{needs}
+use Rattle.case_range_text.proofs.read_times.Statement.{statement}
+use Rattle.case_range_text.proofs.read_times.Tie as tie
+use Rattle.case_range_text.proofs.read_times.Reads as reads
+use Rattle.case_range_text.proofs.read_times.Lts as lts
+use Rattle.area_text.proofs.read_end.Reads as read-end-reads
+use Rattle.case_range_text.proofs.no_times.Reads as no-times-reads
+use Rattle.text.proofs.part.Reads as part-reads
+use Rattle.text.proofs.read_decimal.Reads as read-decimal-reads
+
+-- what comes after each field
+abbrev end-of : ℕ → RangeEnd → (TimeRange → List ℕ) → List ℕ
+end-of start end k = k (record { start = start; end = end })
+
+abbrev start-of : ℕ → List ℕ → ℕ → (TimeRange → List ℕ) → List ℕ
+start-of i line start k = onField (readEndText (field (i + 1) line) .ok) (readEndText (field (i + 1) line) .end) (λ end. end-of start end k)
+
+part-requires : tie.Need-part-requires
+part-requires c κs = search needs
+
+read-decimal-requires : tie.Need-read-decimal-requires
+read-decimal-requires c κs = search needs
+
+enum-known-first : tie.Need-enum-known-first
+enum-known-first c = search needs
+
+enum-told : tie.Need-enum-told
+enum-told c = search needs
+
+no-times-requires : tie.Need-no-times-requires
+no-times-requires c κs = search needs
+
+returns : tie.Need-returns
+unfolding noTimesField
+returns c =
+    let i = c .before .before .before .before .before .before .args .i in
+    let line = now (c .before .before .before .before .before .before .args .line) in
+    rw (c .no-times .ensures) (says-none (start-of i line) _ (decimal-says-no i line (c .before .before .before .before .part .ensures) (c .before .before .before .read-decimal .ensures) (c .before .enum-told .given .1)))
+
+add-part : tie.Need-add-part
+add-part c = search needs
+
+part-requires-2 : tie.Need-part-requires-2
+part-requires-2 c κs = search needs
+
+read-end-requires : tie.Need-read-end-requires
+read-end-requires c κs = search needs
+
+no-times-requires-2 : tie.Need-no-times-requires-2
+no-times-requires-2 c κs = search needs
+
+returns-2 : tie.Need-returns-2
+unfolding noTimesField
+returns-2 c =
+    let i = c .before .before .before .before .before .before .before .before .before .before .before .args .i in
+    let line = now (c .before .before .before .before .before .before .before .before .before .before .before .args .line) in
+    let first = decimal-says i line (c .before .before .before .before .before .before .before .before .before .part .ensures) (c .before .before .before .before .before .before .before .before .read-decimal .ensures) (c .before .before .before .before .before .before .first .given .1) in
+    rw (c .no-times2 .ensures) (says-then (start-of i line) first (says-none (end-of _) _ (field-says readEndText (λ r. r .ok) (λ r. r .end) (i + 1) line (c .before .before .before .before .part2 .ensures) (c .before .before .before .read-end .ensures) false (not-true _ (c .before .if1 .taken)))))
+
+returns-3 : tie.Need-returns-3
+returns-3 c =
+    let i = c .before .before .before .before .before .before .before .before .before .before .args .i in
+    let line = now (c .before .before .before .before .before .before .before .before .before .before .args .line) in
+    let first = decimal-says i line (c .before .before .before .before .before .before .before .before .part .ensures) (c .before .before .before .before .before .before .before .read-decimal .ensures) (c .before .before .before .before .before .first .given .1) in
+    says-then (start-of i line) first (says-then (end-of _) (field-says readEndText (λ r. r .ok) (λ r. r .end) (i + 1) line (c .before .before .before .part2 .ensures) (c .before .before .read-end .ensures) true (not-false _ (c .if1 .left))) (record { said = λ k. refl }))
+
+pub read-times-spec : {M : Type 1} → statement M
+read-times-spec =
+    tie.close
+    (tie.spec
+    part-requires
+    read-decimal-requires
+    enum-known-first
+    enum-told
+    no-times-requires
+    returns
+    add-part
+    part-requires-2
+    read-end-requires
+    no-times-requires-2
+    returns-2
+    returns-3)
