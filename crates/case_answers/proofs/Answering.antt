@@ -23,11 +23,3 @@ module _ (line : List ℕ) where
   pub kind-told : {s : List ℕ} {k x : Kind} → length line ≤ 16384 → s ≡ partAt 9 0 line → k ≡ kindOf s → k ≡ x → answerTo line ≡ ended (kindLine x line)
   unfolding answerTo
   kind-told h part told e = rw (le-leb _ _ h, ← part, ← told, e)
-
--- ---- a text that was put into a buffer, which kept its length, ends inside it
-over-long : (at : ℕ) (t l : List ℕ) → at ≤ length l → length (overAt at t l) ≡ at + (length t + (length l - at - length t))
-unfolding overAt
-over-long at t l h = rw (length-append, length-append, length-drop, length-drop, length-take-le at l h)
-
-pub ends-inside : {at r : ℕ} {t l l' : List ℕ} → Puts at t l l' r → at ≤ length l → length l' ≡ length l → r ≤ length l'
-ends-inside {at} {r} {t} {l} {l'} p h kept = omega (arith, p .place, ap length (p .buffer), over-long at t l h)

@@ -1,14 +1,14 @@
 -- Laws of texts put into a buffer, one after another.
-use mathlib.Core.Path.{_≡_, refl, sym, _∙_}
+use mathlib.Core.Path.{_≡_, refl, sym, ap, _∙_}
 use mathlib.Core.List.{List, [], _∷_, _++_}
 use mathlib.Core.Logic.{⊎-elim}
-use Prim.Native.Nat.{ℕ, _+_, _≤_, _<_}
+use Prim.Native.Nat.{ℕ, _+_, _-_, _≤_, _<_}
 use types.Run.{OneOf}
 use denote.Enum.Declared.{tagOf}
 use native.Mathlib.Omega.{arith}
 use borrow.Author.Tests.{le-leb, lt-leb}
-use lib.ListN.{length, take, drop, length-append}
-use lib.Seq.{take-at}
+use lib.ListN.{length, take, drop, length-append, length-drop}
+use lib.Seq.{take-at, length-take-le}
 use Rattle.codec.specs.declared.Encoded.{Encoded}
 use Rattle.codec.specs.declared.Encoded.the-variants as encoded
 use Rattle.codec.specs.Answers.{outcomeOf}
@@ -59,6 +59,14 @@ unfolding overAt
 puts-first {t} {l} {l'} {r} p =
     let long : r ≡ length t = omega (arith, p .place) in
     rw (p .buffer, long) (take-at t (drop (length t) l) (length t) refl)
+
+-- a text that was put into a buffer, which kept its length, ends inside it
+over-long : (at : ℕ) (t l : List ℕ) → at ≤ length l → length (overAt at t l) ≡ at + (length t + (length l - at - length t))
+unfolding overAt
+over-long at t l h = rw (length-append, length-append, length-drop, length-drop, length-take-le at l h)
+
+pub ends-inside : {at r : ℕ} {t l l' : List ℕ} → Puts at t l l' r → at ≤ length l → length l' ≡ length l → r ≤ length l'
+ends-inside {at} {r} {t} {l} {l'} p h kept = omega (arith, p .place, ap length (p .buffer), over-long at t l h)
 
 -- ---- a text put where `room` bytes are free
 module _ {room at : ℕ} {t l : List ℕ} where

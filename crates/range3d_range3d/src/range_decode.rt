@@ -69,23 +69,15 @@ pub(crate) fn decode_parts(
         start_from_start: header.path_start_from_start,
         end_from_start: header.path_end_from_start,
     };
-    let second = range_paths::relative_decode(
-        &message[a..],
-        header.path_end_open,
-        sides,
-        reference.paths,
-    );
+    let paths_open = header.path_end_open;
+    let second = range_paths::relative_decode(&message[a..], paths_open, sides, reference.paths);
     let second_answer = second.answer;
     let Decoded::Consumed(b) = second_answer else {
         return refuse(second_answer);
     };
     let at = a + b;
-    let third = range_times::relative_decode(
-        &message[at..],
-        times,
-        header.times_end_open,
-        reference.times,
-    );
+    let times_open = header.times_end_open;
+    let third = range_times::relative_decode(&message[at..], times, times_open, reference.times);
     let third_answer = third.answer;
     let Decoded::Consumed(c) = third_answer else {
         return refuse(third_answer);

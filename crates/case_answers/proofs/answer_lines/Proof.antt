@@ -12,9 +12,8 @@ use Rattle.text.proofs.Buffer.{overAt-start, overAt-none, overAt-then}
 use Rattle.lines.specs.Lines.{span, answers, fittingLines}
 use Rattle.lines.proofs.Lines.{span-none, span-next, answers-none, answers-next}
 use Rattle.lines.proofs.Fitting.{fitting-short, fitting-end, fitting-turn}
-use Rattle.case_text.proofs.Puts.{within-puts}
+use Rattle.case_text.proofs.Puts.{within-puts, ends-inside}
 use Rattle.case_answers.specs.Lines.{answerTo}
-use Rattle.case_answers.proofs.Answering.{ends-inside}
 use borrow.Author.Needs.{needs}
 use Rattle.case_answers.proofs.answer_lines.Statement.{statement}
 use Rattle.case_answers.proofs.answer_lines.Tie as tie

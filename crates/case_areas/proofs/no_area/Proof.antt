@@ -3,9 +3,6 @@ use Rattle.case_areas.specs.Lines.{noArea}
 use borrow.Author.Needs.{needs}
 use Rattle.case_areas.proofs.no_area.Statement.{statement}
 use Rattle.case_areas.proofs.no_area.Tie as tie
-use Rattle.case_areas.proofs.no_area.Reads as reads
-use Rattle.case_areas.proofs.no_area.Lts as lts
-use Rattle.path.proofs.Path.new_empty.Reads as new-empty-reads
 
 new-empty-requires : tie.Need-new-empty-requires
 new-empty-requires c κs = search needs

@@ -15,14 +15,6 @@ use Rattle.case_areas.specs.Lines.{noArea}
 use borrow.Author.Needs.{needs}
 use Rattle.case_areas.proofs.read_area.Statement.{statement}
 use Rattle.case_areas.proofs.read_area.Tie as tie
-use Rattle.case_areas.proofs.read_area.Reads as reads
-use Rattle.case_areas.proofs.read_area.Lts as lts
-use Rattle.area_text.proofs.read_end.Reads as read-end-reads
-use Rattle.area_text.proofs.read_subspace.Reads as read-subspace-reads
-use Rattle.case_areas.proofs.no_area.Reads as no-area-reads
-use Rattle.path_text.proofs.read_path.Reads as read-path-reads
-use Rattle.text.proofs.part.Reads as part-reads
-use Rattle.text.proofs.read_decimal.Reads as read-decimal-reads
 
 -- what comes after each field
 abbrev end-of : AreaSubspace → Path → ℕ → RangeEnd → (Area → List ℕ) → List ℕ

@@ -3,9 +3,6 @@ use Rattle.case_entry_text.specs.Fields.{noEntry}
 use borrow.Author.Needs.{needs}
 use Rattle.case_entry_text.proofs.no_entry.Statement.{statement}
 use Rattle.case_entry_text.proofs.no_entry.Tie as tie
-use Rattle.case_entry_text.proofs.no_entry.Reads as reads
-use Rattle.case_entry_text.proofs.no_entry.Lts as lts
-use Rattle.path.proofs.Path.new_empty.Reads as new-empty-reads
 
 new-empty-requires : tie.Need-new-empty-requires
 new-empty-requires c κs = search needs

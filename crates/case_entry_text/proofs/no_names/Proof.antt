@@ -2,9 +2,6 @@ use Rattle.case_entry_text.specs.Fields.{noNames}
 use borrow.Author.Needs.{needs}
 use Rattle.case_entry_text.proofs.no_names.Statement.{statement}
 use Rattle.case_entry_text.proofs.no_names.Tie as tie
-use Rattle.case_entry_text.proofs.no_names.Reads as reads
-use Rattle.case_entry_text.proofs.no_names.Lts as lts
-use Rattle.path.proofs.Path.new_empty.Reads as new-empty-reads
 
 new-empty-requires : tie.Need-new-empty-requires
 new-empty-requires c κs = search needs

@@ -13,13 +13,6 @@ use Rattle.case_entry_text.specs.declared.Names.{Names}
 use borrow.Author.Needs.{needs}
 use Rattle.case_entry_text.proofs.read_entry.Statement.{statement}
 use Rattle.case_entry_text.proofs.read_entry.Tie as tie
-use Rattle.case_entry_text.proofs.read_entry.Reads as reads
-use Rattle.case_entry_text.proofs.read_entry.Lts as lts
-use Rattle.case_entry_text.proofs.no_entry.Reads as no-entry-reads
-use Rattle.case_entry_text.proofs.read_names.Reads as read-names-reads
-use Rattle.text.proofs.ids.read_id.Reads as read-id-reads
-use Rattle.text.proofs.part.Reads as part-reads
-use Rattle.text.proofs.read_decimal.Reads as read-decimal-reads
 
 -- what comes after the names, and after each other field
 abbrev digest-of : Names → ℕ → ℕ → List ℕ → (Entry → List ℕ) → List ℕ

@@ -13,12 +13,6 @@ use Rattle.case_entry_text.specs.declared.Names.{Names}
 use borrow.Author.Needs.{needs}
 use Rattle.case_entry_text.proofs.read_names.Statement.{statement}
 use Rattle.case_entry_text.proofs.read_names.Tie as tie
-use Rattle.case_entry_text.proofs.read_names.Reads as reads
-use Rattle.case_entry_text.proofs.read_names.Lts as lts
-use Rattle.case_entry_text.proofs.no_names.Reads as no-names-reads
-use Rattle.path_text.proofs.read_path.Reads as read-path-reads
-use Rattle.text.proofs.ids.read_id.Reads as read-id-reads
-use Rattle.text.proofs.part.Reads as part-reads
 
 -- what comes after each field
 abbrev third-of : List ℕ → List ℕ → Path → (Names → List ℕ) → List ℕ

@@ -2,9 +2,6 @@ use Rattle.case_range_text.specs.Fields.{noPathsField}
 use borrow.Author.Needs.{needs}
 use Rattle.case_range_text.proofs.no_paths.Statement.{statement}
 use Rattle.case_range_text.proofs.no_paths.Tie as tie
-use Rattle.case_range_text.proofs.no_paths.Reads as reads
-use Rattle.case_range_text.proofs.no_paths.Lts as lts
-use Rattle.path.proofs.Path.new_empty.Reads as new-empty-reads
 
 new-empty-requires : tie.Need-new-empty-requires
 new-empty-requires c κs = search needs

@@ -2,11 +2,6 @@ use Rattle.case_range_text.specs.Fields.{noSubspacesField, noPathsField,
 use borrow.Author.Needs.{needs}
 use Rattle.case_range_text.proofs.no_range.Statement.{statement}
 use Rattle.case_range_text.proofs.no_range.Tie as tie
-use Rattle.case_range_text.proofs.no_range.Reads as reads
-use Rattle.case_range_text.proofs.no_range.Lts as lts
-use Rattle.case_range_text.proofs.no_paths.Reads as no-paths-reads
-use Rattle.case_range_text.proofs.no_subspaces.Reads as no-subspaces-reads
-use Rattle.case_range_text.proofs.no_times.Reads as no-times-reads
 
 no-subspaces-requires : tie.Need-no-subspaces-requires
 no-subspaces-requires c κs = search needs

@@ -2,8 +2,6 @@ use mathlib.Core.Path.{refl}
 use Rattle.case_range_text.specs.Fields.{noTimesField}
 use Rattle.case_range_text.proofs.no_times.Statement.{statement}
 use Rattle.case_range_text.proofs.no_times.Tie as tie
-use Rattle.case_range_text.proofs.no_times.Reads as reads
-use Rattle.case_range_text.proofs.no_times.Lts as lts
 
 returns : tie.Need-returns
 unfolding noTimesField

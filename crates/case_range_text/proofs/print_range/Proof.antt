@@ -17,14 +17,6 @@ use Rattle.case_range_text.specs.Fields.{subspacesText, pathEndText}
 use borrow.Author.Needs.{needs}
 use Rattle.case_range_text.proofs.print_range.Statement.{statement}
 use Rattle.case_range_text.proofs.print_range.Tie as tie
-use Rattle.case_range_text.proofs.print_range.Reads as reads
-use Rattle.case_range_text.proofs.print_range.Lts as lts
-use Rattle.area_text.proofs.put_end.Reads as put-end-reads
-use Rattle.case_range_text.proofs.print_subspaces.Reads as print-subspaces-reads
-use Rattle.case_range_text.proofs.put_path_end.Reads as put-path-end-reads
-use Rattle.path_text.proofs.put_path.Reads as put-path-reads
-use Rattle.text.proofs.put_bytes.Reads as put-bytes-reads
-use Rattle.text.proofs.put_decimal.Reads as put-decimal-reads
 
 print-subspaces-requires : tie.Need-print-subspaces-requires
 print-subspaces-requires c κs = search needs

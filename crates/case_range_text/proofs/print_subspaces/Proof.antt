@@ -8,11 +8,6 @@ use Rattle.case_text.proofs.Puts.{puts-fits, puts-tab}
 use borrow.Author.Needs.{needs}
 use Rattle.case_range_text.proofs.print_subspaces.Statement.{statement}
 use Rattle.case_range_text.proofs.print_subspaces.Tie as tie
-use Rattle.case_range_text.proofs.print_subspaces.Reads as reads
-use Rattle.case_range_text.proofs.print_subspaces.Lts as lts
-use Rattle.area_text.proofs.put_subspace.Reads as put-subspace-reads
-use Rattle.text.proofs.put_bytes.Reads as put-bytes-reads
-use Rattle.text.proofs.put_hex.Reads as put-hex-reads
 
 slice-aggregate-put-hex : tie.Need-slice-aggregate-put-hex
 slice-aggregate-put-hex c = search needs

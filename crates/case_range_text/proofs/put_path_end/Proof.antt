@@ -2,10 +2,6 @@ use Rattle.case_range_text.specs.Fields.{pathEndText}
 use borrow.Author.Needs.{needs}
 use Rattle.case_range_text.proofs.put_path_end.Statement.{statement}
 use Rattle.case_range_text.proofs.put_path_end.Tie as tie
-use Rattle.case_range_text.proofs.put_path_end.Reads as reads
-use Rattle.case_range_text.proofs.put_path_end.Lts as lts
-use Rattle.path_text.proofs.put_path.Reads as put-path-reads
-use Rattle.text.proofs.put_bytes.Reads as put-bytes-reads
 
 slice-aggregate-put-bytes : tie.Need-slice-aggregate-put-bytes
 slice-aggregate-put-bytes c = search needs

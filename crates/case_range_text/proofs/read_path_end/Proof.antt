@@ -2,11 +2,6 @@ use Rattle.case_range_text.specs.Fields.{readPathEnd}
 use borrow.Author.Needs.{needs}
 use Rattle.case_range_text.proofs.read_path_end.Statement.{statement}
 use Rattle.case_range_text.proofs.read_path_end.Tie as tie
-use Rattle.case_range_text.proofs.read_path_end.Reads as reads
-use Rattle.case_range_text.proofs.read_path_end.Lts as lts
-use Rattle.codec.proofs.same_bytes.Reads as same-bytes-reads
-use Rattle.path.proofs.Path.new_empty.Reads as new-empty-reads
-use Rattle.path_text.proofs.read_path.Reads as read-path-reads
 
 slice-aggregate-same-bytes : tie.Need-slice-aggregate-same-bytes
 slice-aggregate-same-bytes c = search needs

@@ -13,12 +13,6 @@ use Rattle.case_range_text.specs.Fields.{readPathEnd, noPathsField}
 use borrow.Author.Needs.{needs}
 use Rattle.case_range_text.proofs.read_paths.Statement.{statement}
 use Rattle.case_range_text.proofs.read_paths.Tie as tie
-use Rattle.case_range_text.proofs.read_paths.Reads as reads
-use Rattle.case_range_text.proofs.read_paths.Lts as lts
-use Rattle.case_range_text.proofs.no_paths.Reads as no-paths-reads
-use Rattle.case_range_text.proofs.read_path_end.Reads as read-path-end-reads
-use Rattle.path_text.proofs.read_path.Reads as read-path-reads
-use Rattle.text.proofs.part.Reads as part-reads
 
 -- what comes after each field
 abbrev end-of : Path → PathEnd → (PathRange → List ℕ) → List ℕ

@@ -12,12 +12,6 @@ use Rattle.case_range_text.specs.Fields.{pathsField, timesField, noRange
 use borrow.Author.Needs.{needs}
 use Rattle.case_range_text.proofs.read_range.Statement.{statement}
 use Rattle.case_range_text.proofs.read_range.Tie as tie
-use Rattle.case_range_text.proofs.read_range.Reads as reads
-use Rattle.case_range_text.proofs.read_range.Lts as lts
-use Rattle.case_range_text.proofs.no_range.Reads as no-range-reads
-use Rattle.case_range_text.proofs.read_paths.Reads as read-paths-reads
-use Rattle.case_range_text.proofs.read_subspaces.Reads as read-subspaces-reads
-use Rattle.case_range_text.proofs.read_times.Reads as read-times-reads
 
 -- what comes after each part
 abbrev times-of : SubspaceRange → PathRange → TimeRange → (Range3d → List ℕ) → List ℕ

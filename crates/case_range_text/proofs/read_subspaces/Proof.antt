@@ -14,12 +14,6 @@ use Rattle.case_range_text.specs.Fields.{noSubspacesField}
 use borrow.Author.Needs.{needs}
 use Rattle.case_range_text.proofs.read_subspaces.Statement.{statement}
 use Rattle.case_range_text.proofs.read_subspaces.Tie as tie
-use Rattle.case_range_text.proofs.read_subspaces.Reads as reads
-use Rattle.case_range_text.proofs.read_subspaces.Lts as lts
-use Rattle.area_text.proofs.read_subspace.Reads as read-subspace-reads
-use Rattle.case_range_text.proofs.no_subspaces.Reads as no-subspaces-reads
-use Rattle.text.proofs.ids.read_id.Reads as read-id-reads
-use Rattle.text.proofs.part.Reads as part-reads
 
 -- what comes after each field
 abbrev end-of : List ℕ → AreaSubspace → (SubspaceRange → List ℕ) → List ℕ

@@ -13,12 +13,6 @@ use Rattle.case_range_text.specs.Fields.{noTimesField}
 use borrow.Author.Needs.{needs}
 use Rattle.case_range_text.proofs.read_times.Statement.{statement}
 use Rattle.case_range_text.proofs.read_times.Tie as tie
-use Rattle.case_range_text.proofs.read_times.Reads as reads
-use Rattle.case_range_text.proofs.read_times.Lts as lts
-use Rattle.area_text.proofs.read_end.Reads as read-end-reads
-use Rattle.case_range_text.proofs.no_times.Reads as no-times-reads
-use Rattle.text.proofs.part.Reads as part-reads
-use Rattle.text.proofs.read_decimal.Reads as read-decimal-reads
 
 -- what comes after each field
 abbrev end-of : ℕ → RangeEnd → (TimeRange → List ℕ) → List ℕ

@@ -1,9 +1,6 @@
 use borrow.Author.Needs.{needs}
 use Rattle.time_distance.proofs.distance_to.Statement.{statement}
 use Rattle.time_distance.proofs.distance_to.Tie as tie
-use Rattle.time_distance.proofs.distance_to.Reads as reads
-use Rattle.time_distance.proofs.distance_to.Lts as lts
-use Rattle.time_distance.proofs.abs_diff.Reads as abs-diff-reads
 
 enum-known-end : tie.Need-enum-known-end
 enum-known-end c = search needs

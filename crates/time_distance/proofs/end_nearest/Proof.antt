@@ -1,9 +1,6 @@
 use borrow.Author.Needs.{needs}
 use Rattle.time_distance.proofs.end_nearest.Statement.{statement}
 use Rattle.time_distance.proofs.end_nearest.Tie as tie
-use Rattle.time_distance.proofs.end_nearest.Reads as reads
-use Rattle.time_distance.proofs.end_nearest.Lts as lts
-use Rattle.time_distance.proofs.nearest.Reads as nearest-reads
 
 enum-known-end : tie.Need-enum-known-end
 enum-known-end c = search needs

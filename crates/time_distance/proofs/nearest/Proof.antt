@@ -3,11 +3,6 @@ use Rattle.time_distance.specs.Distance.{nearestOf}
 use borrow.Author.Needs.{needs}
 use Rattle.time_distance.proofs.nearest.Statement.{statement}
 use Rattle.time_distance.proofs.nearest.Tie as tie
-use Rattle.time_distance.proofs.nearest.Reads as reads
-use Rattle.time_distance.proofs.nearest.Lts as lts
-use Rattle.grouping.proofs.RangeEnd.gt_val.Reads as gt-val-reads
-use Rattle.time_distance.proofs.abs_diff.Reads as abs-diff-reads
-use Rattle.time_distance.proofs.distance_to.Reads as distance-to-reads
 
 abs-diff-requires : tie.Need-abs-diff-requires
 abs-diff-requires c κs = search needs

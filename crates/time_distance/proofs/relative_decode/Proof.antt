@@ -12,9 +12,6 @@ use Rattle.time_distance.proofs.Exits.{from-refused, from-fault, from-r
 use borrow.Author.Needs.{needs}
 use Rattle.time_distance.proofs.relative_decode.Statement.{statement}
 use Rattle.time_distance.proofs.relative_decode.Tie as tie
-use Rattle.time_distance.proofs.relative_decode.Reads as reads
-use Rattle.time_distance.proofs.relative_decode.Lts as lts
-use Rattle.compact_u64.proofs.relative_decode.Reads as relative-decode-reads
 
 relative-decode-requires : tie.Need-relative-decode-requires
 relative-decode-requires c κs = search needs

@@ -128,11 +128,11 @@ returns-3 c =
     let x = no-value (c .before .before .relative-decode3 .result .answer) (c .before .match3 .keys2) in
     rw (c .refuse3 .ensures) (gives-refused (x .why) (x .beside _) (parts-times (a .reference) (c .before .before .before .before .before .before .before .before .before .before .before .before .before .before .pre) (a .header) (a .times) (now (a .message)) _ _ (ids-are (c .before .before .before .before .before .before .before .before .before)) _ _ (paths-are (c .before .before .before .before)) (x .why) (sym (times-told (c .before .before)) ∙ x .beside _)))
 
-add-t23 : tie.Need-add-t23
-add-t23 c = omega (arith, inside (c .before .before .before))
+add-t25 : tie.Need-add-t25
+add-t25 c = omega (arith, inside (c .before .before .before))
 
-add-t29 : tie.Need-add-t29
-add-t29 c = omega (arith, inside (c .before .before .before))
+add-t31 : tie.Need-add-t31
+add-t31 c = omega (arith, inside (c .before .before .before))
 
 returns-4 : tie.Need-returns-4
 returns-4 c =
@@ -162,6 +162,6 @@ decode-parts-spec =
     enum-known-third-answer
     refuse-requires-3
     returns-3
-    add-t23
-    add-t29
+    add-t25
+    add-t31
     returns-4)

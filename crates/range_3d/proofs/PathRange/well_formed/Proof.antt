@@ -4,9 +4,6 @@ use Rattle.range_3d.specs.Record.{wellFormedPaths}
 use borrow.Author.Needs.{needs}
 use Rattle.range_3d.proofs.PathRange.well_formed.Statement.{statement}
 use Rattle.range_3d.proofs.PathRange.well_formed.Tie as tie
-use Rattle.range_3d.proofs.PathRange.well_formed.Reads as reads
-use Rattle.range_3d.proofs.PathRange.well_formed.Lts as lts
-use Rattle.path.proofs.Path.well_formed.Reads as well-formed-reads
 
 well-formed-requires : tie.Need-well-formed-requires
 well-formed-requires c κs = search needs

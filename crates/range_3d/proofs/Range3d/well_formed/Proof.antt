@@ -4,10 +4,6 @@ use Rattle.range_3d.specs.Record.{wellFormedRange3d}
 use borrow.Author.Needs.{needs}
 use Rattle.range_3d.proofs.Range3d.well_formed.Statement.{statement}
 use Rattle.range_3d.proofs.Range3d.well_formed.Tie as tie
-use Rattle.range_3d.proofs.Range3d.well_formed.Reads as reads
-use Rattle.range_3d.proofs.Range3d.well_formed.Lts as lts
-use Rattle.range_3d.proofs.PathRange.well_formed.Reads as PathRange-well-formed-reads
-use Rattle.range_3d.proofs.SubspaceRange.well_formed.Reads as SubspaceRange-well-formed-reads
 
 well-formed-requires : tie.Need-well-formed-requires
 well-formed-requires c κs = search needs

@@ -2,9 +2,6 @@ use Rattle.range_3d.specs.Record.{wellFormedSubspaces}
 use borrow.Author.Needs.{needs}
 use Rattle.range_3d.proofs.SubspaceRange.well_formed.Statement.{statement}
 use Rattle.range_3d.proofs.SubspaceRange.well_formed.Tie as tie
-use Rattle.range_3d.proofs.SubspaceRange.well_formed.Reads as reads
-use Rattle.range_3d.proofs.SubspaceRange.well_formed.Lts as lts
-use Rattle.codec.proofs.same_bytes.Reads as same-bytes-reads
 
 slice-aggregate-same-bytes : tie.Need-slice-aggregate-same-bytes
 slice-aggregate-same-bytes c = search needs
