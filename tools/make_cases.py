@@ -1,8 +1,6 @@
 #!/usr/bin/env python3
 """Makes crates/case_lines/stdin and stdout (docs/CASES.md) from the oracle. Takes no arguments."""
-import os
 import re
-import subprocess
 import sys
 from pathlib import Path
 
@@ -13,9 +11,9 @@ import entry_entry_lists
 import entry_lists
 import range_lists
 from case_lists import KINDS, TOP, tabbed, text, write
+from oracle import build, run
 
 ROOT = Path(__file__).resolve().parent.parent
-TARGET = ROOT / "target" / "oracle"
 
 
 def fixed(name):
@@ -28,20 +26,15 @@ def examples():
     lines = []
     for line, answer in fixed("examples"):
         kind, op, *fields = line.split("\t")
-        if kind in KINDS:
-            lines.append(line)
-            if op == "s" and answer.startswith("ok"):
-                _, length, *value = answer.split("\t")
-                lines += write(kind, fields[:-2], tabbed(*value), int(length))
+        lines.append(line)
+        if op == "s" and answer.startswith("ok"):
+            _, length, *value = answer.split("\t")
+            lines += write(kind, fields[:-2], tabbed(*value), int(length))
     return lines
 
 
 def edge():
-    return [line for line, _ in fixed("edge") if line.split("\t")[0] in KINDS]
-
-
-def other_kinds():
-    return [line for name in ["examples", "edge"] for line, _ in fixed(name) if line.split("\t")[0] not in KINDS]
+    return [line for line, _ in fixed("edge")]
 
 
 def generated(per_outcome=9, longest=400):
@@ -56,12 +49,6 @@ def generated(per_outcome=9, longest=400):
                 seen[outcome] = seen.get(outcome, 0) + 1
                 lines.append(line)
     return lines
-
-
-def run(program, lines=(), args=()):
-    text_in = "".join(line + "\n" for line in lines).encode()
-    done = subprocess.run([TARGET / "release" / program, *args], input=text_in, stdout=subprocess.PIPE, check=True)
-    return done.stdout.decode().split("\n")[:-1]
 
 
 def decimal(s):
@@ -107,8 +94,7 @@ def answers(lines):
 
 
 def main():
-    env = {**os.environ, "CARGO_TARGET_DIR": str(TARGET)}
-    subprocess.run(["cargo", "build", "--release", "--offline", "-q"], cwd=ROOT / "oracle", env=env, check=True)
+    build()
     malformed = case_lists.malformed() + area_lists.malformed() + entry_lists.malformed() + entry_entry_lists.malformed() + range_lists.malformed()
     if set(answers(malformed)) != {"no\t6"}:
         sys.exit("a malformed line is answered")
@@ -128,7 +114,6 @@ def main():
         *range_lists.ranges(),
         *malformed,
         *case_lists.long_lines(),
-        *other_kinds(),
         *generated(),
     ]
     lines = list(dict.fromkeys(lines))

@@ -1,0 +1,67 @@
+use mathlib.Core.Path.{_∙_, sym}
+use mathlib.Core.Bool.{false≢true}
+use denote.Ref.{now}
+use native.Mathlib.Omega.{arith}
+use borrow.Author.Tests.{not-false}
+use lib.Seq.{length-take-le}
+use Rattle.lines.proofs.Keeping.{kept-after}
+use borrow.Author.Needs.{needs}
+use Rattle.area_listing.proofs.settle.Statement.{statement}
+use Rattle.area_listing.proofs.settle.Tie as tie
+
+slice-reshare-prefix-drain : tie.Need-slice-reshare-prefix-drain
+slice-reshare-prefix-drain c = search needs
+
+slice-aggregate-drain : tie.Need-slice-aggregate-drain
+slice-aggregate-drain c = sym (length-take-le _ _ (omega arith))
+
+drain-requires : tie.Need-drain-requires
+drain-requires c κs = search needs
+
+slice-aggregate-fail : tie.Need-slice-aggregate-fail
+slice-aggregate-fail c = search needs
+
+fail-requires : tie.Need-fail-requires
+fail-requires c κs = search needs
+
+same-length : tie.Need-same-length
+same-length c = search needs
+
+same-length-2 : tie.Need-same-length-2
+same-length-2 c = search needs
+
+returns : tie.Need-returns
+returns c = (λ k. absurd (false≢true (sym (c .fail .ensures .1) ∙ k)), (omega (arith, c .fail .ensures .0), λ k. c .fail .ensures .0))
+
+keep-requires : tie.Need-keep-requires
+keep-requires c κs = search needs
+
+same-length-3 : tie.Need-same-length-3
+same-length-3 c = search needs
+
+same-length-4 : tie.Need-same-length-4
+same-length-4 c = search needs
+
+returns-2 : tie.Need-returns-2
+returns-2 c =
+    let b = now (c .before .before .before .before .before .before .before .before .before .before .before .before .before .args .buf) in
+    let all = c .before .before .before .before .before .before .before .before .drain .ensures .0 (not-false (c .before .before .before .before .before .before .before .before .drain .result .ok) (c .before .before .before .before .if1 .left)) in
+    let e = kept-after 4097 (c .before .before .before .before .before .before .before .before .drain .result .taken) (c .before .before .before .before .before .before .before .before .before .before .before .before .before .args .end) b all (c .before .before .before .before .before .before .before .before .drain .ensures .1) (c .before .before .before .before .before .before .before .before .before .before .before .before .before .pre .0) in
+    (λ k. (rw (← e) (c .before .before .keep .ensures .0), rw (← e) (c .before .before .keep .ensures .1)), (c .before .before .keep .ensures .2, λ k. absurd (false≢true (sym k))))
+
+pub settle-spec : {M : Type 1} → statement M
+settle-spec =
+    tie.close
+    (tie.spec
+    slice-reshare-prefix-drain
+    slice-aggregate-drain
+    drain-requires
+    slice-aggregate-fail
+    fail-requires
+    same-length
+    same-length-2
+    returns
+    keep-requires
+    same-length-3
+    same-length-4
+    returns-2)

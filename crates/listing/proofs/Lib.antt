@@ -1,0 +1,3 @@
+pub mod PathField
+pub mod Answering
+pub mod Stream

@@ -1,0 +1,83 @@
+use mathlib.Core.List.{_++_}
+use native.Mathlib.Omega.{arith}
+use lib.ListN.{length-append}
+use Rattle.text.specs.Decimal.{decimalText}
+use Rattle.text.proofs.DecimalPrinted.{decimal-few}
+use Rattle.path_text.specs.PathText.{componentsTextOf}
+use Rattle.path_text.proofs.Back.{path-text-laws}
+use Rattle.area_text.specs.AreaText.{subspaceText, endText}
+use Rattle.area_text.proofs.Short.{subspace-few, end-few}
+use Rattle.grouping.proofs.Typed.{typed-area}
+use Rattle.case_text.specs.Texts.{afterTab}
+use Rattle.case_text.proofs.Puts.{puts-fits, puts-tab}
+use borrow.Author.Needs.{needs}
+use Rattle.listing.proofs.print.Statement.{statement}
+use Rattle.listing.proofs.print.Tie as tie
+
+put-subspace-requires : tie.Need-put-subspace-requires
+put-subspace-requires c κs = search needs
+
+slice-aggregate-put-bytes : tie.Need-slice-aggregate-put-bytes
+slice-aggregate-put-bytes c = search needs
+
+put-bytes-requires : tie.Need-put-bytes-requires
+put-bytes-requires c κs = search needs
+
+put-components-requires : tie.Need-put-components-requires
+put-components-requires c κs = search needs
+
+slice-aggregate-put-bytes-2 : tie.Need-slice-aggregate-put-bytes-2
+slice-aggregate-put-bytes-2 c = search needs
+
+put-bytes-requires-2 : tie.Need-put-bytes-requires-2
+put-bytes-requires-2 c κs = search needs
+
+put-decimal-requires : tie.Need-put-decimal-requires
+put-decimal-requires c κs = search needs
+
+slice-aggregate-put-bytes-3 : tie.Need-slice-aggregate-put-bytes-3
+slice-aggregate-put-bytes-3 c = search needs
+
+put-bytes-requires-3 : tie.Need-put-bytes-requires-3
+put-bytes-requires-3 c κs = search needs
+
+put-end-requires : tie.Need-put-end-requires
+put-end-requires c κs = search needs
+
+returns : tie.Need-returns
+returns c =
+    let a = c .before .before .before .before .before .before .before .before .before .before .before .before .before .before .before .before .before .before .before .args .area in
+    let t = typed-area a (c .before .before .before .before .before .before .before .before .before .before .before .before .before .before .before .before .before .before .before .good .0) in
+    let s = subspaceText (a .subspace) in
+    let p = componentsTextOf (a .path) in
+    let d = decimalText (a .times .start) in
+    let e = endText (a .times .end) in
+    let sf = subspace-few (a .subspace) (t .long) in
+    let pf = path-text-laws .components-few (a .path) (t .path) in
+    let df = decimal-few (a .times .start) in
+    let ef = end-few (a .times .end) in
+    let sp = length-append s (afterTab p) in
+    let spd = length-append (s ++ afterTab p) (afterTab d) in
+    puts-tab
+    (puts-tab
+    (puts-tab
+    (puts-fits s (omega arith) (c .before .before .before .before .before .before .before .before .before .before .before .before .before .before .before .put-subspace .ensures))
+    p (omega arith) (c .before .before .before .before .before .before .before .before .before .before .before .before .put-bytes .ensures) (c .before .before .before .before .before .before .before .before .before .before .put-components .ensures))
+    d (omega arith) (c .before .before .before .before .before .before .before .put-bytes2 .ensures) (c .before .before .before .before .before .put-decimal .ensures))
+    e (omega arith) (c .before .before .put-bytes3 .ensures) (c .put-end .ensures)
+
+pub print-spec : {M : Type 1} → statement M
+print-spec =
+    tie.close
+    (tie.spec
+    put-subspace-requires
+    slice-aggregate-put-bytes
+    put-bytes-requires
+    put-components-requires
+    slice-aggregate-put-bytes-2
+    put-bytes-requires-2
+    put-decimal-requires
+    slice-aggregate-put-bytes-3
+    put-bytes-requires-3
+    put-end-requires
+    returns)

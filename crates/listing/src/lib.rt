@@ -1,0 +1,191 @@
+// The area listing: the answer to one of its lines, docs/LISTING.md. A line is answered where MAX_ANSWER bytes are free; elsewhere nothing changes.
+ghost use mathlib.Core.Path.{_≡_};
+ghost use mathlib.Core.Bool.{false};
+ghost use Prim.Native.Nat.{_≤_};
+ghost use lib.ListN.{length};
+ghost use Rattle.codec.specs.Format.{over};
+ghost use Rattle.lines.specs.Lines.{span, answers, fittingLines};
+ghost use Rattle.case_text.specs.Texts.{ended};
+ghost use Rattle.case_text.specs.Answers.{Puts, PutsWithin};
+ghost use Rattle.case_text.specs.Fields.{Says};
+ghost use Rattle.listing.specs.Lines.{readPathField, areaText, areaField, readLine, answerTo};
+use case_text::HexField;
+use case_text::MAX_ANSWER;
+use case_text::MAX_BYTES;
+use case_text::Op;
+use case_text::fields;
+use case_text::put;
+use grouping::Area;
+use grouping::AreaSubspace;
+use grouping::RangeEnd;
+use grouping::TimeRange;
+use path::Path;
+use path_text::Found;
+use path_text::PathField;
+use text::Decimal;
+
+// The longest line, its newline not counted.
+pub const MAX_LINE: usize = 4096;
+
+// An area that four fields say; where they are not in their form, one that nobody looks at.
+pub struct AreaField {
+    pub ok: bool,
+    pub area: Area,
+}
+
+// What was answered: the bytes of the lines, and those of the answers.
+pub struct Answered {
+    pub taken: usize,
+    pub put: usize,
+}
+
+// An empty field is the path of no components.
+fn read_path(s: &[u8]) -> PathField
+    ensures { λ r. ⌜ r ≡ readPathField (now (s .entry)) ⌝ }
+{
+    if s.len() == 0 {
+        let path = Path::new_empty();
+        return PathField {
+            found: Found::Read,
+            path: path,
+        };
+    }
+    path_text::read_components(s)
+}
+
+fn no_area() -> AreaField
+    ensures { λ r. ⌜ r .ok ≡ false ⌝ }
+{
+    let path = Path::new_empty();
+    AreaField {
+        ok: false,
+        area: Area {
+            subspace: AreaSubspace {
+                any: true,
+                id: [0u8; 32],
+            },
+            path: path,
+            times: TimeRange {
+                start: 0,
+                end: RangeEnd::Closed(0),
+            },
+        },
+    }
+}
+
+// Reads the second field of a line and the three after it.
+fn read_area(line: &[u8]) -> AreaField
+    ensures { λ r. ⌜ Says (areaField (now (line .entry))) (r .ok) (r .area) ⌝ }
+{
+    let first = area_text::read_subspace(text::part(line, b'\t', 1));
+    if !first.ok {
+        return no_area();
+    }
+    let second = read_path(text::part(line, b'\t', 2));
+    let found = second.found;
+    let Found::Read = found else {
+        return no_area();
+    };
+    let third = text::read_decimal(text::part(line, b'\t', 3));
+    let Decimal::Value(start) = third else {
+        return no_area();
+    };
+    let fourth = area_text::read_end(text::part(line, b'\t', 4));
+    if !fourth.ok {
+        return no_area();
+    }
+    let subspace = first.subspace;
+    let path = second.path;
+    let end = fourth.end;
+    AreaField {
+        ok: true,
+        area: Area {
+            subspace: subspace,
+            path: path,
+            times: TimeRange {
+                start: start,
+                end: end,
+            },
+        },
+    }
+}
+
+// Prints an area from the buffer's first byte on.
+fn print(area: Area, buffer: &mut [u8; MAX_BYTES]) -> usize
+    ensures { λ r. ⌜ Puts 0 (areaText area) (now (buffer .entry)) (now (buffer .exit)) r ⌝ }
+{
+    let subspace = area.subspace;
+    let times = area.times;
+    let end = times.end;
+    let mut p = area_text::put_subspace(buffer, 0, subspace);
+    p = text::put_bytes(buffer, p, b"\t");
+    p = path_text::put_components(buffer, p, area.path);
+    p = text::put_bytes(buffer, p, b"\t");
+    p = text::put_decimal(buffer, p, times.start);
+    p = text::put_bytes(buffer, p, b"\t");
+    area_text::put_end(buffer, p, end)
+}
+
+// Reads the area of a line in one of the modes.
+fn read_line(line: &[u8], out: &mut [u8], at: usize, canonic: bool) -> usize
+    ensures { λ r. ⌜ PutsWithin 16640 at (ended (readLine canonic (now (line .entry)))) (now (out .entry)) (now (out .exit)) r ⌝ }
+{
+    if text::part_count(line, b'\t') != 6 {
+        return put::refuse(out, at);
+    }
+    let field = read_area(line);
+    if !field.ok {
+        return put::refuse(out, at);
+    }
+    let reference = field.area;
+    let mut bytes = [0u8; MAX_BYTES];
+    let hex = fields::hex(line, 5, &mut bytes);
+    let HexField::Bytes(n) = hex else {
+        return put::refuse(out, at);
+    };
+    let read = area_area::relative_decode(&bytes[..n], 0, canonic, reference);
+    let mut text = [0u8; MAX_BYTES];
+    let k = print(read.area, &mut text);
+    let answer = read.answer;
+    put::value(out, at, answer, &text, k)
+}
+
+// Writes the answer to a line from a place on, and answers the next place; where fewer than MAX_ANSWER bytes are free, nothing changes.
+pub fn answer(line: &[u8], out: &mut [u8], at: usize) -> usize
+    ensures { λ r. ⌜ PutsWithin 16640 at (answerTo (now (line .entry))) (now (out .entry)) (now (out .exit)) r ⌝ }
+{
+    if MAX_LINE < line.len() {
+        return put::refuse(out, at);
+    }
+    let op = fields::op(text::part(line, b'\t', 0));
+    match op {
+        Op::Strict => read_line(line, out, at, true),
+        Op::Lenient => read_line(line, out, at, false),
+        Op::Write => put::refuse(out, at),
+        Op::Length => put::refuse(out, at),
+        Op::Unknown => put::refuse(out, at),
+    }
+}
+
+// Answers the whole lines of a text, one after another, while MAX_ANSWER bytes of the buffer are free.
+pub fn answer_lines(s: &[u8], out: &mut [u8]) -> Answered
+    ensures { λ r. ⌜ (r .taken ≡ span (fittingLines answerTo 16640 (length (now (out .entry))) (now (s .entry)))) × (r .put ≡ length (answers answerTo (fittingLines answerTo 16640 (length (now (out .entry))) (now (s .entry))))) ⌝ }
+    ensures { λ _. ⌜ now (out .exit) ≡ over (answers answerTo (fittingLines answerTo 16640 (length (now (out .entry))) (now (s .entry)))) (now (out .entry)) ⌝ }
+    ensures { λ r. ⌜ (r .taken ≤ length (now (s .entry))) × (r .put ≤ length (now (out .exit))) ⌝ }
+{
+    let mut at: usize = 0;
+    let mut put: usize = 0;
+    while MAX_ANSWER <= out.len() - put {
+        let rest = &s[at..];
+        let k = text::find(rest, b'\n');
+        if k == rest.len() {
+            break;
+        }
+        put = answer(&rest[..k], out, put);
+        at += k + 1;
+    }
+    Answered {
+        taken: at,
+        put: put,
+    }
+}
