@@ -5,8 +5,6 @@ use lib.ListN.{length-drop}
 use borrow.Author.Needs.{needs}
 use Rattle.codec.proofs.bytes_from.Statement.{statement}
 use Rattle.codec.proofs.bytes_from.Tie as tie
-use Rattle.codec.proofs.bytes_from.Reads as reads
-use Rattle.codec.proofs.bytes_from.Lts as lts
 
 returns : tie.Need-returns
 returns c = rw length-drop (omega (arith, c .if1 .taken))

@@ -9,10 +9,6 @@ use Rattle.codec.proofs.Readers.{bytes-short, bytes-there}
 use borrow.Author.Needs.{needs}
 use Rattle.codec.proofs.decode_id.Statement.{statement}
 use Rattle.codec.proofs.decode_id.Tie as tie
-use Rattle.codec.proofs.decode_id.Reads as reads
-use Rattle.codec.proofs.decode_id.Lts as lts
-use Rattle.codec.proofs.bytes_from.Reads as bytes-from-reads
-use Rattle.codec.proofs.put_bytes.Reads as put-bytes-reads
 
 enough : (c : tie.Else1) → 32 ≤ length (drop (c .before .before .before .args .start) (now (c .before .before .before .args .message)))
 enough c = omega (arith, c .if1 .left, c .before .bytes-from .ensures)
