@@ -1,20 +1,19 @@
 -- The laws of an area against an area, on plain values.
 use mathlib.Core.Path.{_≡_, refl, _∙_}
 use mathlib.Core.List.{List, [], _∷_, _++_}
-use mathlib.Core.Bool.{Bool, true, false, cond, _&&_, _||_, not}
+use mathlib.Core.Bool.{Bool, true, false, _&&_, _||_, not}
 use Prim.Native.Nat.{ℕ}
 use native.Mathlib.Omega.{arith}
 use lib.Dec.{eqb}
 use borrow.Author.Tests.{not-true}
 use Rattle.codec.specs.Answers.{refused}
 use Rattle.codec.specs.Header.{readHeader, HeaderAs}
-use Rattle.codec.specs.Reader.{oneByte}
 use Rattle.codec.specs.Reads.{Reads, ReadsBack, Relaxes, Bounded, Tested, Mapped, Joined}
 use Rattle.codec.proofs.Tests.{and-left, and-right}
 use Rattle.codec.proofs.Header.{header-reads}
 use Rattle.codec.proofs.Readers.{reads-as, then-reads, guard-reads, mapped-reads}
 use Rattle.codec.proofs.Relaxes.{relaxes-back, relaxes-self, then-relaxes, guard-relaxes, mapped-relaxes}
-use Rattle.codec.proofs.Bounded.{oneByte-bounded, then-bounded, guard-bounded, mapped-bounded}
+use Rattle.codec.proofs.Bounded.{then-bounded, mapped-bounded}
 use Rattle.compact_u64.specs.Number.{minTag}
 use Rattle.compact_u64.proofs.Tags.{min-tag-fits}
 use Rattle.path.specs.Limits.{PathOk}
@@ -170,12 +169,6 @@ module _ (r : AreaValue) where
       then-bounded (readSubspace canonic (r .subspace) (h .«id_written»)) _ (subspace-bounded (r .subspace) (h .«id_written») canonic) (λ s.
       then-bounded (readTimes canonic (r .times) h) _ (times-bounded (r .times) h canonic) (λ t.
       mapped-bounded (valueFrom s t) _ (extension-bounded (r .path) canonic)))
-
-  pub area-bounded : (canonic : Bool) → Bounded (readArea canonic r)
-  unfolding readArea
-  area-bounded canonic =
-      then-bounded (readHeader unpackHeader) _ (mapped-bounded unpackHeader oneByte oneByte-bounded) (λ h.
-      guard-bounded (cond canonic (not (spareBits h)) true) _ (parts-bounded h canonic))
 
   pub area-empty : (canonic : Bool) → readArea canonic r [] ≡ refused 1
   unfolding readArea

@@ -110,12 +110,10 @@ pub fn relative_encode(buffer: &mut [u8], area: Area, reference: Area) -> Encode
     ensures { λ r. ⌜ (outcomeOf r ≡ writeAnswer (againstArea reference) area (length (now (buffer .entry)))) × (now (buffer .exit) ≡ writeBuffer (againstArea reference) area (now (buffer .entry))) ⌝ }
 {
     let whole = relative_len_of_encoding(area, reference);
-    let Encoded::Length(n) = whole else {
-        return whole;
+    let answer = codec::in_room(whole, buffer.len());
+    let Encoded::Length(_) = answer else {
+        return answer;
     };
-    if buffer.len() < n {
-        return Encoded::NoRoom;
-    }
     area_encode::put_area(buffer, area, reference);
-    Encoded::Length(n)
+    answer
 }

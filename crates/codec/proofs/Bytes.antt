@@ -1,5 +1,5 @@
 -- Parts of a list of bytes are lists of bytes.
-use Prim.Native.Nat.{ℕ, zero, suc, _+_, _<_}
+use Prim.Native.Nat.{ℕ, zero, suc, _+_}
 use mathlib.Core.List.{List, [], _∷_, _++_}
 use native.Mathlib.Omega.{arith}
 use lib.ListN.{take, drop, replicate}
@@ -14,10 +14,6 @@ AllBytes·take zero s h i = omega arith
 AllBytes·take (suc n) [] h i = omega arith
 AllBytes·take (suc n) (x ∷ s) h zero = h 0
 AllBytes·take (suc n) (x ∷ s) h (suc i) = AllBytes·take n s (λ j. h (suc j)) i
-
-pub AllBytes·cons : (x : ℕ) (s : List ℕ) → x < 256 → AllBytes s → AllBytes (x ∷ s)
-AllBytes·cons x s h k zero = h
-AllBytes·cons x s h k (suc i) = k i
 
 pub AllBytes·append : (s t : List ℕ) → AllBytes s → AllBytes t → AllBytes (s ++ t)
 AllBytes·append [] t h k i = k i

@@ -1,11 +1,11 @@
 -- Laws of writing into a lent buffer, for the proofs of writers: the exits of a writer, and one writing after another.
 use mathlib.Core.Path.{_≡_, refl, sym, ap, _∙_}
 use mathlib.Core.List.{List, [], _∷_, _++_, append-assoc, append-nil}
-use mathlib.Core.Bool.{true, false}
+use mathlib.Core.Bool.{Bool, true, false, cond}
 use Prim.Native.Nat.{ℕ, suc, _+_, _-_, _≤_, _<_}
 use native.Mathlib.Omega.{arith}
 use lib.Dec.{leb}
-use borrow.Author.Tests.{le-leb, lt-leb}
+use borrow.Author.Tests.{le-leb, lt-leb, leb-true}
 use borrow.Rule.Slice.PartMut.{putMid}
 use native.Mathlib.Numerals.{add-one}
 use lib.ListN.{length, take, drop, getD, set, length-append, length-drop, drop-of-length-le, take-append-drop}
@@ -15,9 +15,9 @@ use denote.Enum.Declared as declared
 use types.Run.{OneOf}
 use Rattle.codec.specs.declared.Encoded.{Encoded}
 use Rattle.codec.specs.declared.Encoded.the-variants as encoded
-use Rattle.codec.specs.Answers.{wrote, denied, outcomeOf}
+use Rattle.codec.specs.Answers.{Outcome, wrote, denied, outcomeOf}
 use Rattle.codec.specs.Bytes.{zeroId}
-use Rattle.codec.specs.Format.{Format, Verdict, allowed, barred, over, outcomeBy, putAnswer, putBuffer, writeAnswer, writeBuffer, lengthAnswer}
+use Rattle.codec.specs.Format.{Format, Verdict, allowed, barred, over, lengthBy, inRoom, putAnswer, putBuffer, writeAnswer, writeBuffer, lengthAnswer}
 
 -- ---- the exits of a writer, by the tests 5, 3 and 4
 module _ (d : Verdict) (bs l : List ℕ) where
@@ -37,6 +37,26 @@ module _ (d : Verdict) (bs l : List ℕ) where
     put-fits h =
         let k : leb (length bs) (length l) ≡ true = le-leb (length bs) (length l) (omega arith) in
         (rw (e, k) (ap wrote long), rw (e, k))
+
+  -- and what an answer tells
+  pub put-denied : (k : ℕ) → putAnswer d bs (length l) ≡ denied k → l ≡ putBuffer d bs l
+  unfolding putBuffer
+  put-denied k e = rw e
+
+-- what a writing that was not refused says
+pub record Wrote (d : Verdict) (bs : List ℕ) (room n : ℕ) : Type 0 where
+  pub allows : d ≡ allowed
+  pub long : n ≡ length bs
+  pub fits : n ≤ room
+
+pub put-wrote : (d : Verdict) (bs : List ℕ) (room n : ℕ) → putAnswer d bs room ≡ wrote n → Wrote d bs room n
+unfolding putAnswer
+put-wrote (barred k) bs room n e = let z : _≡_ {A = ℕ} 0 1 = cc in absurd (omega arith)
+put-wrote allowed bs room n e = go (leb (length bs) room) refl e
+  where
+    go : (b : Bool) → leb (length bs) room ≡ b → cond b (wrote (length bs)) (denied 4) ≡ wrote n → Wrote allowed bs room n
+    go true p q = let l : n ≡ length bs = cc in record { allows = refl; long = l; fits = omega (arith, leb-true, l) }
+    go false p q = let z : _≡_ {A = ℕ} 0 1 = cc in absurd (omega arith)
 
 -- where there is room, putting is writing over
 pub put-over : (bs l : List ℕ) → length bs ≤ length l → putBuffer allowed bs l ≡ over bs l
@@ -61,7 +81,7 @@ module _ {A : Type 0} (f : Format A) (v : A) where
   unfolding lengthAnswer
   length-wrote n e = go (f .check v) refl e
     where
-      go : (d : Verdict) → f .check v ≡ d → outcomeBy d true (length (f .encode v)) ≡ wrote n → (f .check v ≡ allowed) × (n ≡ length (f .encode v))
+      go : (d : Verdict) → f .check v ≡ d → lengthBy d (length (f .encode v)) ≡ wrote n → (f .check v ≡ allowed) × (n ≡ length (f .encode v))
       go allowed p q = (p, cc)
       go (barred k) p q = let z : _≡_ {A = ℕ} 0 1 = cc in absurd (omega arith)
 
@@ -69,9 +89,14 @@ module _ {A : Type 0} (f : Format A) (v : A) where
   unfolding lengthAnswer
   length-denied k e = go (f .check v) refl e
     where
-      go : (d : Verdict) → f .check v ≡ d → outcomeBy d true (length (f .encode v)) ≡ denied k → f .check v ≡ barred k
+      go : (d : Verdict) → f .check v ≡ d → lengthBy d (length (f .encode v)) ≡ denied k → f .check v ≡ barred k
       go allowed p q = let z : _≡_ {A = ℕ} 0 1 = cc in absurd (omega arith)
       go (barred j) p q = let same : j ≡ k = cc in p ∙ ap barred same
+
+  -- a length that is held to the room is what writing answers
+  pub length-in-room : (whole r : Encoded) (room : ℕ) → outcomeOf whole ≡ lengthAnswer f v → outcomeOf r ≡ inRoom (outcomeOf whole) room → outcomeOf r ≡ writeAnswer f v room
+  unfolding lengthAnswer putAnswer
+  length-in-room whole r room long e = e ∙ ap (λ (o : Outcome). inRoom o room) long
 
   pub length-not-denied : (k : ℕ) → f .check v ≡ allowed → lengthAnswer f v ≡ denied k → ⊥
   length-not-denied k e d = go (sym e ∙ length-denied k d)

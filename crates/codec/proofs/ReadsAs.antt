@@ -6,7 +6,7 @@ use Prim.Native.Nat.{ℕ}
 use lib.ListN.{length}
 use Rattle.codec.specs.Answers.{AllBytes}
 use Rattle.codec.specs.Reader.{Reader, give, someBytes, andThen, checked, mapped}
-use Rattle.codec.specs.Reads.{ReadsAs, ReadsBack, Joined}
+use Rattle.codec.specs.Reads.{ReadsAs, ReadsBack}
 use Rattle.codec.proofs.Readers.{give-back, someBytes-back, then-back, checked-back, mapped-back}
 
 -- ---- one value, and all

@@ -1,36 +1,19 @@
 -- The theorem about lists of writings, from the four laws alone.
 use mathlib.Core.Path.{_≡_, refl, sym, ap, _∙_}
 use mathlib.Core.List.{List, [], _∷_, _++_, map, append-assoc, append-nil}
-use mathlib.Core.Bool.{Bool, true, false}
 use Prim.Native.Nat.{ℕ, _+_, _-_, _≤_}
 use native.Mathlib.Omega.{arith}
 use native.Mathlib.Nat.{zero-add, add-zero, suc-add, add-assoc}
-use lib.Dec.{leb}
-use borrow.Author.Tests.{leb-true}
 use lib.ListN.{length, take, drop, length-append, length-drop, take-append-drop}
 use lib.Seq.{take-append-seam, drop-append-seam, take-at, drop-at, drop-drop, drop-length}
 use Rattle.codec.specs.Answers.{Answer, accepted, refused, Outcome, wrote, denied}
-use Rattle.codec.specs.Format.{Format, Verdict, allowed, barred, Valid, outcomeBy, putAnswer, putBuffer, writeAnswer}
+use Rattle.codec.specs.Format.{Format, Valid, putBuffer, writeAnswer}
 use Rattle.codec.specs.Reader.{Reader}
 use Rattle.codec.specs.Lawful.{Lawful}
+use Rattle.codec.proofs.Lending.{put-wrote}
 use Rattle.codec.specs.Writings.{All, Writings, writeAll, answersOf, acceptedOf, bytesOf, shown, readAll, Made}
 
 module _ {A : Type 0} (f : Format A) where
-  -- ---- what a writing that was not refused says
-  record Wrote (v : A) (room n : ℕ) : Type 0 where
-    valid : f .check v ≡ allowed
-    long : n ≡ length (f .encode v)
-    fits : n ≤ room
-
-  wrote-inv : (v : A) (room n : ℕ) → writeAnswer f v room ≡ wrote n → Wrote v room n
-  unfolding putAnswer
-  wrote-inv v room n e = go (f .check v) (leb (length (f .encode v)) room) refl refl e
-    where
-      go : (d : Verdict) (b : Bool) → f .check v ≡ d → leb (length (f .encode v)) room ≡ b → outcomeBy d b (length (f .encode v)) ≡ wrote n → Wrote v room n
-      go (barred k) b p q r = let z : _≡_ {A = ℕ} 0 1 = cc in absurd (omega arith)
-      go allowed true p q r = record { valid = p; long = cc; fits = let l : n ≡ length (f .encode v) = cc in omega (arith, leb-true) }
-      go allowed false p q r = let z : _≡_ {A = ℕ} 0 1 = cc in absurd (omega arith)
-
   -- ---- the calls: p stands before the place, b from the place on
   record Run (vs : List A) (p b : List ℕ) (r : Writings) : Type 0 where
     answers : r .answers ≡ answersOf f vs (length b)
@@ -49,7 +32,7 @@ module _ {A : Type 0} (f : Format A) where
           let r = ih p b at (p ++ b) l (take-at p b at l) (drop-at p b at l) in
           rw (tp, db, e) (record { answers = rw e (ap (λ (x : List Outcome). denied k ∷ x) (r .answers)); place = rw e (r .place); buffer = rw e (r .buffer) })
       go (wrote n) e ih =
-          let w : Wrote v (length b) n = wrote-inv v (length b) n e in
+          let w = put-wrote (f .check v) (f .encode v) (length b) n e in
           let long : n ≡ length (f .encode v) = w .long in
           let m = length (f .encode v) in
           let pl : length (p ++ f .encode v) ≡ at + n = simp length-append (omega arith) in
@@ -69,7 +52,7 @@ module _ {A : Type 0} (f : Format A) where
     where
       go : (o : Outcome) → writeAnswer f v room ≡ o → ((room : ℕ) → length (bytesOf f (acceptedOf f vs room)) ≤ room) → length (bytesOf f (acceptedOf f (v ∷ vs) room)) ≤ room
       go (denied k) e ih = rw e (ih room)
-      go (wrote n) e ih = rw e (simp length-append (omega (arith, ih (room - n), wrote-inv v room n e)))
+      go (wrote n) e ih = rw e (simp length-append (omega (arith, ih (room - n), put-wrote (f .check v) (f .encode v) room n e)))
 
   module _ (Typed : A → Type 0) where
     pub accepted-valid : (vs : List A) → All Typed vs → (room : ℕ) → All (Valid Typed f) (acceptedOf f vs room)
@@ -78,7 +61,7 @@ module _ {A : Type 0} (f : Format A) where
       where
         go : (o : Outcome) → writeAnswer f v room ≡ o → ((room : ℕ) → All (Valid Typed f) (acceptedOf f vs room)) → All (Valid Typed f) (acceptedOf f (v ∷ vs) room)
         go (denied k) e ih = rw e (ih room)
-        go (wrote n) e ih = rw e (record { typed = h .0; allows = wrote-inv v room n e .valid }, ih (room - n))
+        go (wrote n) e ih = rw e (record { typed = h .0; allows = put-wrote (f .check v) (f .encode v) room n e .allows }, ih (room - n))
 
     module _ (strict : Reader A) (L : Lawful Typed f strict) where
       -- ---- as many readings as values, then m more from where those ended

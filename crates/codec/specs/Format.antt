@@ -1,7 +1,7 @@
 -- docs/FORMAT.md, "Refusals": what writing a value gives: the tests 5 and 3, the bytes, and what stands in the lent buffer afterwards.
 use mathlib.Core.Path.{_≡_}
 use mathlib.Core.List.{List, _++_}
-use mathlib.Core.Bool.{Bool, true, false}
+use mathlib.Core.Bool.{Bool, true, false, cond}
 use Prim.Native.Nat.{ℕ}
 use lib.Dec.{leb}
 use lib.ListN.{length, drop}
@@ -38,11 +38,15 @@ pub record Writes {A : Type 0} (Typed : A → Type 0) (f : Format A) (v : A) (e 
 abbrev pub over : List ℕ → List ℕ → List ℕ
 over bs lent = bs ++ drop (length bs) lent
 
--- the tests of a writing in their order: the verdict, then the room (4)
-abbrev pub outcomeBy : Verdict → Bool → ℕ → Outcome
-outcomeBy (barred k) fits n = denied k
-outcomeBy allowed true n = wrote n
-outcomeBy allowed false n = denied 4
+-- the length of what is written after the verdict
+abbrev pub lengthBy : Verdict → ℕ → Outcome
+lengthBy (barred k) n = denied k
+lengthBy allowed n = wrote n
+
+-- a length that has to fit into the room, else 4
+abbrev pub inRoom : Outcome → ℕ → Outcome
+inRoom (denied k) room = denied k
+inRoom (wrote n) room = cond (leb n room) (wrote n) (denied 4)
 
 abbrev pub bufferBy : Outcome → List ℕ → List ℕ → List ℕ
 bufferBy (wrote n) bs lent = over bs lent
@@ -50,7 +54,7 @@ bufferBy (denied k) bs lent = lent
 
 -- writing the bytes bs into a lent buffer, after the verdict on their value: the answer, and the buffer afterwards
 unfoldable pub putAnswer : Verdict → List ℕ → ℕ → Outcome
-putAnswer d bs room = outcomeBy d (leb (length bs) room) (length bs)
+putAnswer d bs room = inRoom (lengthBy d (length bs)) room
 
 unfoldable pub putBuffer : Verdict → List ℕ → List ℕ → List ℕ
 putBuffer d bs lent = bufferBy (putAnswer d bs (length lent)) bs lent
@@ -65,7 +69,7 @@ module _ {A : Type 0} (f : Format A) where
 
   -- written length refuses as writing does, 4 aside
   unfoldable pub lengthAnswer : A → Outcome
-  lengthAnswer v = outcomeBy (f .check v) true (length (f .encode v))
+  lengthAnswer v = lengthBy (f .check v) (length (f .encode v))
 
 -- the values of a format in another shape: apart takes a value to the format's own
 abbrev pub reshaped : {A B : Type 0} → Format A → (B → A) → (B → Verdict) → Format B

@@ -4,7 +4,7 @@ ghost use Prim.Native.Nat.{_≤_};
 ghost use lib.ListN.{length, drop};
 ghost use Rattle.codec.specs.Answers.{outcomeOf, Gives};
 ghost use Rattle.codec.specs.Bytes.{sameBytes, zeroId};
-ghost use Rattle.codec.specs.Format.{allowed, putAnswer, putBuffer};
+ghost use Rattle.codec.specs.Format.{allowed, inRoom, putAnswer, putBuffer};
 ghost use Rattle.codec.specs.Header.{bit};
 ghost use Rattle.codec.specs.Reader.{someBytes};
 
@@ -69,6 +69,19 @@ pub fn put_bytes(buffer: &mut [u8], s: &[u8]) -> Encoded
         i += 1;
     }
     Encoded::Length(i)
+}
+
+// A written length that has to fit into so many free bytes.
+pub fn in_room(whole: Encoded, room: usize) -> Encoded
+    ensures { λ r. ⌜ outcomeOf r ≡ inRoom (outcomeOf whole) room ⌝ }
+{
+    let Encoded::Length(n) = whole else {
+        return whole;
+    };
+    if room < n {
+        return Encoded::NoRoom;
+    }
+    whole
 }
 
 // How many bytes a message has from a start on.

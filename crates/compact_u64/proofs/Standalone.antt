@@ -5,12 +5,10 @@ use mathlib.Core.Bool.{Bool, true, false}
 use Prim.Native.Nat.{ℕ, _≤_}
 use native.Mathlib.Omega.{arith}
 use lib.ListN.{length}
-use Rattle.codec.specs.Answers.{AllBytes}
 use Rattle.codec.specs.Reader.{oneByte}
 use Rattle.codec.specs.Reads.{Reads, ReadsBack, Relaxes, Bounded, OneByte}
 use Rattle.codec.specs.Lawful.{Lawful}
 use Rattle.codec.specs.Demand3.{Demand3}
-use Rattle.codec.proofs.Bytes.{AllBytes·cons}
 use Rattle.codec.proofs.Readers.{reads-as, then-reads, oneByte-reads}
 use Rattle.codec.proofs.Relaxes.{relaxes-back, relaxes-self, then-relaxes}
 use Rattle.codec.proofs.Bounded.{then-bounded, oneByte-bounded}
@@ -18,7 +16,7 @@ use Rattle.codec.proofs.Lawful.{lawful-of}
 use Rattle.codec.proofs.Demand3.{demand3}
 use Rattle.compact_u64.specs.Number.{minTag, numberBytes, readNumber, standaloneBytes, readStandalone, U64, standalone}
 use Rattle.compact_u64.specs.Laws.{NumberAs, StandaloneAs}
-use Rattle.compact_u64.proofs.Tags.{min-tag-fits, AllBytes·numberBytes, numberBytes-short}
+use Rattle.compact_u64.proofs.Tags.{min-tag-fits, numberBytes-short}
 use Rattle.compact_u64.proofs.Number.{number-reads, number-relaxes, number-bounded}
 
 pub standalone-reads : Reads (readStandalone true) StandaloneAs
@@ -47,9 +45,6 @@ standalone-bounded canonic = then-bounded oneByte _ oneByte-bounded (λ tag. num
 -- one byte at least, nine at most
 pub standalone-short : (v : ℕ) → (1 ≤ length (standaloneBytes v)) × (length (standaloneBytes v) ≤ 9)
 standalone-short v = (omega arith, omega (arith, numberBytes-short 8 v))
-
-pub AllBytes·standaloneBytes : (v : ℕ) → AllBytes (standaloneBytes v)
-AllBytes·standaloneBytes v = AllBytes·cons (minTag 8 v) (numberBytes 8 v) (min-tag-fits 8 v (omega arith)) (AllBytes·numberBytes 8 v)
 
 pub standalone-lawful : Lawful U64 standalone (readStandalone true)
 standalone-lawful = lawful-of U64 standalone (readStandalone true)

@@ -10,14 +10,14 @@ use borrow.Author.Tests.{eqb-true}
 use Rattle.codec.specs.Answers.{refused}
 use Rattle.codec.specs.Bytes.{sameBytes, TypedId}
 use Rattle.codec.specs.Header.{readHeader, HeaderAs}
-use Rattle.codec.specs.Reader.{oneByte, checked}
+use Rattle.codec.specs.Reader.{checked}
 use Rattle.codec.specs.Reads.{Reads, ReadsBack, Relaxes, Bounded, Tested, Mapped, Joined}
 use Rattle.codec.proofs.Tests.{and-left, and-right}
 use Rattle.codec.proofs.SameBytes.{same-eq, same-refl}
 use Rattle.codec.proofs.Header.{header-reads}
 use Rattle.codec.proofs.Readers.{reads-as, then-reads, guard-reads, checked-reads, mapped-reads}
 use Rattle.codec.proofs.Relaxes.{relaxes-back, relaxes-self, then-relaxes, guard-relaxes, checked-relaxes, mapped-relaxes}
-use Rattle.codec.proofs.Bounded.{oneByte-bounded, then-bounded, guard-bounded, checked-bounded, mapped-bounded}
+use Rattle.codec.proofs.Bounded.{then-bounded, checked-bounded, mapped-bounded}
 use Rattle.compact_u64.proofs.Tags.{min-tag-fits}
 use Rattle.path.specs.Limits.{PathOk}
 use Rattle.path.specs.Prefix.{isPrefix}
@@ -161,12 +161,6 @@ module _ (n : List ℕ) (r : AreaValue) where
       then-bounded (readId (r .subspace) (h .«id_written»)) _ (id-bounded (r .subspace) (h .«id_written»)) (λ s.
       then-bounded (checked (isPrefix (r .path)) (readAgainst canonic (r .path))) _ (checked-bounded (isPrefix (r .path)) _ (against-bounded (r .path) canonic)) (λ p.
       mapped-bounded (valueFrom n s p) _ (end-bounded (r .times) h canonic)))
-
-  pub entry-bounded : (canonic : Bool) → Bounded (readEntry canonic n r)
-  unfolding readEntry
-  entry-bounded canonic =
-      then-bounded (readHeader unpackHeader) _ (mapped-bounded unpackHeader oneByte oneByte-bounded) (λ h.
-      guard-bounded (eqb (h .spare) 0) _ (parts-bounded h canonic))
 
   pub entry-empty : (canonic : Bool) → readEntry canonic n r [] ≡ refused 1
   unfolding readEntry

@@ -102,12 +102,10 @@ pub fn relative_encode(buffer: &mut [u8], entry: Entry, namespace: [u8; 32], are
     ensures { λ r. ⌜ (outcomeOf r ≡ writeAnswer (againstNamespaceArea namespace area) entry (length (now (buffer .entry)))) × (now (buffer .exit) ≡ writeBuffer (againstNamespaceArea namespace area) entry (now (buffer .entry))) ⌝ }
 {
     let whole = relative_len_of_encoding(entry, namespace, area);
-    let Encoded::Length(n) = whole else {
-        return whole;
+    let answer = codec::in_room(whole, buffer.len());
+    let Encoded::Length(_) = answer else {
+        return answer;
     };
-    if buffer.len() < n {
-        return Encoded::NoRoom;
-    }
     entry_encode::put_entry(buffer, entry, namespace, area);
-    Encoded::Length(n)
+    answer
 }

@@ -99,12 +99,10 @@ pub fn relative_encode(buffer: &mut [u8], entry: Entry, reference: Entry) -> Enc
     ensures { λ r. ⌜ (outcomeOf r ≡ writeAnswer (againstEntry reference) entry (length (now (buffer .entry)))) × (now (buffer .exit) ≡ writeBuffer (againstEntry reference) entry (now (buffer .entry))) ⌝ }
 {
     let whole = relative_len_of_encoding(entry, reference);
-    let Encoded::Length(n) = whole else {
-        return whole;
+    let answer = codec::in_room(whole, buffer.len());
+    let Encoded::Length(_) = answer else {
+        return answer;
     };
-    if buffer.len() < n {
-        return Encoded::NoRoom;
-    }
     entry_encode::put_entry(buffer, entry, reference);
-    Encoded::Length(n)
+    answer
 }

@@ -1,19 +1,17 @@
 -- The plain path is a lawful format, and reads back leniently too.
 use mathlib.Core.Path.{_≡_}
 use mathlib.Core.List.{List}
-use mathlib.Core.Bool.{Bool, true, false}
+use mathlib.Core.Bool.{Bool, true}
 use Prim.Native.Nat.{ℕ}
 use native.Mathlib.Omega.{arith}
 use borrow.Author.Tests.{le-leb}
 use lib.ListN.{length}
 use Rattle.codec.specs.Format.{Valid, Writes, verdictBy}
 use Rattle.codec.specs.Reader.{Reader, mapped}
-use Rattle.codec.specs.Reads.{ReadsBack, Relaxes, Bounded}
+use Rattle.codec.specs.Reads.{ReadsBack}
 use Rattle.codec.specs.Lawful.{Lawful}
 use Rattle.codec.specs.Demand3.{Demand3}
 use Rattle.codec.proofs.Readers.{reads-as, back-as, mapped-back}
-use Rattle.codec.proofs.Relaxes.{mapped-relaxes}
-use Rattle.codec.proofs.Bounded.{mapped-bounded}
 use Rattle.codec.proofs.Lawful.{verdict-allowed, lawful-of, reshaped-lawful, reshaped-back}
 use Rattle.codec.proofs.Demand3.{demand3}
 use Rattle.path.specs.declared.Path.{Path}
@@ -23,7 +21,7 @@ use Rattle.path.proofs.Limits.{limits-total, limits-count, limits-of, path-ok, 
 use Rattle.path.proofs.Record.{well-formed, formed-well, apart, made, components-of}
 use Rattle.path_suffix.specs.Suffix.{suffixBytes, readSuffix, suffixFrom}
 use Rattle.path_suffix.specs.Relations.{SuffixAs}
-use Rattle.path_suffix.proofs.Suffix.{suffix-reads, suffix-back, suffix-relaxes, suffix-bounded, suffix-empty}
+use Rattle.path_suffix.proofs.Suffix.{suffix-reads, suffix-back, suffix-empty}
 use Rattle.path_codec.specs.Plain.{onComponents, onRecords, plainPath, readPath}
 
 -- ---- a lawful format on components is one on records
@@ -83,11 +81,3 @@ path-demand3 = demand3 TypedPath plainPath (readPath true) path-lawful
 pub path-back : (canonic : Bool) → ReadsBack (readPath canonic) (Writes TypedPath plainPath)
 unfolding readPath
 path-back canonic = back-on-records (λ cs. true) suffixBytes (readSuffix canonic limits) (back-as _ _ _ (suffix-back limits canonic) plain-back)
-
-pub path-relaxes : Relaxes (readPath true) (readPath false)
-unfolding readPath
-path-relaxes = mapped-relaxes pathFrom _ _ (suffix-relaxes limits)
-
-pub path-bounded : (canonic : Bool) → Bounded (readPath canonic)
-unfolding readPath
-path-bounded canonic = mapped-bounded pathFrom _ (suffix-bounded limits canonic)

@@ -8,19 +8,17 @@ use lib.Dec.{eqb}
 use lib.ListN.{length, take, length-append}
 use lib.Seq.{length-take-le}
 use Rattle.codec.specs.Reads.{Yields}
-use Rattle.codec.specs.Writings.{All}
 use Rattle.codec.proofs.Yields.{yields-as, then-yields, checked-yields, mapped-yields}
 use Rattle.compact_u64.specs.Number.{readStandalone}
 use Rattle.path.specs.declared.Path.{Path}
-use Rattle.path.specs.Limits.{totalOf, limits, Component, PathOk}
+use Rattle.path.specs.Limits.{totalOf, Component, PathOk}
 use Rattle.path.specs.Record.{componentsOf, pathFrom, wellFormed, TypedPath}
 use Rattle.path.specs.Prefix.{shared}
-use Rattle.path.proofs.Limits.{total-append, all-append, all-take, limits-total, limits-count}
+use Rattle.path.proofs.Limits.{total-append, all-append, all-take}
 use Rattle.path.proofs.Record.{well-formed, formed-well, apart, made}
 use Rattle.path_suffix.proofs.Yields.{suffix-yields}
 use Rattle.path_relative.specs.Against.{joinOk, readAgainst}
-use Rattle.path_relative.specs.Extension.{readExtension}
-use Rattle.path_relative.specs.Records.{readAgainstPath, readExtendsPath}
+use Rattle.path_relative.specs.Records.{readAgainstPath}
 use Rattle.path_relative.proofs.Against.{join-ok}
 
 against-yields : (r : List (List ℕ)) → PathOk r → (canonic : Bool) → Yields (readAgainst canonic r) PathOk
@@ -39,15 +37,6 @@ against-yields r wf canonic =
       all = all-append Component (take k r) cs (all-take Component k r (wf .all)) (y .all);
     })))) (λ p y. y .1))
 
-extension-yields : (r : List (List ℕ)) → PathOk r → (canonic : Bool) → Yields (readExtension canonic r) PathOk
-unfolding readExtension
-extension-yields r wf canonic =
-    yields-as _ _ PathOk (
-    checked-yields (λ p. limits (totalOf p) (length p)) _ (All Component) (
-    mapped-yields (λ cs. r ++ cs) _ (All Component) (
-    yields-as _ _ _ (suffix-yields canonic limits) (λ cs y. all-append Component r cs (wf .all) (y .all)))))
-    (λ p y. record { total = limits-total (totalOf p) (length p) (y .0); count = limits-count (totalOf p) (length p) (y .0); all = y .1 })
-
 module _ (r : Path) (t : TypedPath r) (w : wellFormed r ≡ true) (canonic : Bool) where
   well-of : (cs : List (List ℕ)) → PathOk cs → TypedPath (pathFrom cs) × (wellFormed (pathFrom cs) ≡ true)
   well-of cs ok = let m = made cs ok in (m .typed, formed-well (pathFrom cs) (m .well))
@@ -55,7 +44,3 @@ module _ (r : Path) (t : TypedPath r) (w : wellFormed r ≡ true) (canonic : Boo
   pub against-path-yields : Yields (readAgainstPath canonic r) (λ p. TypedPath p × (wellFormed p ≡ true))
   unfolding readAgainstPath
   against-path-yields = rw w (mapped-yields pathFrom _ _ (yields-as _ _ _ (against-yields (componentsOf r) (apart r t (well-formed r w) .ok) canonic) well-of))
-
-  pub extends-path-yields : Yields (readExtendsPath canonic r) (λ p. TypedPath p × (wellFormed p ≡ true))
-  unfolding readExtendsPath
-  extends-path-yields = rw w (mapped-yields pathFrom _ _ (yields-as _ _ _ (extension-yields (componentsOf r) (apart r t (well-formed r w) .ok) canonic) well-of))

@@ -86,12 +86,10 @@ pub fn relative_encode(buffer: &mut [u8], range: Range3d, reference: Range3d) ->
     ensures { λ r. ⌜ (outcomeOf r ≡ writeAnswer (againstRange reference) range (length (now (buffer .entry)))) × (now (buffer .exit) ≡ writeBuffer (againstRange reference) range (now (buffer .entry))) ⌝ }
 {
     let whole = relative_len_of_encoding(range, reference);
-    let Encoded::Length(n) = whole else {
-        return whole;
+    let answer = codec::in_room(whole, buffer.len());
+    let Encoded::Length(_) = answer else {
+        return answer;
     };
-    if buffer.len() < n {
-        return Encoded::NoRoom;
-    }
     range_encode::put_range(buffer, range, reference);
-    Encoded::Length(n)
+    answer
 }

@@ -6,14 +6,12 @@ use Prim.Native.Nat.{ℕ, _-_, _≤_}
 use native.Mathlib.Omega.{arith}
 use lib.Dec.{leb, eqb}
 use borrow.Author.Tests.{leb-true, eqb-true, eq-eqb}
-use Rattle.codec.specs.Reads.{Reads, Relaxes, Bounded, Yields, Tested, Mapped}
+use Rattle.codec.specs.Reads.{Reads, Relaxes, Bounded, Tested, Mapped}
 use Rattle.codec.proofs.Tests.{and-left, and-right}
 use Rattle.codec.proofs.Readers.{reads-as, mapped-reads, checked-reads}
 use Rattle.codec.proofs.Relaxes.{mapped-relaxes, checked-relaxes}
 use Rattle.codec.proofs.Bounded.{mapped-bounded, checked-bounded}
-use Rattle.codec.proofs.Yields.{yields-as, mapped-yields, checked-yields}
 use Rattle.compact_u64.specs.Laws.{NumberAs}
-use Rattle.compact_u64.specs.Number.{readNumber}
 use Rattle.compact_u64.proofs.Number.{number-reads, number-relaxes, number-bounded}
 use Rattle.grouping.specs.declared.TimeRange.{TimeRange}
 use Rattle.grouping.specs.Range.{TypedRange, endValue, bounds}
@@ -126,11 +124,4 @@ module _ (r : TimeRange) (added : Bool) (tag : ℕ) where
   time-bounded canonic =
       mapped-bounded (timeAt r added) _ (
       checked-bounded (λ d. isNearest canonic r added d (timeAt r added d)) _ (number-bounded 2 tag canonic))
-
   -- in either mode the time lies in the range
-  pub time-yields : (canonic : Bool) → Yields (readTime canonic r added tag) (λ x. bounds r x ≡ true)
-  unfolding readTime
-  time-yields canonic =
-      mapped-yields (timeAt r added) _ (λ x. bounds r x ≡ true) (
-      yields-as _ _ _ (checked-yields (λ d. isNearest canonic r added d (timeAt r added d)) (readNumber canonic 2 tag) (λ d. Unit {0}) (record { holds = λ s a n h e. tt }))
-      (λ d y. nearest r added d (timeAt r added d) canonic (y .0) .inside))

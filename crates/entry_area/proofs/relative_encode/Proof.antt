@@ -3,61 +3,46 @@ use native.Mathlib.Omega.{arith}
 use denote.Ref.{now}
 use lib.ListN.{length}
 use Rattle.codec.specs.Answers.{outcomeOf}
-use Rattle.codec.specs.Format.{allowed}
-use Rattle.codec.proofs.Lending.{put-barred, put-full, put-fits, length-wrote, length-denied, no-length}
+use Rattle.codec.specs.Format.{writeAnswer}
+use Rattle.codec.proofs.Lending.{Wrote, put-denied, put-wrote, put-fits, length-in-room, no-length}
 use Rattle.entry_area.specs.Records.{againstNamespaceArea}
 use borrow.Author.Needs.{needs}
 use Rattle.entry_area.proofs.relative_encode.Statement.{statement}
 use Rattle.entry_area.proofs.relative_encode.Tie as tie
 
--- the whole length, and that writing is allowed
-length-is : (c : tie.After-known-told) → let a = c .before .before .before .before .before .args in
-    (againstNamespaceArea (a .namespace) (a .area) .check (a .entry) ≡ allowed) × (c .before .whole .given .0 .0 ≡ length (againstNamespaceArea (a .namespace) (a .area) .encode (a .entry)))
-length-is c = let a = c .before .before .before .before .before .args in length-wrote (againstNamespaceArea (a .namespace) (a .area)) (a .entry) _ (sym (c .before .before .before .relative-len-of-encoding .ensures) ∙ ap outcomeOf (c .before .whole .given .1))
+answered : (c : tie.After-in-room) → let a = c .before .before .before .args in outcomeOf (c .in-room .result) ≡ writeAnswer (againstNamespaceArea (a .namespace) (a .area)) (a .entry) (length (now (a .buffer)))
+answered c = let a = c .before .before .before .args in length-in-room (againstNamespaceArea (a .namespace) (a .area)) (a .entry) (c .before .relative-len-of-encoding .result) (c .in-room .result) _ (c .before .relative-len-of-encoding .ensures) (c .in-room .ensures)
+
+-- a length was answered: writing is allowed, and there is room
+fitting : (c : tie.After-enum-told) → let a = c .before .before .before .before .before .args in Wrote (againstNamespaceArea (a .namespace) (a .area) .check (a .entry)) (againstNamespaceArea (a .namespace) (a .area) .encode (a .entry)) (length (now (a .buffer))) (c .enum-told .given .0 .0)
+fitting c = put-wrote _ _ _ _ (sym (answered (c .before .before)) ∙ ap outcomeOf (c .enum-told .given .1))
 
 relative-len-of-encoding-requires : tie.Need-relative-len-of-encoding-requires
 relative-len-of-encoding-requires c κs = search needs
 
-enum-known-whole : tie.Need-enum-known-whole
-enum-known-whole c = search needs
+in-room-requires : tie.Need-in-room-requires
+in-room-requires c κs = search needs
+
+enum-told : tie.Need-enum-told
+enum-told c = search needs
 
 returns : tie.Need-returns
 returns c =
-    let a = c .before .before .before .args in
-    let f = againstNamespaceArea (a .namespace) (a .area) in
-    let none = no-length (c .before .relative-len-of-encoding .result) (c .match .keys2) in
-    let w = put-barred (f .check (a .entry)) (f .encode (a .entry)) (now (a .buffer)) (none .why) (length-denied f (a .entry) (none .why) (sym (c .before .relative-len-of-encoding .ensures) ∙ none .is)) in
-    (none .is ∙ w .0, w .1)
-
-returns-2 : tie.Need-returns-2
-returns-2 c =
-    let a = c .before .before .before .before .before .before .args in
-    let f = againstNamespaceArea (a .namespace) (a .area) in
-    let is = length-is (c .before) in
-    put-full (f .check (a .entry)) (f .encode (a .entry)) (now (a .buffer)) (is .0) _ (is .1) (c .if1 .taken)
+    let a = c .before .before .before .before .args in
+    let none = no-length (c .before .in-room .result) (c .match .keys2) in
+    (answered (c .before), put-denied (againstNamespaceArea (a .namespace) (a .area) .check (a .entry)) (againstNamespaceArea (a .namespace) (a .area) .encode (a .entry)) (now (a .buffer)) (none .why) (sym (answered (c .before)) ∙ none .is))
 
 put-entry-requires : tie.Need-put-entry-requires
-put-entry-requires c κs = let is = length-is (c .before .before) in (is .0, omega (arith, is .1, c .before .if1 .left))
+put-entry-requires c κs = let w = fitting (c .before) in (w .allows, omega (arith, w .long, w .fits))
 
 same-length : tie.Need-same-length
 same-length c = search needs
 
-returns-3 : tie.Need-returns-3
-returns-3 c =
-    let a = c .before .before .before .before .before .before .before .before .before .before .args in
-    let f = againstNamespaceArea (a .namespace) (a .area) in
-    let is = length-is (c .before .before .before .before .before) in
-    let w = put-fits (f .check (a .entry)) (f .encode (a .entry)) (now (a .buffer)) (is .0) _ (is .1) (c .before .before .before .before .if1 .left) in
-    (w .0, c .before .before .put-entry .ensures ∙ w .1)
+returns-2 : tie.Need-returns-2
+returns-2 c =
+    let a = c .before .before .before .before .before .before .before .before .before .args in
+    let w = fitting (c .before .before .before .before) in
+    (answered (c .before .before .before .before .before .before), c .before .before .put-entry .ensures ∙ put-fits _ _ (now (a .buffer)) (w .allows) _ (w .long) (w .fits) .1)
 
 pub relative-encode-spec : {M : Type 1} → statement M
-relative-encode-spec =
-    tie.close
-    (tie.spec
-    relative-len-of-encoding-requires
-    enum-known-whole
-    returns
-    returns-2
-    put-entry-requires
-    same-length
-    returns-3)
+relative-encode-spec = tie.close (tie.spec relative-len-of-encoding-requires in-room-requires enum-told returns put-entry-requires same-length returns-2)
