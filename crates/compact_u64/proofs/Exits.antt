@@ -23,7 +23,6 @@ use Rattle.compact_u64.specs.declared.TagWidth.{TagWidth}
 use Rattle.compact_u64.specs.declared.TagWidth.the-variants as width
 use Rattle.compact_u64.specs.declared.DecodedU64.{DecodedU64}
 use Rattle.compact_u64.specs.declared.DecodedU64.the-variants as decoded
-use Rattle.compact_u64.proofs.BigEndian.{length-bigEndian}
 use Rattle.compact_u64.proofs.Standalone.{standalone-bounded}
 use Rattle.compact_u64.proofs.Tags.{width-inline, width-sized, length-numberBytes}
 
@@ -107,11 +106,11 @@ sized-length w v n h k f s =
     (f .0 ∙ sym (length-numberBytes w v ∙ rw (le-ltb v (inlineLimit w) h) (width-sized w (inlineLimit w + widthExponent v) b ∙ ap (λ (j : ℕ). 2 ^ j) d)), f .2)
 
 -- ---- writing
-pub number-put : (w v n : ℕ) (l : List ℕ) → n ≡ length (numberBytes w v) → bigEndian n v ++ drop n l ≡ over (numberBytes w v) l
+pub number-bytes : (w v n : ℕ) → n ≡ length (numberBytes w v) → bigEndian n v ≡ numberBytes w v
 unfolding numberBytes
-number-put w v n l e =
+number-bytes w v n e =
     let width : encodingWidth w (minTag w v) ≡ n = sym (e ∙ length-numberBytes w v) in
-    rw (width, length-bigEndian n v)
+    rw width
 
 -- the tag's byte, then the bytes after it
 pub standalone-put : (l : List ℕ) (v t n : ℕ) → t ≡ minTag 8 v → n ≡ length (standaloneBytes v) → n ≤ length l

@@ -1,6 +1,5 @@
 // Compact numbers: docs/FORMAT.md, "Compact numbers". Names follow the crate compact_u64 that willow-rs uses.
 ghost use mathlib.Core.Path.{_≡_};
-ghost use mathlib.Core.List.{_++_};
 ghost use Prim.Native.Nat.{_+_, _≤_, _<_, _^_};
 ghost use lib.ListN.{length, take, drop};
 ghost use Rattle.codec.specs.Answers.{outcomeOf};
@@ -170,11 +169,13 @@ pub fn relative_len_of_encoding(width: TagWidth, value: u64) -> usize
     two_to(width_exponent(value))
 }
 
-// Writes the lowest `n` bytes of a value.
-fn put_big_endian(buffer: &mut [u8], n: usize, value: u64)
-    requires { ⌜ n ≤ length (now buffer) ⌝ }
-    ensures { λ _. ⌜ now (buffer .exit) ≡ bigEndian n value ++ drop n (now (buffer .entry)) ⌝ }
+// Writes the lowest `n` bytes of a value, the highest first.
+pub fn put_big_endian(buffer: &mut [u8], n: usize, value: u64) -> Encoded
+    ensures { λ r. ⌜ (outcomeOf r ≡ putAnswer allowed (bigEndian n value) (length (now (buffer .entry)))) × (now (buffer .exit) ≡ putBuffer allowed (bigEndian n value) (now (buffer .entry))) ⌝ }
 {
+    if buffer.len() < n {
+        return Encoded::NoRoom;
+    }
     let mut i = n;
     let mut x = value;
     while 0 < i {
@@ -182,18 +183,14 @@ fn put_big_endian(buffer: &mut [u8], n: usize, value: u64)
         buffer[i] = (x % 256) as u8;
         x = x / 256;
     }
+    Encoded::Length(n)
 }
 
 // Writes the bytes after the tag.
 pub fn relative_encode(buffer: &mut [u8], width: TagWidth, value: u64) -> Encoded
     ensures { λ r. ⌜ (outcomeOf r ≡ putAnswer allowed (numberBytes (bits width) value) (length (now (buffer .entry)))) × (now (buffer .exit) ≡ putBuffer allowed (numberBytes (bits width) value) (now (buffer .entry))) ⌝ }
 {
-    let n = relative_len_of_encoding(width, value);
-    if buffer.len() < n {
-        return Encoded::NoRoom;
-    }
-    put_big_endian(buffer, n, value);
-    Encoded::Length(n)
+    put_big_endian(buffer, relative_len_of_encoding(width, value), value)
 }
 
 // How many bytes a standalone number takes.

@@ -1,10 +1,13 @@
 use Prim.Native.Nat.{_-_, _+_, _≤_, _^_, _/_}
-use mathlib.Core.Path.{_≡_, refl}
+use mathlib.Core.Path.{_≡_, refl, sym, _∙_}
 use mathlib.Core.List.{_++_}
 use native.Mathlib.Omega.{arith}
+use denote.Ref.{now}
 use lib.ListN.{length, drop, length-set}
+use Rattle.codec.specs.Format.{allowed}
+use Rattle.codec.proofs.Lending.{put-full, put-fits}
 use Rattle.compact_u64.specs.BigEndian.{bigEndian}
-use Rattle.compact_u64.proofs.BigEndian.{next-digit, put-one}
+use Rattle.compact_u64.proofs.BigEndian.{length-bigEndian, next-digit, put-one}
 use Rattle.compact_u64.proofs.put_big_endian.Statement.{statement}
 use Rattle.compact_u64.proofs.put_big_endian.Tie as tie
 
@@ -14,9 +17,14 @@ Inv-loop buffer₀ n v i₀ x₀ buffer i x = (i ≤ n) × (length buffer ≡ le
 abbrev μ-loop : tie.MeasureT-loop
 μ-loop buffer₀ n v i₀ x₀ buffer i x = i
 
+returns : tie.Need-returns Inv-loop μ-loop
+returns c =
+    let a = c .before .args in
+    put-full allowed (bigEndian (a .n) (a .value)) (now (a .buffer)) refl (a .n) (sym (length-bigEndian (a .n) (a .value))) (c .if1 .taken)
+
 loop-holds : tie.Need-loop-holds Inv-loop μ-loop
 loop-holds c =
-    let z : c .args .n - c .args .n ≡ 0 = omega arith in
+    let z : c .before .args .n - c .before .args .n ≡ 0 = omega arith in
     (omega arith, refl, rw z (omega arith), rw z)
 
 sub-i : tie.Need-sub-i Inv-loop μ-loop
@@ -34,8 +42,8 @@ loop-less c = omega arith
 loop-again : tie.Need-loop-again Inv-loop μ-loop
 loop-again c =
     let l = c .before .loop in
-    let n = c .before .before .args .n in
-    let v = c .before .before .args .value in
+    let n = c .before .before .before .args .n in
+    let v = c .before .before .before .args .value in
     let e : n - (l .i - 1) ≡ (n - l .i) + 1 = omega arith in
     let i' : (l .i - 1) + 1 ≡ l .i = omega arith in (
       omega arith,
@@ -47,11 +55,16 @@ loop-again c =
 same-length : tie.Need-same-length Inv-loop μ-loop
 same-length c = omega arith
 
-returns : tie.Need-returns Inv-loop μ-loop
-returns c =
-    let z : c .before .loop .i ≡ 0 = omega arith in
-    let m : c .before .before .args .n - 0 ≡ c .before .before .args .n = omega arith in
-    rw (z, m) at (c .before .loop .inv .3)
+returns-2 : tie.Need-returns-2 Inv-loop μ-loop
+returns-2 c =
+    let l = c .before .loop in
+    let a = c .before .before .before .args in
+    let z : l .i ≡ 0 = omega arith in
+    let m : a .n - 0 ≡ a .n = omega arith in
+    let long = length-bigEndian (a .n) (a .value) in
+    let f = put-fits allowed (bigEndian (a .n) (a .value)) (now (a .buffer)) refl (a .n) (sym long) (omega arith) in
+    let w : l .buffer ≡ bigEndian (a .n) (a .value) ++ drop (a .n) (now (a .buffer)) = rw (z, m) at (l .inv .3) in
+    (f .0, w ∙ rw long at (f .1))
 
 pub put-big-endian-spec : {M : Type 1} → statement M
 put-big-endian-spec =
@@ -59,6 +72,7 @@ put-big-endian-spec =
     (tie.spec
     Inv-loop
     μ-loop
+    returns
     loop-holds
     sub-i
     cast-buffer
@@ -66,4 +80,4 @@ put-big-endian-spec =
     loop-less
     loop-again
     same-length
-    returns)
+    returns-2)
