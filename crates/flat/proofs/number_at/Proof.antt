@@ -1,0 +1,36 @@
+use mathlib.Core.Path.{_≡_, ap, _∙_, sym}
+use native.Mathlib.Omega.{arith}
+use Prim.Native.Nat.{ℕ}
+use denote.Ref.{now}
+use lib.ListN.{drop}
+use Rattle.compact_u64.specs.Answers.{numberAnswer}
+use Rattle.compact_u64.proofs.Exits.{refused-number}
+use Rattle.flat.proofs.Parts.{number-there, from-room}
+use borrow.Author.Needs.{needs}
+use Rattle.flat.proofs.number_at.Statement.{statement}
+use Rattle.flat.proofs.number_at.Tie as tie
+
+relative-decode-requires : tie.Need-relative-decode-requires
+relative-decode-requires c κs = search needs
+
+enum-known-read : tie.Need-enum-known-read
+enum-known-read c = search needs
+
+returns : tie.Need-returns
+returns c =
+    let a = c .before .before .before .args in
+    let e = c .before .relative-decode .ensures ∙ number-there (drop (a .at) (now (a .flat))) (from-room (now (a .flat)) (a .at) 8 (c .before .before .before .pre)) in
+    let r = refused-number {A = ℕ} 0 (c .before .relative-decode .result) (c .match .keys2) in
+    let f = sym (r .number) ∙ e in
+    let z : _≡_ {A = ℕ} 0 1 = cc in
+    absurd (omega arith)
+
+returns-2 : tie.Need-returns-2
+returns-2 c =
+    let a = c .before .before .before .before .before .args in
+    let e = c .before .before .before .relative-decode .ensures ∙ number-there (drop (a .at) (now (a .flat))) (from-room (now (a .flat)) (a .at) 8 (c .before .before .before .before .before .pre)) in
+    let f = sym (ap numberAnswer (c .before .read .given .1)) ∙ e in
+    cc
+
+pub number-at-spec : {M : Type 1} → statement M
+number-at-spec = tie.close (tie.spec relative-decode-requires enum-known-read returns returns-2)

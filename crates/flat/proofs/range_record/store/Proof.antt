@@ -1,0 +1,14 @@
+use native.Mathlib.Omega.{arith}
+use Rattle.flat.proofs.Puts.{puts-whole}
+use borrow.Author.Needs.{needs}
+use Rattle.flat.proofs.range_record.store.Statement.{statement}
+use Rattle.flat.proofs.range_record.store.Tie as tie
+
+put-range-requires : tie.Need-put-range-requires
+put-range-requires c κs = search needs
+
+returns : tie.Need-returns
+returns c = puts-whole (c .put-range .ensures) (omega arith)
+
+pub store-spec : {M : Type 1} → statement M
+store-spec = tie.close (tie.spec put-range-requires returns)

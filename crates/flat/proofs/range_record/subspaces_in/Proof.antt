@@ -1,0 +1,28 @@
+use native.Mathlib.Omega.{arith}
+use denote.Ref.{now}
+use lib.ListN.{drop}
+use Rattle.flat.proofs.Parts.{id-there, from-room}
+use borrow.Author.Needs.{needs}
+use Rattle.flat.proofs.range_record.subspaces_in.Statement.{statement}
+use Rattle.flat.proofs.range_record.subspaces_in.Tie as tie
+
+decode-id-requires : tie.Need-decode-id-requires
+decode-id-requires c κs = search needs
+
+decode-id-requires-2 : tie.Need-decode-id-requires-2
+decode-id-requires-2 c κs = search needs
+
+shared-slice-read-t7 : tie.Need-shared-slice-read-t7
+shared-slice-read-t7 c = search needs
+
+returns : tie.Need-returns
+returns c =
+    let s = c .before .before .before .before .before .before in
+    let f = now (s .args .flat) in
+    let start = id-there f (omega (arith, s .pre)) (c .before .before .before .before .decode-id .ensures) in
+    let end = id-there (drop 33 f) (from-room f 33 32 (omega (arith, s .pre))) (c .before .before .before .decode-id2 .ensures) in
+    rw (start, end)
+
+pub subspaces-in-spec : {M : Type 1} → statement M
+subspaces-in-spec =
+    tie.close (tie.spec decode-id-requires decode-id-requires-2 shared-slice-read-t7 returns)

@@ -1,0 +1,6 @@
+pub mod Puts
+pub mod PathRecord
+pub mod Times
+pub mod AreaRecord
+pub mod EntryRecord
+pub mod RangeRecord
