@@ -1,0 +1,40 @@
+-- Laws of numbers whose tag's width crosses as its bits.
+use mathlib.Core.Path.{_≡_}
+use mathlib.Core.List.{List}
+use mathlib.Core.Bool.{Bool, true, false}
+use Prim.Native.Nat.{ℕ}
+use lib.ListN.{length}
+use Rattle.codec.specs.Answers.{Outcome, refused}
+use Rattle.codec.specs.Format.{allowed, barred, putAnswer, putBuffer, writeAnswer, writeBuffer}
+use Rattle.compact_u64.specs.declared.TagWidth.{TagWidth}
+use Rattle.compact_u64.specs.Answers.{bits}
+use Rattle.compact_u64.specs.Number.{numberBytes, readNumber}
+use Rattle.jakepuro.specs.declared.numbers.NumberWidth.{NumberWidth}
+use Rattle.jakepuro.specs.declared.numbers.NumberWidth.the-variants as width
+use Rattle.jakepuro.specs.Tagged.{isWidth, tagged, readTagged, HasBits}
+
+pub has-no-bits : (x : NumberWidth) (w : ℕ) → x ≡ width.Malformed → HasBits x w → isWidth w ≡ false
+has-no-bits x w e h = rw e at h
+
+pub has-bits : (x : NumberWidth) (w : ℕ) (t : TagWidth) → x ≡ width.Bits t → HasBits x w → (isWidth w ≡ true) × (bits t ≡ w)
+has-bits x w t e h = rw e at h
+
+module _ (w v : ℕ) where
+  pub tagged-barred : isWidth w ≡ false → tagged w .check v ≡ barred 5
+  tagged-barred e = rw e
+
+  module _ (t : TagWidth) (h : (isWidth w ≡ true) × (bits t ≡ w)) where
+    pub tagged-allowed : tagged w .check v ≡ allowed
+    tagged-allowed = rw (h .0)
+
+    pub tagged-writes : (x : Outcome) (lent left : List ℕ)
+        → (x ≡ putAnswer allowed (numberBytes (bits t) v) (length lent)) × (left ≡ putBuffer allowed (numberBytes (bits t) v) lent)
+        → (x ≡ writeAnswer (tagged w) v (length lent)) × (left ≡ writeBuffer (tagged w) v lent)
+    tagged-writes x lent left e = rw (tagged-allowed, ← (h .1)) e
+
+module _ (canonic : Bool) (w tag : ℕ) (s : List ℕ) where
+  pub tagged-refused : isWidth w ≡ false → readTagged canonic w tag s ≡ refused 5
+  tagged-refused e = rw e
+
+  pub tagged-reads : (t : TagWidth) → (isWidth w ≡ true) × (bits t ≡ w) → readNumber canonic (bits t) tag s ≡ readTagged canonic w tag s
+  tagged-reads t h = rw (h .0, h .1)

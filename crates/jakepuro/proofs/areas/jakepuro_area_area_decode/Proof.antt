@@ -1,0 +1,20 @@
+use Rattle.jakepuro.proofs.Calls.{stores-as}
+use borrow.Author.Needs.{needs}
+use Rattle.jakepuro.proofs.areas.jakepuro_area_area_decode.Statement.{statement}
+use Rattle.jakepuro.proofs.areas.jakepuro_area_area_decode.Tie as tie
+
+load-requires : tie.Need-load-requires
+load-requires c κs = search needs
+
+relative-decode-requires : tie.Need-relative-decode-requires
+relative-decode-requires c κs = search needs
+
+give-area-requires : tie.Need-give-area-requires
+give-area-requires c κs = search needs
+
+returns : tie.Need-returns
+returns c = rw (c .before .before .before .before .before .load .ensures) at (stores-as (c .give-area .ensures) (c .before .before .before .before .relative-decode .ensures .answer))
+
+pub jakepuro-area-area-decode-spec : {M : Type 1} → statement M
+jakepuro-area-area-decode-spec =
+    tie.close (tie.spec load-requires relative-decode-requires give-area-requires returns)

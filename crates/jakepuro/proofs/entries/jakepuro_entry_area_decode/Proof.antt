@@ -1,0 +1,20 @@
+use Rattle.jakepuro.proofs.Calls.{stores-as}
+use borrow.Author.Needs.{needs}
+use Rattle.jakepuro.proofs.entries.jakepuro_entry_area_decode.Statement.{statement}
+use Rattle.jakepuro.proofs.entries.jakepuro_entry_area_decode.Tie as tie
+
+load-requires : tie.Need-load-requires
+load-requires c κs = search needs
+
+relative-decode-requires : tie.Need-relative-decode-requires
+relative-decode-requires c κs = search needs
+
+give-entry-requires : tie.Need-give-entry-requires
+give-entry-requires c κs = search needs
+
+returns : tie.Need-returns
+returns c = rw (c .before .before .before .before .before .load .ensures) at (stores-as (c .give-entry .ensures) (c .before .before .before .before .relative-decode .ensures .answer))
+
+pub jakepuro-entry-area-decode-spec : {M : Type 1} → statement M
+jakepuro-entry-area-decode-spec =
+    tie.close (tie.spec load-requires relative-decode-requires give-entry-requires returns)

@@ -1,0 +1,121 @@
+// Answers as a caller in another language gets them: 0 or a refusal's number, and a count, which is 0 beside a refusal.
+ghost use mathlib.Core.Path.{_≡_};
+ghost use Prim.Native.Nat.{ℕ};
+ghost use Rattle.codec.specs.Answers.{outcomeOf, answerOf};
+ghost use Rattle.flat.specs.PathRecord.{pathFlat};
+ghost use Rattle.flat.specs.AreaRecord.{areaFlat};
+ghost use Rattle.flat.specs.EntryRecord.{entryFlat};
+ghost use Rattle.flat.specs.RangeRecord.{rangeFlat};
+ghost use Rattle.jakepuro.specs.Calls.{codeOf, Told, readCode, Stores};
+use codec::Decoded;
+use codec::Encoded;
+use entry::Entry;
+use grouping::Area;
+use path::Path;
+use range_3d::Range3d;
+
+// A writer's answer.
+pub(crate) fn tell_length(answer: Encoded, length: &mut usize) -> u8
+    ensures { λ r. ⌜ Told (outcomeOf answer) r (now (length .exit)) ⌝ }
+{
+    let Encoded::Length(n) = answer else {
+        *length = 0;
+        return denial(answer);
+    };
+    *length = n;
+    0
+}
+
+fn denial(answer: Encoded) -> u8
+    ensures { λ r. ⌜ r ≡ codeOf (outcomeOf answer) ⌝ }
+{
+    match answer {
+        Encoded::Length(_) => 0,
+        Encoded::Outside => 3,
+        Encoded::NoRoom => 4,
+        Encoded::Malformed => 5,
+    }
+}
+
+fn refusal(answer: Decoded) -> u8
+    ensures { λ r. ⌜ r ≡ readCode (answerOf {A = ℕ} answer 0) ⌝ }
+{
+    match answer {
+        Decoded::Consumed(_) => 0,
+        Decoded::EndOfInput => 1,
+        Decoded::TheirFault => 2,
+        Decoded::Malformed => 5,
+    }
+}
+
+// A path that was read is stored.
+pub(crate) fn give_path(
+    answer: Decoded,
+    path: Path,
+    flat: &mut [u8; 641],
+    consumed: &mut usize,
+) -> u8
+    ensures { λ r. ⌜ Stores pathFlat (answerOf answer path) (now (flat .entry)) (now (flat .exit)) r (now (consumed .exit)) ⌝ }
+{
+    let Decoded::Consumed(n) = answer else {
+        *consumed = 0;
+        return refusal(answer);
+    };
+    flat::path_record::store(flat, path);
+    *consumed = n;
+    0
+}
+
+// An area that was read is stored.
+pub(crate) fn give_area(
+    answer: Decoded,
+    area: Area,
+    flat: &mut [u8; 691],
+    consumed: &mut usize,
+) -> u8
+    ensures { λ r. ⌜ Stores areaFlat (answerOf answer area) (now (flat .entry)) (now (flat .exit)) r (now (consumed .exit)) ⌝ }
+{
+    let Decoded::Consumed(n) = answer else {
+        *consumed = 0;
+        return refusal(answer);
+    };
+    flat::area_record::store(flat, area);
+    *consumed = n;
+    0
+}
+
+// An entry that was read is stored.
+pub(crate) fn give_entry(
+    answer: Decoded,
+    entry: Entry,
+    flat: &mut [u8; 753],
+    consumed: &mut usize,
+) -> u8
+    ensures { λ r. ⌜ Stores entryFlat (answerOf answer entry) (now (flat .entry)) (now (flat .exit)) r (now (consumed .exit)) ⌝ }
+{
+    let Decoded::Consumed(n) = answer else {
+        *consumed = 0;
+        return refusal(answer);
+    };
+    flat::entry_record::store(flat, entry);
+    *consumed = n;
+    0
+}
+
+// A 3d range that was read is stored.
+pub(crate) fn give_range(
+    answer: Decoded,
+    range: Range3d,
+    flat: &mut [u8; 1365],
+    consumed: &mut usize,
+) -> u8
+    ensures { λ r. ⌜ Stores rangeFlat (answerOf answer range) (now (flat .entry)) (now (flat .exit)) r (now (consumed .exit)) ⌝ }
+{
+    let Decoded::Consumed(n) = answer else {
+        *consumed = 0;
+        return refusal(answer);
+    };
+    flat::range_record::store(flat, range);
+    *consumed = n;
+    0
+}
