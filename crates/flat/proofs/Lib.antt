@@ -1,3 +1,9 @@
 pub mod Puts
 pub mod Parts
 pub mod Shorts
+pub mod PathLaws
+pub mod TimesLaws
+pub mod AreaLaws
+pub mod EntryLaws
+pub mod RangeLaws
+pub mod Laws

@@ -4,3 +4,4 @@ pub mod Times
 pub mod AreaRecord
 pub mod EntryRecord
 pub mod RangeRecord
+pub mod Laws

@@ -1,0 +1,158 @@
+-- 3d ranges as flat bytes: there and back.
+use mathlib.Core.Path.{_≡_, refl, sym, _∙_}
+use mathlib.Core.List.{List, _∷_, _++_, append-assoc}
+use mathlib.Core.Bool.{Bool, true, false, cond, _&&_}
+use Prim.Native.Nat.{ℕ, suc, _+_, _≤_, _<_}
+use native.Mathlib.Omega.{arith}
+use lib.Dec.{leb}
+use lib.ListN.{length, take, drop, getD, length-append, length-drop}
+use lib.Seq.{take-at, drop-at, drop-drop, take-add, drop-cons, getD-drop}
+use borrow.Author.Tests.{leb-true}
+use Rattle.codec.specs.Answers.{AllBytes}
+use Rattle.codec.specs.Header.{bit}
+use Rattle.codec.proofs.Bytes.{AllBytes·drop}
+use Rattle.codec.proofs.Tests.{and-left, and-right}
+use Rattle.path.specs.Record.{wellFormed}
+use Rattle.range_3d.specs.declared.Range3d.{Range3d}
+use Rattle.range_3d.specs.Record.{wellFormedSubspaces, wellFormedPaths, wellFormedRange3d, TypedRange3d}
+use Rattle.flat.specs.PathRecord.{pathFlat, noPath}
+use Rattle.flat.specs.Times.{timesFlat, timesMarked, timesIn}
+use Rattle.flat.specs.RangeRecord.{rangeFlat, noRange, rangeMarked, subspacesIn, pathsIn, rangeIn}
+use Rattle.flat.proofs.PathLaws.{path-long, path-loads, path-stores}
+use Rattle.flat.proofs.TimesLaws.{mark-loads, mark-small, mark-stores, times-marked, times-loads, times-stores, times-long, three}
+
+pub range-long : (r : Range3d) → TypedRange3d r → length (rangeFlat r) ≡ 1365
+unfolding rangeFlat
+range-long r t =
+    let s = r .subspaces in
+    let p = r .paths in
+    rw (
+      length-append,
+      length-append,
+      length-append,
+      length-append,
+      path-long (p .start) (t .paths .start),
+      path-long (p .end) (t .paths .end),
+      times-long (r .times),
+    ) (omega (arith, t .subspaces .start .0, t .subspaces .end .0))
+
+-- where the parts stand
+module _ (a b p q t : List ℕ) (m k : ℕ) (la : length a ≡ 32) (lb : length b ≡ 32) (lp : length p ≡ 641) (lq : length q ≡ 641) where
+  abbrev paths : List ℕ
+  paths = (p ++ (k ∷ q)) ++ t
+
+  abbrev rangeParts : List ℕ
+  rangeParts = (a ++ (m ∷ b)) ++ paths
+
+  start-part : take 32 rangeParts ≡ a
+  start-part = rw (append-assoc a (m ∷ b) paths) (take-at a (m ∷ (b ++ paths)) 32 la)
+
+  mark-on : drop 32 rangeParts ≡ m ∷ (b ++ paths)
+  mark-on = rw (append-assoc a (m ∷ b) paths) (drop-at a (m ∷ (b ++ paths)) 32 la)
+
+  mark-part : getD rangeParts 32 0 ≡ m
+  mark-part = sym (getD-drop 32 rangeParts 0 0) ∙ rw mark-on
+
+  end-on : drop 33 rangeParts ≡ b ++ paths
+  end-on = sym (drop-drop 1 32 rangeParts) ∙ rw mark-on
+
+  end-part : take 32 (drop 33 rangeParts) ≡ b
+  end-part = rw end-on (take-at b paths 32 lb)
+
+  paths-on : drop 65 rangeParts ≡ p ++ (k ∷ (q ++ t))
+  paths-on = sym (drop-drop 32 33 rangeParts) ∙ rw end-on (drop-at b paths 32 lb ∙ append-assoc p (k ∷ q) t)
+
+  open-on : drop 706 rangeParts ≡ k ∷ (q ++ t)
+  open-on = sym (drop-drop 641 65 rangeParts) ∙ rw paths-on (drop-at p (k ∷ (q ++ t)) 641 lp)
+
+  open-part : getD rangeParts 706 0 ≡ k
+  open-part = sym (getD-drop 706 rangeParts 0 0) ∙ rw open-on
+
+  path-end-on : drop 707 rangeParts ≡ q ++ t
+  path-end-on = sym (drop-drop 1 706 rangeParts) ∙ rw open-on
+
+  times-on : drop 1348 rangeParts ≡ t
+  times-on = sym (drop-drop 641 707 rangeParts) ∙ rw path-end-on (drop-at q t 641 lq)
+
+pub range-loads : (r : Range3d) → TypedRange3d r → wellFormedRange3d r ≡ true → rangeIn (rangeFlat r) ≡ r
+unfolding rangeFlat rangeIn rangeMarked wellFormedRange3d wellFormedPaths
+range-loads r h w =
+    let a = r .subspaces .start in
+    let b = r .subspaces .end in
+    let p = pathFlat (r .paths .start) in
+    let q = pathFlat (r .paths .end) in
+    let t = timesFlat (r .times) in
+    let m = bit (r .subspaces .«end_open») in
+    let k = bit (r .paths .«end_open») in
+    let la = h .subspaces .start .0 in
+    let lb = h .subspaces .end .0 in
+    let lp = path-long (r .paths .start) (h .paths .start) in
+    let lq = path-long (r .paths .end) (h .paths .end) in
+    let formed = and-right (wellFormedSubspaces (r .subspaces)) (wellFormedPaths (r .paths)) w in
+    let start = and-left (wellFormed (r .paths .start)) _ formed in
+    let end = and-left (wellFormed (r .paths .end)) _ (and-right (wellFormed (r .paths .start)) _ formed) in
+    rw (
+      mark-part a b p q t m k la lb lp lq,
+      mark-small (r .subspaces .«end_open»),
+      open-part a b p q t m k la lb lp lq,
+      mark-small (r .paths .«end_open»),
+      times-on a b p q t m k la lb lp lq,
+      times-marked (r .times),
+      start-part a b p q t m k la lb lp lq,
+      mark-loads (r .subspaces .«end_open»),
+      end-part a b p q t m k la lb lp lq,
+      paths-on a b p q t m k la lb lp lq,
+      path-loads (r .paths .start) (k ∷ (q ++ t)) (h .paths .start) start,
+      mark-loads (r .paths .«end_open»),
+      path-end-on a b p q t m k la lb lp lq,
+      path-loads (r .paths .end) t (h .paths .end) end,
+      times-loads (r .times) (h .times),
+    )
+
+no-range : wellFormedRange3d noRange ≡ true → ⊥
+unfolding wellFormedRange3d wellFormedSubspaces wellFormedPaths wellFormed noRange noPath
+no-range e = let z : _≡_ {A = ℕ} 0 1 = cc in omega arith
+
+middle : (s : List ℕ) (n m : ℕ) → n < length s → take n s ++ (getD s n 0 ∷ take m (drop (suc n) s)) ≡ take (n + suc m) s
+middle s n m h = sym (take-add n (suc m) s ∙ rw (drop-cons s n 0 h))
+
+record Marks (s : List ℕ) : Type 0 where
+  subspaces : getD s 32 0 ≤ 1
+  paths : getD s 706 0 ≤ 1
+  times : timesMarked (drop 1348 s) ≡ true
+
+marks : (s : List ℕ) → rangeMarked s ≡ true → Marks s
+unfolding rangeMarked
+marks s e =
+    let f = and-right (leb (getD s 32 0) 1) (leb (getD s 706 0) 1 && timesMarked (drop 1348 s)) e in
+    record {
+      subspaces = leb-true (getD s 32 0) 1 (and-left (leb (getD s 32 0) 1) (leb (getD s 706 0) 1 && timesMarked (drop 1348 s)) e);
+      paths = leb-true (getD s 706 0) 1 (and-left (leb (getD s 706 0) 1) (timesMarked (drop 1348 s)) f);
+      times = and-right (leb (getD s 706 0) 1) (timesMarked (drop 1348 s)) f;
+    }
+
+pub range-stores : (s : List ℕ) → length s ≡ 1365 → AllBytes s → wellFormedRange3d (rangeIn s) ≡ true → rangeFlat (rangeIn s) ≡ s
+unfolding rangeFlat rangeIn
+range-stores s long b w = go (rangeMarked s) refl w
+  where
+    fields : Range3d
+    fields = record { subspaces = subspacesIn s; paths = pathsIn s; times = timesIn (drop 1348 s) }
+
+    whole : (p q t : List ℕ) → p ≡ take 641 (drop 65 s) → q ≡ take 641 (drop 707 s) → t ≡ drop 1348 s
+        → (take 32 s ++ (getD s 32 0 ∷ take 32 (drop 33 s))) ++ ((p ++ (getD s 706 0 ∷ q)) ++ t) ≡ s
+    whole p q t ep eq et =
+        let e : getD s 706 0 ≡ getD (drop 65 s) 641 0 = sym (getD-drop 65 s 641 0) in
+        let d : drop 707 s ≡ drop 642 (drop 65 s) = sym (drop-drop 642 65 s) in
+        let h : 641 < length (drop 65 s) = rw length-drop (omega arith) in
+        rw (ep, eq, et, e, d, middle (drop 65 s) 641 641 h, middle s 32 32 (omega arith)) (three s 65 1283)
+
+    stored : Marks s → rangeFlat fields ≡ s
+    stored m =
+        let p = path-stores (drop 65 s) (rw length-drop (omega arith)) (AllBytes·drop 65 s b) in
+        let q = path-stores (drop 707 s) (rw length-drop (omega arith)) (AllBytes·drop 707 s b) in
+        let t = times-stores (drop 1348 s) (rw length-drop (omega arith)) (AllBytes·drop 1348 s b) (m .times) in
+        rw (mark-stores (getD s 32 0) (m .subspaces), mark-stores (getD s 706 0) (m .paths)) (whole _ _ _ p q t)
+
+    go : (ok : Bool) → rangeMarked s ≡ ok → wellFormedRange3d (cond ok fields noRange) ≡ true → rangeFlat (cond ok fields noRange) ≡ s
+    go true e f = stored (marks s e)
+    go false e f = absurd (no-range f)
