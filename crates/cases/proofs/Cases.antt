@@ -12,8 +12,9 @@ use Rattle.grouping.specs.Range.{bounds, includesTime, includesRange}
 use Rattle.grouping.specs.Area.{includesArea, liesInside}
 use Rattle.grouping.specs.Record.{areaFrom, wellFormedSubspace, wellFormedArea}
 use Rattle.time_relative.specs.Difference.{differenceOf, timeAt, isNearest, readTime, isIncluded, readIncluded}
-use Rattle.area_area.specs.Header.{spareBits}
-use Rattle.area_area.specs.Area.{headerOf, timesBytes, areaBytes, readSubspace, readEnd, readTimes, readParts, readArea}
+use Rattle.area_times.specs.Header.{spareBits}
+use Rattle.area_times.specs.Times.{headerOf, timesBytes, readEnd, readTimes}
+use Rattle.area_area.specs.Area.{areaBytes, readSubspace, readParts, readArea}
 use Rattle.area_area.specs.Records.{readAgainstArea}
 use Rattle.entry.specs.Entry.{liesInsideArea}
 use Rattle.entry.specs.Record.{entryFrom, wellFormedEntry}

@@ -1,9 +1,9 @@
 use native.Mathlib.Omega.{arith}
 use lib.ListN.{length-append}
-use Rattle.area_area.proofs.Writing.{times-open, times-closed}
+use Rattle.area_times.proofs.Exits.{times-open, times-closed}
 use borrow.Author.Needs.{needs}
-use Rattle.area_area.proofs.area_encode.times_len.Statement.{statement}
-use Rattle.area_area.proofs.area_encode.times_len.Tie as tie
+use Rattle.area_times.proofs.relative_len_of_encoding.Statement.{statement}
+use Rattle.area_times.proofs.relative_len_of_encoding.Tie as tie
 
 difference-requires : tie.Need-difference-requires
 difference-requires c κs = search needs
@@ -38,8 +38,8 @@ returns-2 c =
     let last = c .relative-len-of-encoding2 .ensures in
     (rw (times-closed (a .reference) (a .times) _ (c .before .before .before .end .given .1), length-append, ← (c .before .before .before .before .before .before .difference .ensures), ← (c .before .difference2 .ensures), ← (first .0), ← (last .0)), omega (arith, first .1, last .1))
 
-pub times-len-spec : {M : Type 1} → statement M
-times-len-spec =
+pub relative-len-of-encoding-spec : {M : Type 1} → statement M
+relative-len-of-encoding-spec =
     tie.close
     (tie.spec
     difference-requires

@@ -3,7 +3,7 @@ use mathlib.Core.Bool.{Bool, _&&_, _||_, not}
 use Prim.Native.Nat.{ℕ, _+_, _<_}
 use lib.Dec.{eqb}
 use Rattle.codec.specs.Header.{field, flag, placed, bit}
-use Rattle.area_area.specs.declared.Header.{Header}
+use Rattle.area_times.specs.declared.Header.{Header}
 
 -- where each part stands
 abbrev pub idWrittenAt : ℕ

@@ -1,16 +1,13 @@
-use Rattle.area_area.specs.Area.{headerOf}
+use Rattle.area_times.specs.Times.{headerOf}
 use borrow.Author.Needs.{needs}
-use Rattle.area_area.proofs.area_encode.header_of.Statement.{statement}
-use Rattle.area_area.proofs.area_encode.header_of.Tie as tie
+use Rattle.area_times.proofs.header_of.Statement.{statement}
+use Rattle.area_times.proofs.header_of.Tie as tie
 
 difference-requires : tie.Need-difference-requires
 difference-requires c κs = search needs
 
 end-difference-requires : tie.Need-end-difference-requires
 end-difference-requires c κs = search needs
-
-id-written-requires : tie.Need-id-written-requires
-id-written-requires c κs = search needs
 
 is-open-requires : tie.Need-is-open-requires
 is-open-requires c κs = search needs
@@ -23,7 +20,7 @@ min-tag-requires-2 c κs = search needs
 
 returns : tie.Need-returns
 unfolding headerOf
-returns c = rw (c .min-tag2 .ensures, c .before .min-tag .ensures, c .before .before .is-open .ensures, c .before .before .before .id-written .ensures, c .before .before .before .before .end-difference .ensures, c .before .before .before .before .before .difference .ensures)
+returns c = rw (c .min-tag2 .ensures, c .before .min-tag .ensures, c .before .before .is-open .ensures, c .before .before .before .end-difference .ensures, c .before .before .before .before .difference .ensures)
 
 pub header-of-spec : {M : Type 1} → statement M
 header-of-spec =
@@ -31,7 +28,6 @@ header-of-spec =
     (tie.spec
     difference-requires
     end-difference-requires
-    id-written-requires
     is-open-requires
     min-tag-requires
     min-tag-requires-2

@@ -1,6 +1,6 @@
 // The header byte of an area against an area.
 ghost use mathlib.Core.Path.{_≡_};
-ghost use Rattle.area_area.specs.Header.{unpackHeader, packHeader, HeaderFits, spareBits};
+ghost use Rattle.area_times.specs.Header.{unpackHeader, packHeader, HeaderFits, spareBits};
 use crate::Header;
 
 // What one of each part adds to the byte.
@@ -16,7 +16,8 @@ const START_TAG: u8 = 4;
 
 const END_TAG: u8 = 1;
 
-pub(crate) fn unpack(b: u8) -> Header
+// What a header byte says.
+pub fn unpack(b: u8) -> Header
     ensures { λ r. ⌜ r ≡ unpackHeader b ⌝ }
 {
     Header {
@@ -42,7 +43,7 @@ pub(crate) fn pack(header: Header) -> u8
 }
 
 // Whether an open end comes with a flag or a tag of its difference, which it does not have.
-pub(crate) fn spare_bits(header: Header) -> bool
+pub fn spare_bits(header: Header) -> bool
     ensures { λ r. ⌜ r ≡ spareBits header ⌝ }
 {
     if !header.end_open {

@@ -1,7 +1,7 @@
 use borrow.Author.Tests.{not-true, not-false}
-use Rattle.area_area.specs.Header.{spareBits}
-use Rattle.area_area.proofs.area_header.spare_bits.Statement.{statement}
-use Rattle.area_area.proofs.area_header.spare_bits.Tie as tie
+use Rattle.area_times.specs.Header.{spareBits}
+use Rattle.area_times.proofs.area_header.spare_bits.Statement.{statement}
+use Rattle.area_times.proofs.area_header.spare_bits.Tie as tie
 
 returns : tie.Need-returns
 unfolding spareBits

@@ -1,7 +1,7 @@
 -- The laws of an area's times against the reference's.
 use mathlib.Core.Path.{_≡_, refl, sym, ap, _∙_}
 use mathlib.Core.List.{List}
-use mathlib.Core.Bool.{Bool, true, false, _||_, not, true≢false, false≢true}
+use mathlib.Core.Bool.{Bool, true, false, _&&_, _||_, not, true≢false, false≢true}
 use Prim.Native.Nat.{ℕ}
 use lib.Dec.{leb, eqb}
 use borrow.Author.Tests.{le-leb, eqb-true}
@@ -16,12 +16,25 @@ use Rattle.grouping.specs.declared.RangeEnd.{RangeEnd}
 use Rattle.grouping.specs.declared.RangeEnd.the-variants.{Closed, Open}
 use Rattle.grouping.specs.declared.TimeRange.{TimeRange}
 use Rattle.grouping.specs.Range.{TypedRange, top, endValue, isOpen, endAtMost, bounds, includesRange}
-use Rattle.time_relative.specs.Difference.{differenceOf, readTime, TimeAs}
+use Rattle.time_relative.specs.Difference.{differenceOf, endDifference, readTime, TimeAs}
 use Rattle.time_relative.proofs.Time.{time-reads, time-relaxes, time-bounded}
-use Rattle.area_area.specs.declared.Header.{Header}
-use Rattle.area_area.specs.Header.{spareBits}
-use Rattle.area_area.specs.Area.{timesFrom, endBytes, timesBytes, readEnd, readTimes}
-use Rattle.area_area.specs.Relations.{EndAs, TimesAs}
+use Rattle.area_times.specs.declared.Header.{Header}
+use Rattle.area_times.specs.Header.{spareBits}
+use Rattle.area_times.specs.Times.{headerOf, timesFrom, endBytes, timesBytes, readEnd, readTimes}
+use Rattle.area_times.specs.Relations.{EndAs, TimesAs}
+
+-- ---- the header that writing gives
+pub header-spares : (id : Bool) (r t : TimeRange) → not (spareBits (headerOf id r t)) ≡ true
+unfolding headerOf spareBits minTag
+header-spares id r t = go (t .end)
+  where
+    go : (end : RangeEnd) → not (isOpen end && (endDifference r end .added || not (eqb (minTag 2 (endDifference r end .difference)) 0))) ≡ true
+    go (Closed x) = refl
+    go Open = refl
+
+pub header-is : (id : Bool) (r t : TimeRange) (h : Header) → id ≡ h .«id_written» → {e : List ℕ} → TimesAs r h t e → headerOf id r t ≡ h
+unfolding headerOf
+header-is id r t h i x = rw (i, x .endOpen, x .startAdded, x .endAdded, x .startTag, x .endTag)
 
 -- ---- the end
 -- no spare bits: an open end comes without a flag and with the tag 0

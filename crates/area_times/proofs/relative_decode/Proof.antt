@@ -1,4 +1,4 @@
-use mathlib.Core.Path.{_≡_, sym, ap, _∙_}
+use mathlib.Core.Path.{_≡_, refl, sym, ap, _∙_}
 use Prim.Native.Nat.{_+_}
 use native.Mathlib.Omega.{arith}
 use denote.Ref.{now}
@@ -9,13 +9,13 @@ use Rattle.codec.specs.declared.Decoded.{Decoded}
 use Rattle.compact_u64.specs.Answers.{numberAnswer}
 use Rattle.compact_u64.proofs.Exits.{refused-number}
 use Rattle.time_relative.specs.Difference.{readTime}
-use Rattle.area_area.specs.Area.{readEnd, timesFrom, readTimes}
-use Rattle.area_area.proofs.DecodeExits.{times-start, times-end, times-outside, times-read}
-use Rattle.area_area.proofs.Times.{times-bounded}
-use Rattle.codec.proofs.Answers.{no-value}
+use Rattle.area_times.specs.Times.{readEnd, timesFrom, readTimes}
+use Rattle.area_times.proofs.Exits.{times-start, times-end, times-outside, times-read}
+use Rattle.area_times.proofs.Times.{times-bounded}
+use Rattle.codec.proofs.Answers.{no-value, gives-refused, gives-accepted}
 use borrow.Author.Needs.{needs}
-use Rattle.area_area.proofs.area_decode.decode_times.Statement.{statement}
-use Rattle.area_area.proofs.area_decode.decode_times.Tie as tie
+use Rattle.area_times.proofs.relative_decode.Statement.{statement}
+use Rattle.area_times.proofs.relative_decode.Tie as tie
 
 start-is : (c : tie.After-known-told) → let a = c .before .before .before .before .before .args in let x = c .before .first .given .0 in
     readTime (a .canonic) (a .reference) (a .header .«start_added») (a .header .«start_tag») (now (a .message)) ≡ accepted (x .0) (x .1 .0)
@@ -44,7 +44,7 @@ returns : tie.Need-returns
 returns c =
     let a = c .before .before .before .before .args in
     let x = refused-number (a .reference) (c .before .before .relative-decode .result) (c .before .match .keys2) in
-    rw (c .refusal .ensures) (x .whole ∙ sym (times-start (a .canonic) (a .reference) (a .header) (now (a .message)) (x .why) (sym (c .before .before .relative-decode .ensures) ∙ x .number)))
+    rw (c .refusal .ensures) (gives-refused (x .why) (x .whole) (times-start (a .canonic) (a .reference) (a .header) (now (a .message)) (x .why) (sym (c .before .before .relative-decode .ensures) ∙ x .number)))
 
 decode-end-requires : tie.Need-decode-end-requires
 decode-end-requires c κs = search needs
@@ -56,7 +56,7 @@ returns-2 : tie.Need-returns-2
 returns-2 c =
     let a = c .before .before .before .before .before .before .before .args in
     let x = no-value (c .before .decode-end .result .answer) (c .match2 .keys2) in
-    x .beside (a .reference) ∙ sym (times-end (a .canonic) (a .reference) (a .header) (now (a .message)) _ _ (start-is (c .before .before)) (x .why) (sym (c .before .decode-end .ensures) ∙ x .beside (c .before .decode-end .result .end)))
+    gives-refused (x .why) (x .beside (a .reference)) (times-end (a .canonic) (a .reference) (a .header) (now (a .message)) _ _ (start-is (c .before .before)) (x .why) (sym (c .before .decode-end .ensures) ∙ x .beside (c .before .decode-end .result .end)))
 
 includes-range-requires : tie.Need-includes-range-requires
 includes-range-requires c κs = search needs
@@ -64,7 +64,7 @@ includes-range-requires c κs = search needs
 returns-3 : tie.Need-returns-3
 returns-3 c =
     let a = c .before .before .before .before .before .before .before .before .before .before .before .args in
-    sym (times-outside (a .canonic) (a .reference) (a .header) (now (a .message)) _ _ (start-is (c .before .before .before .before .before .before)) _ _ (end-is (c .before .before)) (sym (c .before .includes-range .ensures) ∙ not-true _ (c .if1 .taken)))
+    gives-refused 2 refl (times-outside (a .canonic) (a .reference) (a .header) (now (a .message)) _ _ (start-is (c .before .before .before .before .before .before)) _ _ (end-is (c .before .before)) (sym (c .before .includes-range .ensures) ∙ not-true _ (c .if1 .taken)))
 
 add-t17 : tie.Need-add-t17
 add-t17 c =
@@ -72,10 +72,10 @@ add-t17 c =
     omega (arith, times-bounded (a .reference) (a .header) (a .canonic) .bound (now (a .message)) _ _ (times-are c))
 
 returns-4 : tie.Need-returns-4
-returns-4 c = sym (times-are c)
+returns-4 c = gives-accepted (times-are c)
 
-pub decode-times-spec : {M : Type 1} → statement M
-decode-times-spec =
+pub relative-decode-spec : {M : Type 1} → statement M
+relative-decode-spec =
     tie.close
     (tie.spec
     relative-decode-requires

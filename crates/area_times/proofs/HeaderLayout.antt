@@ -1,11 +1,15 @@
 -- The header of an area: packing and taking apart undo each other. No law here knows a place.
 use mathlib.Core.Path.{_≡_, refl}
+use mathlib.Core.Bool.{Bool}
 use Prim.Native.Nat.{ℕ, _+_, _≤_, _<_}
 use native.Mathlib.Omega.{arith}
 use Rattle.codec.specs.Header.{field, placed, bit, Layout}
 use Rattle.codec.proofs.Header.{field-fits, bit-small, flag-of, same-bytes}
-use Rattle.area_area.specs.declared.Header.{Header}
-use Rattle.area_area.specs.Header.{idWrittenAt, endOpenAt, startAddedAt, endAddedAt, startTagAt, endTagAt, unpackHeader, packHeader, HeaderFits}
+use Rattle.compact_u64.proofs.Tags.{min-tag-fits}
+use Rattle.grouping.specs.declared.TimeRange.{TimeRange}
+use Rattle.area_times.specs.declared.Header.{Header}
+use Rattle.area_times.specs.Header.{idWrittenAt, endOpenAt, startAddedAt, endAddedAt, startTagAt, endTagAt, unpackHeader, packHeader, HeaderFits}
+use Rattle.area_times.specs.Times.{headerOf}
 
 -- the sum of the parts, each a number that fits its bits
 abbrev sum : ℕ → ℕ → ℕ → ℕ → ℕ → ℕ → ℕ
@@ -48,3 +52,7 @@ header-layout = record {
   byte = λ h f. header-apart h f .0;
   unpacks = λ h f. header-apart h f .1;
 }
+
+pub header-fits : (id : Bool) (r t : TimeRange) → HeaderFits (headerOf id r t)
+unfolding headerOf
+header-fits id r t = record { start = min-tag-fits 2 _ (omega arith); end = min-tag-fits 2 _ (omega arith) }

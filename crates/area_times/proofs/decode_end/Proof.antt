@@ -4,10 +4,10 @@ use lib.ListN.{drop}
 use Rattle.compact_u64.specs.Answers.{numberAnswer}
 use Rattle.compact_u64.proofs.Exits.{refused-number}
 use Rattle.grouping.specs.declared.RangeEnd.the-variants.{Open}
-use Rattle.area_area.proofs.DecodeExits.{end-fault, end-open, end-refused, end-read}
+use Rattle.area_times.proofs.Exits.{end-fault, end-open, end-refused, end-read}
 use borrow.Author.Needs.{needs}
-use Rattle.area_area.proofs.area_decode.decode_end.Statement.{statement}
-use Rattle.area_area.proofs.area_decode.decode_end.Tie as tie
+use Rattle.area_times.proofs.decode_end.Statement.{statement}
+use Rattle.area_times.proofs.decode_end.Tie as tie
 
 returns : tie.Need-returns
 returns c = sym (end-fault _ _ _ _ (c .before .if1 .taken) (c .if2 .taken))
