@@ -4,18 +4,20 @@ use native.Mathlib.Omega.{arith}
 use denote.Ref.{now}
 use lib.ListN.{drop}
 use Rattle.codec.specs.Answers.{accepted}
+use Rattle.codec.proofs.Answers.{gives-refused, gives-accepted}
 use Rattle.compact_u64.specs.Answers.{numberAnswer}
 use Rattle.compact_u64.specs.Number.{readNumber}
 use Rattle.compact_u64.proofs.Exits.{refused-number}
 use Rattle.grouping.specs.declared.RangeEnd.the-variants.{Closed}
 use Rattle.time_distance.specs.Distance.{readFrom}
-use Rattle.entry_entry.proofs.DecodeExits.{numbers-first, numbers-second, numbers-read, numbers-inside}
+use Rattle.entry_numbers.specs.Numbers.{noNumbers}
+use Rattle.entry_numbers.proofs.Reading.{numbers-first, numbers-second, numbers-read, numbers-inside}
 use borrow.Author.Needs.{needs}
-use Rattle.entry_entry.proofs.entry_decode.decode_numbers.Statement.{statement}
-use Rattle.entry_entry.proofs.entry_decode.decode_numbers.Tie as tie
+use Rattle.entry_numbers.proofs.relative_decode.Statement.{statement}
+use Rattle.entry_numbers.proofs.relative_decode.Tie as tie
 
 time-is : (c : tie.After-known-told) → let a = c .before .before .before .before .before .args in let x = c .before .first .given .0 in
-    readFrom (Closed (a .time)) (a .header .«time_added») (a .header .«time_tag») (now (a .message)) ≡ accepted (x .0) (x .1 .0)
+    readFrom (Closed (a .reference)) (a .header .«time_added») (a .header .«time_tag») (now (a .message)) ≡ accepted (x .0) (x .1 .0)
 time-is c = sym (c .before .before .before .relative-decode .ensures) ∙ ap numberAnswer (c .before .first .given .1)
 
 size-is : (c : tie.After-known-told2) → let a = c .before .before .before .before .before .before .before .before .before .args in let x = c .before .second .given .0 in
@@ -31,14 +33,14 @@ enum-known-first c = search needs
 refusal-requires : tie.Need-refusal-requires
 refusal-requires c κs = search needs
 
-no-numbers-requires : tie.Need-no-numbers-requires
-no-numbers-requires c κs = search needs
+refuse-requires : tie.Need-refuse-requires
+refuse-requires c κs = search needs
 
 returns : tie.Need-returns
 returns c =
     let a = c .before .before .before .before .before .args in
-    let x = refused-number (c .no-numbers .result .numbers) (c .before .before .before .relative-decode .result) (c .before .before .match .keys2) in
-    rw (c .no-numbers .ensures, c .before .refusal .ensures) (x .whole ∙ sym (numbers-first (a .time) (a .header) (now (a .message)) (x .why) (sym (c .before .before .before .relative-decode .ensures) ∙ x .number)))
+    let x = refused-number noNumbers (c .before .before .before .relative-decode .result) (c .before .before .match .keys2) in
+    rw (c .refuse .ensures .0, c .refuse .ensures .1, c .before .refusal .ensures) (gives-refused (x .why) (x .whole) (numbers-first (a .reference) (a .header) (now (a .message)) (x .why) (sym (c .before .before .before .relative-decode .ensures) ∙ x .number)))
 
 relative-decode-requires-2 : tie.Need-relative-decode-requires-2
 relative-decode-requires-2 c κs = search needs
@@ -49,38 +51,38 @@ enum-known-second c = search needs
 refusal-requires-2 : tie.Need-refusal-requires-2
 refusal-requires-2 c κs = search needs
 
-no-numbers-requires-2 : tie.Need-no-numbers-requires-2
-no-numbers-requires-2 c κs = search needs
+refuse-requires-2 : tie.Need-refuse-requires-2
+refuse-requires-2 c κs = search needs
 
 returns-2 : tie.Need-returns-2
 returns-2 c =
     let a = c .before .before .before .before .before .before .before .before .before .args in
-    let x = refused-number (c .no-numbers2 .result .numbers) (c .before .before .before .relative-decode2 .result) (c .before .before .match2 .keys2) in
-    rw (c .no-numbers2 .ensures, c .before .refusal2 .ensures) (x .whole ∙ sym (numbers-second (a .time) (a .header) (now (a .message)) _ _ (time-is (c .before .before .before .before)) (x .why) (sym (c .before .before .before .relative-decode2 .ensures) ∙ x .number)))
+    let x = refused-number noNumbers (c .before .before .before .relative-decode2 .result) (c .before .before .match2 .keys2) in
+    rw (c .refuse2 .ensures .0, c .refuse2 .ensures .1, c .before .refusal2 .ensures) (gives-refused (x .why) (x .whole) (numbers-second (a .reference) (a .header) (now (a .message)) _ _ (time-is (c .before .before .before .before)) (x .why) (sym (c .before .before .before .relative-decode2 .ensures) ∙ x .number)))
 
 add-t14 : tie.Need-add-t14
 add-t14 c =
     let a = c .before .before .before .before .before .before .before .before .before .args in
-    omega (arith, numbers-inside (a .time) (a .header) (now (a .message)) _ _ (time-is (c .before .before .before .before)) _ _ (size-is c))
+    omega (arith, numbers-inside (a .reference) (a .header) (now (a .message)) _ _ (time-is (c .before .before .before .before)) _ _ (size-is c))
 
 returns-3 : tie.Need-returns-3
 returns-3 c =
     let a = c .before .before .before .before .before .before .before .before .before .args in
-    sym (numbers-read (a .time) (a .header) (now (a .message)) _ _ (time-is (c .before .before .before .before)) _ _ (size-is c))
+    gives-accepted (numbers-read (a .reference) (a .header) (now (a .message)) _ _ (time-is (c .before .before .before .before)) _ _ (size-is c))
 
-pub decode-numbers-spec : {M : Type 1} → statement M
-decode-numbers-spec =
+pub relative-decode-spec : {M : Type 1} → statement M
+relative-decode-spec =
     tie.close
     (tie.spec
     relative-decode-requires
     enum-known-first
     refusal-requires
-    no-numbers-requires
+    refuse-requires
     returns
     relative-decode-requires-2
     enum-known-second
     refusal-requires-2
-    no-numbers-requires-2
+    refuse-requires-2
     returns-2
     add-t14
     returns-3)

@@ -1,6 +1,6 @@
 // The header byte of an entry against an entry.
 ghost use mathlib.Core.Path.{_≡_};
-ghost use Rattle.entry_entry.specs.Header.{unpackHeader, packHeader, HeaderFits};
+ghost use Rattle.entry_numbers.specs.Header.{unpackHeader, packHeader, HeaderFits};
 use crate::Header;
 
 // What one of each part adds to the byte.
@@ -14,7 +14,8 @@ const TIME_TAG: u8 = 8;
 
 const LENGTH_TAG: u8 = 1;
 
-pub(crate) fn unpack(b: u8) -> Header
+// What a header byte says.
+pub fn unpack(b: u8) -> Header
     ensures { λ r. ⌜ r ≡ unpackHeader b ⌝ }
 {
     Header {

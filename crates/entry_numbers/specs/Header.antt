@@ -1,7 +1,7 @@
 -- docs/FORMAT.md, "Entries against an entry": the header byte.
 use Prim.Native.Nat.{ℕ, _+_, _<_}
 use Rattle.codec.specs.Header.{field, flag, placed, bit}
-use Rattle.entry_entry.specs.declared.Header.{Header}
+use Rattle.entry_numbers.specs.declared.Header.{Header}
 
 -- where each part stands
 abbrev pub namespaceWrittenAt : ℕ

@@ -1,14 +1,14 @@
 -- The header of an entry against an entry: packing and taking apart undo each other, and the header that writing gives fits. No law here knows a place.
 use mathlib.Core.Path.{_≡_, refl}
+use mathlib.Core.Bool.{Bool}
 use Prim.Native.Nat.{ℕ, _+_, _≤_, _<_}
 use native.Mathlib.Omega.{arith}
 use Rattle.codec.specs.Header.{field, placed, bit, Layout}
 use Rattle.codec.proofs.Header.{field-fits, bit-small, flag-of, same-bytes}
 use Rattle.compact_u64.proofs.Tags.{min-tag-fits}
-use Rattle.entry.specs.Entry.{EntryValue}
-use Rattle.entry_entry.specs.declared.Header.{Header}
-use Rattle.entry_entry.specs.Header.{namespaceWrittenAt, subspaceWrittenAt, timeAddedAt, timeTagAt, lengthTagAt, unpackHeader, packHeader, HeaderFits}
-use Rattle.entry_entry.specs.Entry.{headerOf}
+use Rattle.entry_numbers.specs.declared.Header.{Header}
+use Rattle.entry_numbers.specs.Header.{namespaceWrittenAt, subspaceWrittenAt, timeAddedAt, timeTagAt, lengthTagAt, unpackHeader, packHeader, HeaderFits}
+use Rattle.entry_numbers.specs.Numbers.{headerOf}
 
 -- the sum of the parts, each a number that fits its bits
 abbrev sum : ℕ → ℕ → ℕ → ℕ → ℕ → ℕ
@@ -42,6 +42,6 @@ header-layout = record {
   unpacks = λ h f. header-apart h f .1;
 }
 
-pub header-fits : (r v : EntryValue) → HeaderFits (headerOf r v)
+pub header-fits : (n s : Bool) (r time size : ℕ) → HeaderFits (headerOf n s r time size)
 unfolding headerOf
-header-fits r v = record { time = min-tag-fits 2 _ (omega arith); length = min-tag-fits 3 _ (omega arith) }
+header-fits n s r time size = record { time = min-tag-fits 2 _ (omega arith); length = min-tag-fits 3 _ (omega arith) }
