@@ -1,8 +1,7 @@
-use Rattle.entry_area.specs.Entry.{headerOf}
-use Rattle.entry_area.proofs.Writing.{any-is}
+use Rattle.entry_end.specs.End.{headerOf}
 use borrow.Author.Needs.{needs}
-use Rattle.entry_area.proofs.entry_encode.header_of.Statement.{statement}
-use Rattle.entry_area.proofs.entry_encode.header_of.Tie as tie
+use Rattle.entry_end.proofs.header_of.Statement.{statement}
+use Rattle.entry_end.proofs.header_of.Tie as tie
 
 difference-requires : tie.Need-difference-requires
 difference-requires c κs = search needs
@@ -15,7 +14,7 @@ min-tag-requires-2 c κs = search needs
 
 returns : tie.Need-returns
 unfolding headerOf
-returns c = rw (c .min-tag2 .ensures, c .before .min-tag .ensures, c .before .before .difference .ensures, any-is (c .before .before .before .args .area .subspace))
+returns c = rw (c .min-tag2 .ensures, c .before .min-tag .ensures, c .before .before .difference .ensures)
 
 pub header-of-spec : {M : Type 1} → statement M
 header-of-spec =

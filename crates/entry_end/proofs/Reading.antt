@@ -1,44 +1,30 @@
--- The laws of an entry's id, and of the fields after its path.
-use mathlib.Core.Path.{refl, sym, _∙_}
+-- The laws of the fields after the path, and what the reader's definition answers at each exit of the code.
+use mathlib.Core.Path.{_≡_, refl, _∙_}
 use mathlib.Core.List.{List, _++_}
-use mathlib.Core.Bool.{Bool, true, false, not}
-use mathlib.Core.Option.{Option, none, some}
-use Prim.Native.Nat.{ℕ}
+use mathlib.Core.Bool.{Bool, true, false}
+use Prim.Native.Nat.{ℕ, _+_, _≤_}
 use native.Mathlib.Omega.{arith}
-use borrow.Author.Tests.{not-true}
-use Rattle.codec.specs.Reader.{give, someBytes}
-use Rattle.codec.specs.Reads.{Reads, Relaxes, Bounded, Nothing, SomeBytes, Mapped, Joined}
-use Rattle.codec.proofs.SameBytes.{same-eq, same-refl}
-use Rattle.codec.proofs.Readers.{reads-as, then-reads, guard-reads, mapped-reads, someBytes-reads, give-reads}
+use lib.ListN.{length, drop, length-drop}
+use lib.Seq.{drop-drop}
+use Rattle.codec.specs.Answers.{accepted, refused}
+use Rattle.codec.specs.Reader.{someBytes}
+use Rattle.codec.specs.Reads.{Reads, Relaxes, Bounded, SomeBytes, Mapped, Joined}
+use Rattle.codec.proofs.Readers.{reads-as, then-reads, mapped-reads, someBytes-reads}
 use Rattle.codec.proofs.Relaxes.{relaxes-self, then-relaxes, mapped-relaxes}
-use Rattle.codec.proofs.Bounded.{then-bounded, guard-bounded, mapped-bounded, someBytes-bounded, give-bounded}
+use Rattle.codec.proofs.Bounded.{then-bounded, mapped-bounded, someBytes-bounded}
 use Rattle.compact_u64.specs.Number.{numberBytes, readNumber}
 use Rattle.compact_u64.specs.Laws.{NumberAs}
 use Rattle.compact_u64.proofs.Number.{number-reads, number-relaxes, number-bounded}
 use Rattle.grouping.specs.declared.TimeRange.{TimeRange}
 use Rattle.grouping.specs.Range.{TypedRange}
-use Rattle.grouping.specs.Area.{TypedSubspace}
 use Rattle.time_relative.specs.Difference.{differenceOf, readIncluded, IncludedAs}
 use Rattle.time_relative.proofs.Included.{included-reads, included-relaxes, included-bounded}
-use Rattle.entry_area.specs.declared.Header.{Header}
-use Rattle.entry_area.specs.declared.End.{End}
-use Rattle.entry_area.specs.Entry.{readId, endFrom, readEnd}
-use Rattle.entry_area.specs.Relations.{IdAs, EndAs}
+use Rattle.entry_end.specs.declared.Header.{Header}
+use Rattle.entry_end.specs.declared.End.{End}
+use Rattle.entry_end.specs.End.{endFrom, readEnd}
+use Rattle.entry_end.specs.Relations.{EndAs}
 
--- ---- the id
-pub id-reads : (r : Option (List ℕ)) → TypedSubspace r → (written : Bool) → Reads (readId r written) (IdAs r written)
-id-reads none ty written = reads-as _ _ _ (guard-reads written (someBytes 32) (SomeBytes 32) (λ ok. someBytes-reads 32))
-    (λ id e j. record { typed = (j .1 .0, j .1 .1); inside = refl; any = sym (j .0); bytes = j .1 .2 })
-    (λ id e a. (sym (a .any), (a .typed .0, a .typed .1, a .bytes)))
-id-reads (some r) ty written = reads-as _ _ _ (guard-reads (not written) (give r) (Nothing r) (λ ok. give-reads r))
-    (λ id e j. rw (← (j .1 .0), j .1 .1) (record { typed = ty; inside = same-refl r; any = sym (not-true written (j .0)); bytes = refl }))
-    (λ id e a. (rw (← (a .any)), (same-eq r id (a .inside), a .bytes)))
-
-pub id-bounded : (r : Option (List ℕ)) (written : Bool) → Bounded (readId r written)
-id-bounded none written = guard-bounded written _ (someBytes-bounded 32)
-id-bounded (some r) written = guard-bounded (not written) _ (give-bounded r)
-
--- ---- the fields after the path
+-- ---- the laws
 module _ (r : TimeRange) (h : Header) where
   Rel : End → List ℕ → Type 0
   Rel = Joined (IncludedAs r (h .«time_added») (h .«time_tag»)) (λ time. Joined (NumberAs 2 (h .«length_tag»)) (λ size. Mapped (endFrom time size) (SomeBytes 32)))
@@ -99,3 +85,31 @@ module _ (r : TimeRange) (h : Header) where
       then-bounded (readIncluded canonic r (h .«time_added») (h .«time_tag»)) _ (included-bounded r (h .«time_added») (h .«time_tag») canonic) (λ time.
       then-bounded (readNumber canonic 2 (h .«length_tag»)) _ (number-bounded 2 (h .«length_tag») canonic) (λ size.
       mapped-bounded (endFrom time size) _ (someBytes-bounded 32)))
+
+-- ---- the exits
+module _ (canonic : Bool) (r : TimeRange) (h : Header) (s : List ℕ) where
+  pub end-time : (k : ℕ) → readIncluded canonic r (h .«time_added») (h .«time_tag») s ≡ refused k → readEnd canonic r h s ≡ refused k
+  unfolding readEnd
+  end-time k e = rw e
+
+  module _ (x a : ℕ) (e : readIncluded canonic r (h .«time_added») (h .«time_tag») s ≡ accepted x a) where
+    pub end-size : (k : ℕ) → readNumber canonic 2 (h .«length_tag») (drop a s) ≡ refused k → readEnd canonic r h s ≡ refused k
+    unfolding readEnd
+    end-size k f = rw (e, f)
+
+    module _ (y b : ℕ) (f : readNumber canonic 2 (h .«length_tag») (drop a s) ≡ accepted y b) where
+      pub end-inside : a + b ≤ length s
+      end-inside =
+          omega (arith, included-bounded r (h .«time_added») (h .«time_tag») canonic .bound s x a e, number-bounded 2 (h .«length_tag») canonic .bound (drop a s) y b f, length-drop a s)
+
+      pub end-digest : (k : ℕ) → someBytes 32 (drop (a + b) s) ≡ refused k → readEnd canonic r h s ≡ refused k
+      unfolding readEnd
+      end-digest k g = rw (e, f, drop-drop, g)
+
+      module _ (d : List ℕ) (n : ℕ) (g : someBytes 32 (drop (a + b) s) ≡ accepted d n) where
+        pub end-read : readEnd canonic r h s ≡ accepted (endFrom x y d) (a + (b + n))
+        unfolding readEnd
+        end-read = rw (e, f, drop-drop, g)
+
+        pub digest-inside : a + (b + n) ≤ length s
+        digest-inside = omega (arith, end-inside, someBytes-bounded 32 .bound (drop (a + b) s) d n g, length-drop (a + b) s)

@@ -1,11 +1,15 @@
 -- The header of an entry: packing and taking apart undo each other. No law here knows a place.
 use mathlib.Core.Path.{_≡_, refl}
+use mathlib.Core.Bool.{Bool}
 use Prim.Native.Nat.{ℕ, _+_, _≤_, _<_}
 use native.Mathlib.Omega.{arith}
 use Rattle.codec.specs.Header.{field, placed, bit, Layout}
 use Rattle.codec.proofs.Header.{field-fits, bit-small, flag-of, same-bytes}
-use Rattle.entry_area.specs.declared.Header.{Header}
-use Rattle.entry_area.specs.Header.{idWrittenAt, timeAddedAt, timeTagAt, lengthTagAt, spareAt, unpackHeader, packHeader, HeaderFits}
+use Rattle.compact_u64.proofs.Tags.{min-tag-fits}
+use Rattle.grouping.specs.declared.TimeRange.{TimeRange}
+use Rattle.entry_end.specs.declared.Header.{Header}
+use Rattle.entry_end.specs.Header.{idWrittenAt, timeAddedAt, timeTagAt, lengthTagAt, spareAt, unpackHeader, packHeader, HeaderFits}
+use Rattle.entry_end.specs.End.{headerOf}
 
 -- the sum of the parts, each a number that fits its bits
 abbrev sum : ℕ → ℕ → ℕ → ℕ → ℕ → ℕ
@@ -38,3 +42,7 @@ header-layout = record {
   byte = λ h f. header-apart h f .0;
   unpacks = λ h f. header-apart h f .1;
 }
+
+pub header-fits : (id : Bool) (r : TimeRange) (time size : ℕ) → HeaderFits (headerOf id r time size)
+unfolding headerOf
+header-fits id r time size = record { time = min-tag-fits 2 _ (omega arith); length = min-tag-fits 2 _ (omega arith); spare = omega arith }

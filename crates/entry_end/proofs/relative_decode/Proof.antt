@@ -6,15 +6,16 @@ use lib.ListN.{length, drop}
 use Rattle.codec.specs.Answers.{accepted, answerOf}
 use Rattle.codec.specs.Reader.{someBytes}
 use Rattle.codec.specs.declared.Decoded.{Decoded}
-use Rattle.codec.proofs.Answers.{no-value}
+use Rattle.codec.proofs.Answers.{no-value, gives-refused, gives-accepted}
 use Rattle.compact_u64.specs.Answers.{numberAnswer}
 use Rattle.compact_u64.specs.Number.{readNumber}
 use Rattle.compact_u64.proofs.Exits.{refused-number}
 use Rattle.time_relative.specs.Difference.{readIncluded}
-use Rattle.entry_area.proofs.DecodeExits.{end-time, end-size, end-inside, end-digest, end-read, digest-inside}
+use Rattle.entry_end.specs.End.{noEnd}
+use Rattle.entry_end.proofs.Reading.{end-time, end-size, end-inside, end-digest, end-read, digest-inside}
 use borrow.Author.Needs.{needs}
-use Rattle.entry_area.proofs.entry_decode.decode_end.Statement.{statement}
-use Rattle.entry_area.proofs.entry_decode.decode_end.Tie as tie
+use Rattle.entry_end.proofs.relative_decode.Statement.{statement}
+use Rattle.entry_end.proofs.relative_decode.Tie as tie
 
 time-is : (c : tie.After-known-told) → let a = c .before .before .before .before .before .args in let x = c .before .first .given .0 in
     readIncluded (a .canonic) (a .times) (a .header .«time_added») (a .header .«time_tag») (now (a .message)) ≡ accepted (x .0) (x .1 .0)
@@ -41,14 +42,14 @@ enum-known-first c = search needs
 refusal-requires : tie.Need-refusal-requires
 refusal-requires c κs = search needs
 
-no-end-requires : tie.Need-no-end-requires
-no-end-requires c κs = search needs
+refuse-requires : tie.Need-refuse-requires
+refuse-requires c κs = search needs
 
 returns : tie.Need-returns
 returns c =
     let a = c .before .before .before .before .before .args in
-    let x = refused-number (c .no-end .result .end) (c .before .before .before .decode-included .result) (c .before .before .match .keys2) in
-    rw (c .no-end .ensures, c .before .refusal .ensures) (x .whole ∙ sym (end-time (a .canonic) (a .times) (a .header) (now (a .message)) (x .why) (sym (c .before .before .before .decode-included .ensures) ∙ x .number)))
+    let x = refused-number noEnd (c .before .before .before .decode-included .result) (c .before .before .match .keys2) in
+    rw (c .refuse .ensures .0, c .refuse .ensures .1, c .before .refusal .ensures) (gives-refused (x .why) (x .whole) (end-time (a .canonic) (a .times) (a .header) (now (a .message)) (x .why) (sym (c .before .before .before .decode-included .ensures) ∙ x .number)))
 
 relative-decode-requires : tie.Need-relative-decode-requires
 relative-decode-requires c κs = search needs
@@ -59,14 +60,14 @@ enum-known-second c = search needs
 refusal-requires-2 : tie.Need-refusal-requires-2
 refusal-requires-2 c κs = search needs
 
-no-end-requires-2 : tie.Need-no-end-requires-2
-no-end-requires-2 c κs = search needs
+refuse-requires-2 : tie.Need-refuse-requires-2
+refuse-requires-2 c κs = search needs
 
 returns-2 : tie.Need-returns-2
 returns-2 c =
     let a = c .before .before .before .before .before .before .before .before .before .args in
-    let x = refused-number (c .no-end2 .result .end) (c .before .before .before .relative-decode .result) (c .before .before .match2 .keys2) in
-    rw (c .no-end2 .ensures, c .before .refusal2 .ensures) (x .whole ∙ sym (end-size (a .canonic) (a .times) (a .header) (now (a .message)) _ _ (time-is (c .before .before .before .before)) (x .why) (sym (c .before .before .before .relative-decode .ensures) ∙ x .number)))
+    let x = refused-number noEnd (c .before .before .before .relative-decode .result) (c .before .before .match2 .keys2) in
+    rw (c .refuse2 .ensures .0, c .refuse2 .ensures .1, c .before .refusal2 .ensures) (gives-refused (x .why) (x .whole) (end-size (a .canonic) (a .times) (a .header) (now (a .message)) _ _ (time-is (c .before .before .before .before)) (x .why) (sym (c .before .before .before .relative-decode .ensures) ∙ x .number)))
 
 add-at : tie.Need-add-at
 add-at c =
@@ -79,14 +80,14 @@ decode-id-requires c κs = search needs
 enum-known-answer : tie.Need-enum-known-answer
 enum-known-answer c = search needs
 
-no-end-requires-3 : tie.Need-no-end-requires-3
-no-end-requires-3 c κs = search needs
+refuse-requires-3 : tie.Need-refuse-requires-3
+refuse-requires-3 c κs = search needs
 
 returns-3 : tie.Need-returns-3
 returns-3 c =
     let a = c .before .before .before .before .before .before .before .before .before .before .before .before .args in
     let x = no-value (c .before .before .decode-id .result .answer) (c .before .match3 .keys2) in
-    rw (c .no-end3 .ensures) (x .beside _ ∙ sym (end-digest (a .canonic) (a .times) (a .header) (now (a .message)) _ _ (time-is (c .before .before .before .before .before .before .before)) _ _ (size-is (c .before .before .before)) (x .why) (sym (c .before .before .decode-id .ensures .answer) ∙ x .beside _)))
+    rw (c .refuse3 .ensures .0, c .refuse3 .ensures .1) (gives-refused (x .why) (x .beside _) (end-digest (a .canonic) (a .times) (a .header) (now (a .message)) _ _ (time-is (c .before .before .before .before .before .before .before)) _ _ (size-is (c .before .before .before)) (x .why) (sym (c .before .before .decode-id .ensures .answer) ∙ x .beside _)))
 
 add-t19 : tie.Need-add-t19
 add-t19 c = omega (arith, inside (c .before))
@@ -97,26 +98,26 @@ add-t20 c = omega (arith, inside (c .before))
 returns-4 : tie.Need-returns-4
 returns-4 c =
     let a = c .before .before .before .before .before .before .before .before .before .before .before .before .before .before .args in
-    sym (end-read (a .canonic) (a .times) (a .header) (now (a .message)) _ _ (time-is (c .before .before .before .before .before .before .before .before .before)) _ _ (size-is (c .before .before .before .before .before)) _ _ (digest-is (c .before)))
+    gives-accepted (end-read (a .canonic) (a .times) (a .header) (now (a .message)) _ _ (time-is (c .before .before .before .before .before .before .before .before .before)) _ _ (size-is (c .before .before .before .before .before)) _ _ (digest-is (c .before)))
 
-pub decode-end-spec : {M : Type 1} → statement M
-decode-end-spec =
+pub relative-decode-spec : {M : Type 1} → statement M
+relative-decode-spec =
     tie.close
     (tie.spec
     decode-included-requires
     enum-known-first
     refusal-requires
-    no-end-requires
+    refuse-requires
     returns
     relative-decode-requires
     enum-known-second
     refusal-requires-2
-    no-end-requires-2
+    refuse-requires-2
     returns-2
     add-at
     decode-id-requires
     enum-known-answer
-    no-end-requires-3
+    refuse-requires-3
     returns-3
     add-t19
     add-t20

@@ -1,7 +1,7 @@
 -- docs/FORMAT.md, "Entries": the header byte of an entry in an area.
 use Prim.Native.Nat.{ℕ, _+_, _<_}
 use Rattle.codec.specs.Header.{field, flag, placed, bit}
-use Rattle.entry_area.specs.declared.Header.{Header}
+use Rattle.entry_end.specs.declared.Header.{Header}
 
 -- where each part stands
 abbrev pub idWrittenAt : ℕ
