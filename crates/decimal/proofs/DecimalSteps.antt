@@ -9,9 +9,8 @@ use lib.Dec.{ltb}
 use borrow.Author.Tests.{ne-eqb, lt-ltb, le-ltb}
 use lib.ListN.{length, drop, getD, drop-of-length-le}
 use lib.Seq.{drop-cons}
-use Rattle.text.specs.Decimal.{decimalValue, allDigits, isDecimal, digitsAfter}
-use Rattle.text.specs.Fields.{readDecimal}
-use Rattle.text.specs.declared.Decimal.the-variants.{Value, Refused}
+use Rattle.decimal.specs.Decimal.{decimalValue, allDigits, isDecimal, digitsAfter, readDecimal}
+use Rattle.decimal.specs.declared.Decimal.the-variants.{Value, Refused}
 
 -- ---- one digit
 pub digits-next : (v : ℕ) (s : List ℕ) (i : ℕ) → i < length s → digitsAfter v (drop i s) ≡ digitsAfter (v * 10 + decimalValue (getD s i 0)) (drop (i + 1) s)

@@ -1,9 +1,9 @@
 use native.Mathlib.Omega.{arith}
 use borrow.Author.Needs.{needs}
 use borrow.Author.Tests.{lt-ltb, le-ltb}
-use Rattle.text.specs.Decimal.{decimalValue}
-use Rattle.text.proofs.decimal_value.Statement.{statement}
-use Rattle.text.proofs.decimal_value.Tie as tie
+use Rattle.decimal.specs.Decimal.{decimalValue}
+use Rattle.decimal.proofs.decimal_value.Statement.{statement}
+use Rattle.decimal.proofs.decimal_value.Tie as tie
 
 returns : tie.Need-returns
 unfolding decimalValue

@@ -5,10 +5,10 @@ use native.Mathlib.Omega.{arith}
 use borrow.Author.Needs.{needs}
 use borrow.Author.Tests.{lt-ltb, le-ltb}
 use lib.ListN.{length, drop}
-use Rattle.text.specs.Decimal.{isDecimal, allDigits, digitsAfter}
-use Rattle.text.proofs.DecimalSteps.{digits-next, digits-end, digits-grow, allDigits-next, allDigits-end, read-empty, read-zero, read-leading-zero, other-start, read-no-decimal, read-too-large, read-value}
-use Rattle.text.proofs.read_decimal.Statement.{statement}
-use Rattle.text.proofs.read_decimal.Tie as tie
+use Rattle.decimal.specs.Decimal.{isDecimal, allDigits, digitsAfter}
+use Rattle.decimal.proofs.DecimalSteps.{digits-next, digits-end, digits-grow, allDigits-next, allDigits-end, read-empty, read-zero, read-leading-zero, other-start, read-no-decimal, read-too-large, read-value}
+use Rattle.decimal.proofs.read_decimal.Statement.{statement}
+use Rattle.decimal.proofs.read_decimal.Tie as tie
 
 abbrev Inv-loop : tie.InvT-loop
 Inv-loop s v₀ i₀ v i = (i ≤ length s) × (isDecimal s ≡ allDigits (drop i s)) × (digitsAfter 0 s ≡ digitsAfter v (drop i s)) × (v < 2 ^ 64)
