@@ -1,6 +1,6 @@
 use borrow.Author.Needs.{needs}
-use Rattle.range3d_range3d.proofs.range_header.unpack.Statement.{statement}
-use Rattle.range3d_range3d.proofs.range_header.unpack.Tie as tie
+use Rattle.range_header.proofs.unpack.Statement.{statement}
+use Rattle.range_header.proofs.unpack.Tie as tie
 
 source-from-requires : tie.Need-source-from-requires
 source-from-requires c κs = search needs

@@ -1,6 +1,6 @@
 use borrow.Author.Tests.{ne-eqb}
-use Rattle.range3d_range3d.proofs.range_header.source_from.Statement.{statement}
-use Rattle.range3d_range3d.proofs.range_header.source_from.Tie as tie
+use Rattle.range_header.proofs.source_from.Statement.{statement}
+use Rattle.range_header.proofs.source_from.Tie as tie
 
 returns : tie.Need-returns
 returns c = rw (c .match .keys1)

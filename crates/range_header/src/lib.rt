@@ -1,9 +1,18 @@
-// The first header byte of a 3d range.
+// The first header byte of a 3d range: docs/FORMAT.md, "3d ranges". Part of a port of relative_encodings/range3d_range3d.rs.
 ghost use mathlib.Core.Path.{_≡_};
 ghost use Prim.Native.Nat.{_≤_};
-ghost use Rattle.range3d_range3d.specs.Header.{sourceFrom, sourceBits, unpackHeader, packHeader};
-use crate::Header;
+ghost use Rattle.range_header.specs.Header.{sourceFrom, sourceBits, unpackHeader, packHeader};
 use range_subspaces::IdSource;
+
+// What the first header byte says; the second is that of the times.
+pub struct Header {
+    pub subspace_start: IdSource,
+    pub subspace_end: IdSource,
+    pub path_start_from_start: bool,
+    pub path_end_open: bool,
+    pub path_end_from_start: bool,
+    pub times_end_open: bool,
+}
 
 // What one of each part adds to the byte.
 const SUBSPACE_START: u8 = 64;
@@ -40,7 +49,8 @@ fn source_bits(source: IdSource) -> u8
     }
 }
 
-pub(crate) fn unpack(b: u8) -> Header
+// What a header byte says.
+pub fn unpack(b: u8) -> Header
     ensures { λ r. ⌜ r ≡ unpackHeader b ⌝ }
 {
     let start = source_from(b / SUBSPACE_START % 4);
@@ -55,7 +65,8 @@ pub(crate) fn unpack(b: u8) -> Header
     }
 }
 
-pub(crate) fn pack(header: Header) -> u8
+// The byte that says a header.
+pub fn pack(header: Header) -> u8
     ensures { λ r. ⌜ r ≡ packHeader header ⌝ }
 {
     let start = header.subspace_start;

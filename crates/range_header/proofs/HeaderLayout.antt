@@ -6,8 +6,8 @@ use Rattle.codec.specs.Header.{field, placed, bit, Layout}
 use Rattle.codec.proofs.Header.{bit-small, flag-of, same-bytes}
 use Rattle.range_subspaces.specs.declared.IdSource.{IdSource}
 use Rattle.range_subspaces.specs.declared.IdSource.the-variants.{Nowhere, Start, End, Written}
-use Rattle.range3d_range3d.specs.declared.Header.{Header}
-use Rattle.range3d_range3d.specs.Header.{subspaceStartAt, subspaceEndAt, pathStartFromStartAt, pathEndOpenAt, pathEndFromStartAt, timesEndOpenAt, sourceBits, sourceFrom, unpackHeader, packHeader}
+use Rattle.range_header.specs.declared.Header.{Header}
+use Rattle.range_header.specs.Header.{subspaceStartAt, subspaceEndAt, pathStartFromStartAt, pathEndOpenAt, pathEndFromStartAt, timesEndOpenAt, sourceBits, sourceFrom, unpackHeader, packHeader}
 
 -- ---- where an id is taken from
 bits-small : (x : IdSource) → sourceBits x < 4

@@ -5,7 +5,7 @@ use lib.Dec.{eqb}
 use Rattle.codec.specs.Header.{field, flag, placed, bit}
 use Rattle.range_subspaces.specs.declared.IdSource.{IdSource}
 use Rattle.range_subspaces.specs.declared.IdSource.the-variants.{Nowhere, Start, End, Written}
-use Rattle.range3d_range3d.specs.declared.Header.{Header}
+use Rattle.range_header.specs.declared.Header.{Header}
 
 -- where each part stands
 abbrev pub subspaceStartAt : ℕ
