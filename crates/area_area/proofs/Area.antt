@@ -1,10 +1,8 @@
 -- The laws of an area against an area, on plain values.
 use mathlib.Core.Path.{_≡_, refl, _∙_}
 use mathlib.Core.List.{List, [], _∷_, _++_}
-use mathlib.Core.Bool.{Bool, true, false, _&&_, _||_, not}
+use mathlib.Core.Bool.{Bool, true, false, not}
 use Prim.Native.Nat.{ℕ}
-use native.Mathlib.Omega.{arith}
-use lib.Dec.{eqb}
 use borrow.Author.Tests.{not-true}
 use Rattle.codec.specs.Answers.{refused}
 use Rattle.codec.specs.Header.{readHeader, HeaderAs}
@@ -14,42 +12,22 @@ use Rattle.codec.proofs.Header.{header-reads}
 use Rattle.codec.proofs.Readers.{reads-as, then-reads, guard-reads, mapped-reads}
 use Rattle.codec.proofs.Relaxes.{relaxes-back, relaxes-self, then-relaxes, guard-relaxes, mapped-relaxes}
 use Rattle.codec.proofs.Bounded.{then-bounded, mapped-bounded}
-use Rattle.compact_u64.specs.Number.{minTag}
-use Rattle.compact_u64.proofs.Tags.{min-tag-fits}
 use Rattle.path.specs.Limits.{PathOk}
 use Rattle.path.specs.Prefix.{isPrefix}
 use Rattle.path.proofs.Prefix.{prefix-takes, takes-prefix}
 use Rattle.path_relative.specs.Extension.{extensionBytes, ExtensionAs}
 use Rattle.path_relative.proofs.Extension.{extension-reads, extension-relaxes, extension-bounded}
-use Rattle.grouping.specs.declared.RangeEnd.{RangeEnd}
-use Rattle.grouping.specs.declared.RangeEnd.the-variants.{Closed, Open}
-use Rattle.grouping.specs.Range.{TypedRange, endValue, isOpen, bounds, includesRange}
+use Rattle.grouping.specs.Range.{TypedRange, endValue, bounds, includesRange}
 use Rattle.grouping.specs.Area.{AreaValue, TypedSubspace, includesSubspace, includesArea, liesInside}
-use Rattle.time_relative.specs.Difference.{endDifference}
-use Rattle.area_area.specs.declared.Header.{Header}
-use Rattle.area_area.specs.Header.{unpackHeader, packHeader, HeaderFits, spareBits}
-use Rattle.area_area.specs.Area.{idWritten, headerOf, subspaceBytes, timesBytes, areaBytes, valueFrom, readSubspace, readTimes, readParts, readArea}
-use Rattle.area_area.specs.Relations.{SubspaceAs, TimesAs, AreaAs}
-use Rattle.area_area.proofs.HeaderLayout.{header-layout}
+use Rattle.area_times.specs.declared.Header.{Header}
+use Rattle.area_times.specs.Header.{unpackHeader, packHeader, HeaderFits, spareBits}
+use Rattle.area_times.specs.Times.{headerOf, timesBytes, readTimes}
+use Rattle.area_times.specs.Relations.{TimesAs}
+use Rattle.area_times.proofs.HeaderLayout.{header-layout, header-fits}
+use Rattle.area_times.proofs.Times.{header-spares, header-is, times-reads, times-relaxes, times-bounded}
+use Rattle.area_area.specs.Area.{idWritten, areaHeader, subspaceBytes, areaBytes, valueFrom, readSubspace, readParts, readArea}
+use Rattle.area_area.specs.Relations.{SubspaceAs, AreaAs}
 use Rattle.area_area.proofs.Subspace.{subspace-reads, subspace-relaxes, subspace-bounded}
-use Rattle.area_area.proofs.Times.{times-reads, times-relaxes, times-bounded}
-
--- ---- the header that writing gives
-pub header-fits : (r a : AreaValue) → HeaderFits (headerOf r a)
-unfolding headerOf
-header-fits r a = record { start = min-tag-fits 2 _ (omega arith); end = min-tag-fits 2 _ (omega arith) }
-
-header-spares : (r a : AreaValue) → not (spareBits (headerOf r a)) ≡ true
-unfolding headerOf spareBits minTag
-header-spares r a = go (a .times .end)
-  where
-    go : (end : RangeEnd) → not (isOpen end && (endDifference (r .times) end .added || not (eqb (minTag 2 (endDifference (r .times) end .difference)) 0))) ≡ true
-    go (Closed x) = refl
-    go Open = refl
-
-header-is : (r a : AreaValue) (h : Header) → idWritten (r .subspace) (a .subspace) ≡ h .«id_written» → {e : List ℕ} → TimesAs (r .times) h (a .times) e → headerOf r a ≡ h
-unfolding headerOf
-header-is r a h i t = rw (i, t .endOpen, t .startAdded, t .endAdded, t .startTag, t .endTag)
 
 -- ---- lies inside, part by part
 pub record Inside (r a : AreaValue) : Type 0 where
@@ -95,7 +73,7 @@ module _ (r : AreaValue) where
       let m = p .second .second in
       let x = m .stands in
       let v = valueFrom (p .value) (p .second .value) (m .value) in
-      let is : headerOf r v ≡ h = header-is r v h (s .id) t in
+      let is : areaHeader r v ≡ h = header-is (idWritten (r .subspace) (v .subspace)) (r .times) (v .times) h (s .id) t in
       rw (← (m .named)) (record {
         typed = s .typed;
         path = x .ok;
@@ -107,15 +85,15 @@ module _ (r : AreaValue) where
   unfolding Rel PartsRel areaBytes headerOf
   area-back a e x =
       let i = inside r a (x .inside) in
-      let h = headerOf r a in
+      let h = areaHeader r a in
       record {
         value = h;
         front = packHeader h ∷ [];
         rear = subspaceBytes (r .subspace) (a .subspace) ++ (timesBytes (r .times) (a .times) ++ extensionBytes (r .path) (a .path));
         whole = x .bytes;
-        first = (header-fits r a, refl);
+        first = (header-fits (idWritten (r .subspace) (a .subspace)) (r .times) (a .times), refl);
         second = (
-          header-spares r a,
+          header-spares (idWritten (r .subspace) (a .subspace)) (r .times) (a .times),
           record {
             value = a .subspace;
             front = subspaceBytes (r .subspace) (a .subspace);

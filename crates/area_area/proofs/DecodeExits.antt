@@ -16,19 +16,16 @@ use Rattle.path.specs.declared.Path.{Path}
 use Rattle.path.specs.Record.{componentsOf, pathFrom, wellFormed}
 use Rattle.path_relative.specs.Extension.{readExtension}
 use Rattle.path_relative.specs.Records.{readExtendsPath}
-use Rattle.grouping.specs.declared.RangeEnd.{RangeEnd}
-use Rattle.grouping.specs.declared.RangeEnd.the-variants.{Closed, Open}
 use Rattle.grouping.specs.declared.TimeRange.{TimeRange}
 use Rattle.grouping.specs.declared.AreaSubspace.{AreaSubspace}
 use Rattle.grouping.specs.declared.Area.{Area}
-use Rattle.grouping.specs.Range.{includesRange}
 use Rattle.grouping.specs.Area.{AreaValue}
 use Rattle.grouping.specs.Record.{subspaceOf, subspaceFrom, wellFormedSubspace, subspaceIncludes, areaOf, areaFrom, wellFormedArea}
 use Rattle.grouping.proofs.Record.{subspace-back}
-use Rattle.time_relative.specs.Difference.{readTime}
-use Rattle.area_area.specs.declared.Header.{Header}
-use Rattle.area_area.specs.Header.{unpackHeader, spareBits}
-use Rattle.area_area.specs.Area.{sameId, readSubspace, readEnd, timesFrom, readTimes, readParts, readArea}
+use Rattle.area_times.specs.declared.Header.{Header}
+use Rattle.area_times.specs.Header.{unpackHeader, spareBits}
+use Rattle.area_times.specs.Times.{readTimes}
+use Rattle.area_area.specs.Area.{sameId, readSubspace, readParts, readArea}
 use Rattle.area_area.specs.Records.{readAgainstArea}
 
 -- ---- the id
@@ -68,44 +65,6 @@ module _ (canonic : Bool) (r : AreaSubspace) (written : Bool) (s : List ℕ) whe
         pub subspace-read : (canonic ≡ false) ⊎ (r .any ≡ true) → mapped subspaceFrom (readSubspace canonic (subspaceOf r) written) s ≡ accepted (oneSubspace id) n
         unfolding readSubspace subspaceIncludes
         subspace-read x = rw (e, f, i, free x)
-
--- ---- the times
-module _ (canonic : Bool) (r : TimeRange) (h : Header) (s : List ℕ) where
-  module _ (o : h .«end_open» ≡ true) where
-    pub end-fault : h .«end_added» ≡ true → readEnd canonic r h s ≡ refused 2
-    unfolding readEnd
-    end-fault a = rw (o, a)
-
-    pub end-open : h .«end_added» ≡ false → readEnd canonic r h s ≡ accepted Open 0
-    unfolding readEnd
-    end-open a = rw (o, a)
-
-  module _ (o : h .«end_open» ≡ false) where
-    pub end-refused : (k : ℕ) → readTime canonic r (h .«end_added») (h .«end_tag») s ≡ refused k → readEnd canonic r h s ≡ refused k
-    unfolding readEnd
-    end-refused k e = rw (o, e)
-
-    pub end-read : (x n : ℕ) → readTime canonic r (h .«end_added») (h .«end_tag») s ≡ accepted x n → readEnd canonic r h s ≡ accepted (Closed x) n
-    unfolding readEnd
-    end-read x n e = rw (o, e)
-
-  pub times-start : (k : ℕ) → readTime canonic r (h .«start_added») (h .«start_tag») s ≡ refused k → readTimes canonic r h s ≡ refused k
-  unfolding readTimes
-  times-start k e = rw e
-
-  module _ (x a : ℕ) (e : readTime canonic r (h .«start_added») (h .«start_tag») s ≡ accepted x a) where
-    pub times-end : (k : ℕ) → readEnd canonic r h (drop a s) ≡ refused k → readTimes canonic r h s ≡ refused k
-    unfolding readTimes
-    times-end k f = rw (e, f)
-
-    module _ (y : RangeEnd) (b : ℕ) (f : readEnd canonic r h (drop a s) ≡ accepted y b) where
-      pub times-outside : includesRange r (timesFrom x y) ≡ false → readTimes canonic r h s ≡ refused 2
-      unfolding readTimes
-      times-outside i = rw (e, f, i)
-
-      pub times-read : includesRange r (timesFrom x y) ≡ true → readTimes canonic r h s ≡ accepted (timesFrom x y) (a + b)
-      unfolding readTimes
-      times-read i = rw (e, f, i)
 
 -- ---- what follows the header
 module _ (canonic : Bool) (r : Area) (w : wellFormedArea r ≡ true) (h : Header) (s : List ℕ) where

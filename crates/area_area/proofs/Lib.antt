@@ -1,6 +1,4 @@
-pub mod HeaderLayout
 pub mod Subspace
-pub mod Times
 pub mod Area
 pub mod Records
 pub mod DecodeExits

@@ -1,6 +1,6 @@
 -- What the writers' definitions say at each step of the code.
 use mathlib.Core.Path.{_≡_, refl}
-use mathlib.Core.List.{[], _++_, append-nil}
+use mathlib.Core.List.{[]}
 use mathlib.Core.Bool.{Bool, true, false, cond, _&&_, not, true≢false, false≢true}
 use mathlib.Core.Option.{none, some}
 use Prim.Native.Nat.{ℕ, _+_, _≤_}
@@ -10,21 +10,18 @@ use Rattle.path.proofs.Verdicts.{yes-allowed, no-barred, malformed-barred}
 use Rattle.codec.specs.Format.{allowed, barred}
 use Rattle.codec.proofs.Tests.{and-left, and-right}
 use Rattle.codec.proofs.Lawful.{verdict-allowed}
-use Rattle.compact_u64.specs.Number.{numberBytes}
 use Rattle.path.specs.Record.{componentsOf, wellFormed}
 use Rattle.path.specs.declared.Compared.the-variants as compared
 use Rattle.path.specs.Answers.{verdict}
 use Rattle.path_relative.specs.Records.{extendsPath}
 use Rattle.path_relative.proofs.Extension.{extension-short}
-use Rattle.grouping.specs.declared.RangeEnd.the-variants.{Closed, Open}
-use Rattle.grouping.specs.declared.TimeRange.{TimeRange}
 use Rattle.grouping.specs.declared.AreaSubspace.{AreaSubspace}
 use Rattle.grouping.specs.declared.Area.{Area}
 use Rattle.grouping.specs.Area.{liesInside}
 use Rattle.grouping.specs.Record.{subspaceOf, areaOf, wellFormedSubspace, wellFormedArea, areaInside, TypedArea}
 use Rattle.grouping.proofs.Record.{apart-area}
-use Rattle.time_relative.specs.Difference.{differenceOf}
-use Rattle.area_area.specs.Area.{idWritten, subspaceBytes, timesBytes, areaBytes}
+use Rattle.area_times.specs.Times.{timesBytes}
+use Rattle.area_area.specs.Area.{idWritten, subspaceBytes, areaBytes}
 use Rattle.area_area.specs.Records.{againstArea}
 use Rattle.area_area.proofs.Area.{inside}
 
@@ -52,16 +49,6 @@ module _ (s r : AreaSubspace) where
       go true true q = refl
       go true false q = let z : true ≡ false = q in absurd (true≢false z)
       go false b q = refl
-
--- ---- the times
-module _ (r t : TimeRange) where
-  pub times-open : t .end ≡ Open → timesBytes r t ≡ numberBytes 2 (differenceOf r (t .start) .difference)
-  unfolding timesBytes
-  times-open e = rw e (append-nil _)
-
-  pub times-closed : (x : ℕ) → t .end ≡ Closed x → timesBytes r t ≡ numberBytes 2 (differenceOf r (t .start) .difference) ++ numberBytes 2 (differenceOf r x .difference)
-  unfolding timesBytes
-  times-closed x e = rw e
 
 -- ---- the verdict
 module _ (r a : Area) where

@@ -7,7 +7,8 @@ use Rattle.grouping.specs.declared.Area.{Area}
 use Rattle.grouping.specs.declared.RangeEnd.the-variants.{Closed}
 use Rattle.grouping.specs.Record.{areaFrom}
 use Rattle.area_area.specs.declared.DecodedArea.{DecodedArea}
-use Rattle.area_area.specs.Area.{timesFrom, valueFrom}
+use Rattle.area_times.specs.Times.{timesFrom}
+use Rattle.area_area.specs.Area.{valueFrom}
 
 -- no time lies in it
 abbrev pub emptyArea : Area

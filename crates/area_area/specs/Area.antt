@@ -6,16 +6,12 @@ use Prim.Native.Nat.{ℕ}
 use Rattle.codec.specs.Bytes.{sameBytes}
 use Rattle.codec.specs.Header.{readHeader}
 use Rattle.codec.specs.Reader.{Reader, give, someBytes, andThen, guard, checked, mapped, choose}
-use Rattle.compact_u64.specs.Number.{minTag, numberBytes}
 use Rattle.path_relative.specs.Extension.{extensionBytes, readExtension}
-use Rattle.grouping.specs.declared.RangeEnd.{RangeEnd}
-use Rattle.grouping.specs.declared.RangeEnd.the-variants.{Closed, Open}
 use Rattle.grouping.specs.declared.TimeRange.{TimeRange}
-use Rattle.grouping.specs.Range.{isOpen, includesRange}
 use Rattle.grouping.specs.Area.{AreaValue, includesSubspace}
-use Rattle.time_relative.specs.Difference.{differenceOf, endDifference, readTime}
-use Rattle.area_area.specs.declared.Header.{Header}
-use Rattle.area_area.specs.Header.{unpackHeader, packHeader, spareBits}
+use Rattle.area_times.specs.declared.Header.{Header}
+use Rattle.area_times.specs.Header.{unpackHeader, packHeader, spareBits}
+use Rattle.area_times.specs.Times.{headerOf, timesBytes, readTimes}
 
 -- ---- writing: header, id, start difference, end difference, path. The id is written where the reference has any subspace
 abbrev pub idWritten : Option (List ℕ) → Option (List ℕ) → Bool
@@ -23,31 +19,16 @@ idWritten none none = false
 idWritten none (some id) = true
 idWritten (some r) s = false
 
-unfoldable pub headerOf : AreaValue → AreaValue → Header
-headerOf r a = record {
-  «id_written» = idWritten (r .subspace) (a .subspace);
-  «end_open» = isOpen (a .times .end);
-  «start_added» = differenceOf (r .times) (a .times .start) .added;
-  «end_added» = endDifference (r .times) (a .times .end) .added;
-  «start_tag» = minTag 2 (differenceOf (r .times) (a .times .start) .difference);
-  «end_tag» = minTag 2 (endDifference (r .times) (a .times .end) .difference);
-}
+abbrev pub areaHeader : AreaValue → AreaValue → Header
+areaHeader r a = headerOf (idWritten (r .subspace) (a .subspace)) (r .times) (a .times)
 
 abbrev pub subspaceBytes : Option (List ℕ) → Option (List ℕ) → List ℕ
 subspaceBytes none none = []
 subspaceBytes none (some id) = id
 subspaceBytes (some r) s = []
 
--- a time takes the bytes of its difference, an open end none
-abbrev pub endBytes : TimeRange → RangeEnd → List ℕ
-endBytes r (Closed x) = numberBytes 2 (differenceOf r x .difference)
-endBytes r Open = []
-
-unfoldable pub timesBytes : TimeRange → TimeRange → List ℕ
-timesBytes r t = numberBytes 2 (differenceOf r (t .start) .difference) ++ endBytes r (t .end)
-
 abbrev pub startBytes : AreaValue → AreaValue → List ℕ
-startBytes r a = packHeader (headerOf r a) ∷ subspaceBytes (r .subspace) (a .subspace)
+startBytes r a = packHeader (areaHeader r a) ∷ subspaceBytes (r .subspace) (a .subspace)
 
 abbrev pub restBytes : AreaValue → AreaValue → List ℕ
 restBytes r a = timesBytes (r .times) (a .times) ++ extensionBytes (r .path) (a .path)
@@ -66,23 +47,6 @@ readSubspace canonic r written =
     choose written
     (mapped some (checked (λ id. includesSubspace r (some id) && cond canonic (not (sameId r id)) true) (someBytes 32)))
     (give r)
-
--- an open end has no difference to add
-unfoldable pub readEnd : Bool → TimeRange → Header → Reader RangeEnd
-readEnd canonic r h =
-    choose (h .«end_open»)
-    (guard (not (h .«end_added»)) (give Open))
-    (mapped Closed (readTime canonic r (h .«end_added») (h .«end_tag»)))
-
-abbrev pub timesFrom : ℕ → RangeEnd → TimeRange
-timesFrom start end = record { start = start; end = end }
-
-unfoldable pub readTimes : Bool → TimeRange → Header → Reader TimeRange
-readTimes canonic r h =
-    checked (includesRange r) (
-    andThen (readTime canonic r (h .«start_added») (h .«start_tag»)) (λ start.
-    mapped (timesFrom start) (
-    readEnd canonic r h)))
 
 abbrev pub valueFrom : Option (List ℕ) → TimeRange → List (List ℕ) → AreaValue
 valueFrom subspace times path = record { subspace = subspace; path = path; times = times }

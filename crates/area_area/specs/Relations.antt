@@ -1,43 +1,18 @@
--- What the laws of areas say: the bytes e are what writing a part, or the whole, gives against r under a header h.
+-- What the laws of areas say: the bytes e are what writing the subspace, or the whole, gives against r.
 use mathlib.Core.Path.{_≡_}
 use mathlib.Core.List.{List}
-use mathlib.Core.Bool.{Bool, true, false}
+use mathlib.Core.Bool.{Bool, true}
 use mathlib.Core.Option.{Option}
 use Prim.Native.Nat.{ℕ}
-use Rattle.compact_u64.specs.Number.{minTag}
 use Rattle.path.specs.Limits.{PathOk}
-use Rattle.grouping.specs.declared.RangeEnd.{RangeEnd}
-use Rattle.grouping.specs.declared.TimeRange.{TimeRange}
-use Rattle.grouping.specs.Range.{endValue, isOpen, bounds, includesRange}
 use Rattle.grouping.specs.Area.{AreaValue, TypedSubspace, includesSubspace, liesInside}
-use Rattle.time_relative.specs.Difference.{differenceOf, endDifference}
-use Rattle.area_area.specs.declared.Header.{Header}
-use Rattle.area_area.specs.Area.{idWritten, subspaceBytes, endBytes, timesBytes, areaBytes}
+use Rattle.area_area.specs.Area.{idWritten, subspaceBytes, areaBytes}
 
 pub record SubspaceAs (r : Option (List ℕ)) (written : Bool) (s : Option (List ℕ)) (e : List ℕ) : Type 0 where
   pub typed : TypedSubspace s
   pub inside : includesSubspace r s ≡ true
   pub id : idWritten r s ≡ written
   pub bytes : e ≡ subspaceBytes r s
-
--- that an open end lies in the range, `includesRange` says
-pub record EndAs (r : TimeRange) (opens added : Bool) (tag : ℕ) (end : RangeEnd) (e : List ℕ) : Type 0 where
-  pub is-open : isOpen end ≡ opens
-  pub near : endDifference r end .added ≡ added
-  pub tagged : minTag 2 (endDifference r end .difference) ≡ tag
-  pub inside : opens ≡ false → bounds r (endValue end) ≡ true
-  pub bytes : e ≡ endBytes r end
-
-pub record TimesAs (r : TimeRange) (h : Header) (t : TimeRange) (e : List ℕ) : Type 0 where
-  pub startAdded : differenceOf r (t .start) .added ≡ h .«start_added»
-  pub startTag : minTag 2 (differenceOf r (t .start) .difference) ≡ h .«start_tag»
-  pub endOpen : isOpen (t .end) ≡ h .«end_open»
-  pub endAdded : endDifference r (t .end) .added ≡ h .«end_added»
-  pub endTag : minTag 2 (endDifference r (t .end) .difference) ≡ h .«end_tag»
-  pub included : includesRange r t ≡ true
-  pub start : bounds r (t .start) ≡ true
-  pub end : bounds r (endValue (t .end)) ≡ true
-  pub bytes : e ≡ timesBytes r t
 
 pub record AreaAs (r a : AreaValue) (e : List ℕ) : Type 0 where
   pub typed : TypedSubspace (a .subspace)

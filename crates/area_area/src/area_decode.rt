@@ -1,19 +1,15 @@
 // Reading what follows the header: the id, the times and the path.
 ghost use mathlib.Core.Path.{_≡_};
 ghost use mathlib.Core.Bool.{true};
-ghost use lib.ListN.{drop};
 ghost use Rattle.codec.specs.Answers.{answerOf};
 ghost use Rattle.codec.specs.Reader.{mapped};
 ghost use Rattle.grouping.specs.Record.{subspaceOf, subspaceFrom, wellFormedSubspace, areaOf, areaFrom, wellFormedArea};
-ghost use Rattle.area_area.specs.Area.{readSubspace, readEnd, readTimes, readParts};
+ghost use Rattle.area_area.specs.Area.{readSubspace, readParts};
 ghost use Rattle.area_area.specs.Answers.{GivesArea, refusal};
 use crate::DecodedArea;
-use crate::DecodedEnd;
 use crate::DecodedSubspace;
-use crate::DecodedTimes;
-use crate::Header;
+use area_times::Header;
 use codec::Decoded;
-use compact_u64::DecodedU64;
 use grouping::Area;
 use grouping::AreaSubspace;
 use grouping::RangeEnd;
@@ -85,91 +81,6 @@ fn decode_subspace(
     }
 }
 
-// The end starts at `start`.
-fn decode_end(
-    message: &[u8],
-    start: usize,
-    canonic: bool,
-    reference: TimeRange,
-    header: Header,
-) -> DecodedEnd
-    ensures { λ r. ⌜ answerOf (r .answer) (r .end) ≡ readEnd canonic reference header (drop start (now (message .entry))) ⌝ }
-{
-    if header.end_open {
-        if header.end_added {
-            return DecodedEnd {
-                answer: Decoded::TheirFault,
-                end: RangeEnd::Open,
-            };
-        }
-        return DecodedEnd {
-            answer: Decoded::Consumed(0),
-            end: RangeEnd::Open,
-        };
-    }
-    let read = time_relative::relative_decode(
-        message,
-        start,
-        canonic,
-        reference,
-        header.end_added,
-        header.end_tag,
-    );
-    let DecodedU64::Value(end, n) = read else {
-        return DecodedEnd {
-            answer: compact_u64::refusal(read),
-            end: RangeEnd::Open,
-        };
-    };
-    DecodedEnd {
-        answer: Decoded::Consumed(n),
-        end: RangeEnd::Closed(end),
-    }
-}
-
-fn decode_times(message: &[u8], canonic: bool, reference: TimeRange, header: Header) -> DecodedTimes
-    ensures { λ r. ⌜ answerOf (r .answer) (r .times) ≡ readTimes canonic reference header (now (message .entry)) ⌝ }
-{
-    let first = time_relative::relative_decode(
-        message,
-        0,
-        canonic,
-        reference,
-        header.start_added,
-        header.start_tag,
-    );
-    let DecodedU64::Value(start, a) = first else {
-        return DecodedTimes {
-            answer: compact_u64::refusal(first),
-            times: reference,
-        };
-    };
-    let second = decode_end(message, a, canonic, reference, header);
-    let answer = second.answer;
-    let Decoded::Consumed(b) = answer else {
-        return DecodedTimes {
-            answer: answer,
-            times: reference,
-        };
-    };
-    let end = second.end;
-    let times = TimeRange {
-        start: start,
-        end: end,
-    };
-    let included = reference.includes_range(times);
-    if !included {
-        return DecodedTimes {
-            answer: Decoded::TheirFault,
-            times: reference,
-        };
-    }
-    DecodedTimes {
-        answer: Decoded::Consumed(a + b),
-        times: times,
-    }
-}
-
 pub(crate) fn decode_parts(
     message: &[u8],
     canonic: bool,
@@ -184,7 +95,7 @@ pub(crate) fn decode_parts(
     let Decoded::Consumed(a) = first_answer else {
         return refuse(first_answer);
     };
-    let second = decode_times(&message[a..], canonic, reference.times, header);
+    let second = area_times::relative_decode(&message[a..], canonic, reference.times, header);
     let second_answer = second.answer;
     let Decoded::Consumed(b) = second_answer else {
         return refuse(second_answer);

@@ -9,23 +9,10 @@ use codec::Decoded;
 use codec::Encoded;
 use grouping::Area;
 use grouping::AreaSubspace;
-use grouping::RangeEnd;
-use grouping::TimeRange;
 use path::Compared;
 
 mod area_decode;
 mod area_encode;
-mod area_header;
-
-// What the header byte says.
-pub struct Header {
-    pub id_written: bool,
-    pub end_open: bool,
-    pub start_added: bool,
-    pub end_added: bool,
-    pub start_tag: u8,
-    pub end_tag: u8,
-}
 
 // An area beside the answer; beside a refusal it is the empty one.
 pub struct DecodedArea {
@@ -36,16 +23,6 @@ pub struct DecodedArea {
 pub struct DecodedSubspace {
     pub answer: Decoded,
     pub subspace: AreaSubspace,
-}
-
-pub struct DecodedEnd {
-    pub answer: Decoded,
-    pub end: RangeEnd,
-}
-
-pub struct DecodedTimes {
-    pub answer: Decoded,
-    pub times: TimeRange,
 }
 
 // Reads an area against a reference.
@@ -59,9 +36,9 @@ pub fn relative_decode(message: &[u8], start: usize, canonic: bool, reference: A
     if message.len() <= start {
         return area_decode::refuse(Decoded::EndOfInput);
     }
-    let header = area_header::unpack(message[start]);
+    let header = area_times::area_header::unpack(message[start]);
     if canonic {
-        let spare = area_header::spare_bits(header);
+        let spare = area_times::area_header::spare_bits(header);
         if spare {
             return area_decode::refuse(Decoded::TheirFault);
         }
@@ -89,7 +66,7 @@ fn len_inside(area: Area, reference: Area) -> Encoded
         return path;
     };
     let a = area_encode::subspace_len(area.subspace, reference.subspace);
-    let b = area_encode::times_len(area.times, reference.times);
+    let b = area_times::relative_len_of_encoding(area.times, reference.times);
     Encoded::Length(1 + (a + (b + n)))
 }
 

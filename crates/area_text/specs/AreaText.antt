@@ -11,9 +11,9 @@ use Rattle.grouping.specs.Record.{subspaceFrom}
 use Rattle.text.specs.Decimal.{decimalText}
 use Rattle.text.specs.Hex.{hexText}
 use Rattle.text.specs.Ids.{readId}
-use Rattle.text.specs.Fields.{readDecimal}
-use Rattle.text.specs.declared.Decimal.{Decimal}
-use Rattle.text.specs.declared.Decimal.the-variants as decimal
+use Rattle.decimal.specs.Decimal.{readDecimal}
+use Rattle.decimal.specs.declared.Decimal.{Decimal}
+use Rattle.decimal.specs.declared.Decimal.the-variants as decimal
 use Rattle.area_text.specs.declared.SubspaceField.{SubspaceField}
 use Rattle.area_text.specs.declared.EndField.{EndField}
 

@@ -2,9 +2,9 @@
 ghost use mathlib.Core.Path.{_≡_};
 ghost use Rattle.text.specs.Buffer.{placeAfter, putAt};
 ghost use Rattle.area_text.specs.AreaText.{readSubspaceText, readEndText, subspaceText, endText};
+use decimal::Decimal;
 use grouping::AreaSubspace;
 use grouping::RangeEnd;
-use text::Decimal;
 
 // A subspace that a field says; where the field is not in its form, one that no field says.
 pub struct SubspaceField {
@@ -48,7 +48,7 @@ pub fn read_end(s: &[u8]) -> EndField
             end: RangeEnd::Open,
         };
     }
-    let number = text::read_decimal(s);
+    let number = decimal::read_decimal(s);
     match number {
         Decimal::Value(time) => EndField {
             ok: true,

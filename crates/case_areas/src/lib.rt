@@ -14,13 +14,13 @@ use case_text::MessageField;
 use case_text::Op;
 use case_text::fields;
 use case_text::put;
+use decimal::Decimal;
 use grouping::Area;
 use grouping::AreaSubspace;
 use grouping::RangeEnd;
 use grouping::TimeRange;
 use path::Path;
 use path_text::Found;
-use text::Decimal;
 
 // An area that four fields say; where they are not in their form, one in which no time lies.
 pub struct AreaField {
@@ -62,7 +62,7 @@ pub fn read_area(line: &[u8], place: u8) -> AreaField
     let Found::Read = found else {
         return no_area();
     };
-    let third = text::read_decimal(text::part(line, b'\t', i + 2));
+    let third = decimal::read_decimal(text::part(line, b'\t', i + 2));
     let Decimal::Value(start) = third else {
         return no_area();
     };

@@ -6,10 +6,10 @@ ghost use Rattle.case_text.specs.Answers.{Puts};
 ghost use Rattle.case_text.specs.Fields.{Says};
 ghost use Rattle.case_entry_text.specs.Fields.{namesText, entryText, namesField, noNames, entryField, noEntry};
 use case_text::MAX_BYTES;
+use decimal::Decimal;
 use entry::Entry;
 use path::Path;
 use path_text::Found;
-use text::Decimal;
 
 // The ids and the path.
 pub struct Names {
@@ -101,11 +101,11 @@ pub fn read_entry(line: &[u8], place: u8) -> EntryField
         return no_entry();
     }
     let i = place as usize;
-    let fourth = text::read_decimal(text::part(line, b'\t', i + 3));
+    let fourth = decimal::read_decimal(text::part(line, b'\t', i + 3));
     let Decimal::Value(time) = fourth else {
         return no_entry();
     };
-    let fifth = text::read_decimal(text::part(line, b'\t', i + 4));
+    let fifth = decimal::read_decimal(text::part(line, b'\t', i + 4));
     let Decimal::Value(size) = fifth else {
         return no_entry();
     };

@@ -18,7 +18,7 @@ use case_text::Op;
 use case_text::fields;
 use case_text::put;
 use compact_u64::TagWidth;
-use text::Decimal;
+use decimal::Decimal;
 
 // The width of a number's tag.
 pub enum WidthField {
@@ -59,7 +59,7 @@ fn tag_limit(width: TagWidth) -> u64
 fn read_number(line: &[u8], out: &mut [u8], at: usize, width: TagWidth, canonic: bool) -> usize
     ensures { λ r. ⌜ PutsWithin 16640 at (ended (readNumberLine (bits width) canonic (now (line .entry)))) (now (out .entry)) (now (out .exit)) r ⌝ }
 {
-    let tag = text::read_decimal(text::part(line, b'\t', 3));
+    let tag = decimal::read_decimal(text::part(line, b'\t', 3));
     let Decimal::Value(t) = tag else {
         return put::refuse(out, at);
     };
@@ -84,7 +84,7 @@ fn write_number(line: &[u8], out: &mut [u8], at: usize, width: TagWidth) -> usiz
     if text::part_count(line, b'\t') != 5 {
         return put::refuse(out, at);
     }
-    let value = text::read_decimal(text::part(line, b'\t', 3));
+    let value = decimal::read_decimal(text::part(line, b'\t', 3));
     let Decimal::Value(v) = value else {
         return put::refuse(out, at);
     };
@@ -104,7 +104,7 @@ fn len_number(line: &[u8], out: &mut [u8], at: usize, width: TagWidth) -> usize
     if text::part_count(line, b'\t') != 4 {
         return put::refuse(out, at);
     }
-    let value = text::read_decimal(text::part(line, b'\t', 3));
+    let value = decimal::read_decimal(text::part(line, b'\t', 3));
     let Decimal::Value(v) = value else {
         return put::refuse(out, at);
     };
@@ -150,7 +150,7 @@ fn write_standalone(line: &[u8], out: &mut [u8], at: usize) -> usize
     if text::part_count(line, b'\t') != 4 {
         return put::refuse(out, at);
     }
-    let value = text::read_decimal(text::part(line, b'\t', 2));
+    let value = decimal::read_decimal(text::part(line, b'\t', 2));
     let Decimal::Value(v) = value else {
         return put::refuse(out, at);
     };
@@ -169,7 +169,7 @@ fn len_standalone(line: &[u8], out: &mut [u8], at: usize) -> usize
     if text::part_count(line, b'\t') != 3 {
         return put::refuse(out, at);
     }
-    let value = text::read_decimal(text::part(line, b'\t', 2));
+    let value = decimal::read_decimal(text::part(line, b'\t', 2));
     let Decimal::Value(v) = value else {
         return put::refuse(out, at);
     };

@@ -18,10 +18,10 @@ use Rattle.path.proofs.Lists.{drop-zeros}
 use Rattle.path_codec.specs.Plain.{plainPath}
 use Rattle.text.specs.Parts.{parts, partAt}
 use Rattle.text.specs.Hex.{unhex}
-use Rattle.text.specs.Decimal.{isDecimal, digitsAfter}
-use Rattle.text.specs.Fields.{readDecimal, readHex, hexBuffer}
-use Rattle.text.specs.declared.Decimal.{Decimal}
-use Rattle.text.specs.declared.Decimal.the-variants.{Value, Refused}
+use Rattle.decimal.specs.Decimal.{isDecimal, digitsAfter, readDecimal}
+use Rattle.text.specs.Fields.{readHex, hexBuffer}
+use Rattle.decimal.specs.declared.Decimal.{Decimal}
+use Rattle.decimal.specs.declared.Decimal.the-variants.{Value, Refused}
 use Rattle.text.specs.declared.Hex.{Hex}
 use Rattle.text.specs.declared.Hex.the-variants.{Bytes}
 use Rattle.text.proofs.HexAnswers.{some-bytes}

@@ -9,7 +9,7 @@ use Rattle.path.specs.declared.Path.{Path}
 use Rattle.path.specs.Limits.{maxPathLength, maxComponentCount}
 use Rattle.path_codec.specs.Plain.{plainPath}
 use Rattle.text.specs.Parts.{parts}
-use Rattle.text.specs.Decimal.{isDecimal, digitsAfter}
+use Rattle.decimal.specs.Decimal.{isDecimal, digitsAfter}
 use Rattle.case_text.specs.Texts.{six, lengthText}
 use Rattle.case_text.specs.Fields.{field, exactly, decimalField, hexFieldIn}
 use Rattle.case_paths.specs.declared.Lengths.{Lengths}

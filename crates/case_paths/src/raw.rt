@@ -5,8 +5,8 @@ ghost use Rattle.case_text.specs.Answers.{PutsWithin};
 ghost use Rattle.case_paths.specs.Raw.{rawLine, lengthsOf};
 use crate::Lengths;
 use case_text::put;
+use decimal::Decimal;
 use path::Path;
-use text::Decimal;
 use text::Hex;
 
 // 20 numbers parted by commas.
@@ -22,7 +22,7 @@ fn read_lengths(field: &[u8]) -> Lengths
     }
     let mut i: usize = 0;
     while i < 20 {
-        let number = text::read_decimal(text::part(field, b',', i));
+        let number = decimal::read_decimal(text::part(field, b',', i));
         let Decimal::Value(v) = number else {
             return Lengths {
                 ok: false,
@@ -45,7 +45,7 @@ pub fn raw(line: &[u8], out: &mut [u8], at: usize) -> usize
     if text::part_count(line, b'\t') != 4 {
         return put::refuse(out, at);
     }
-    let count = text::read_decimal(text::part(line, b'\t', 1));
+    let count = decimal::read_decimal(text::part(line, b'\t', 1));
     let Decimal::Value(n) = count else {
         return put::refuse(out, at);
     };

@@ -8,6 +8,7 @@ ghost use Rattle.case_text.specs.Answers.{Puts};
 ghost use Rattle.case_text.specs.Fields.{Says};
 ghost use Rattle.case_range_text.specs.Fields.{subspacesField, noSubspacesField, readPathEnd, pathsField, noPathsField, timesField, noTimesField, rangeField, noRangeField, subspacesText, pathEndText, rangeText};
 use case_text::MAX_BYTES;
+use decimal::Decimal;
 use grouping::AreaSubspace;
 use grouping::RangeEnd;
 use grouping::TimeRange;
@@ -16,7 +17,6 @@ use path_text::Found;
 use range_3d::PathRange;
 use range_3d::Range3d;
 use range_3d::SubspaceRange;
-use text::Decimal;
 
 // Subspaces that two fields say; where they are not in their form, some in which no subspace lies.
 pub struct SubspacesField {
@@ -181,7 +181,7 @@ fn read_times(line: &[u8], i: usize) -> TimesField
     requires { ⌜ i ≤ 300 ⌝ }
     ensures { λ r. ⌜ Says (timesField i (now (line .entry))) (r .ok) (r .times) ⌝ }
 {
-    let first = text::read_decimal(text::part(line, b'\t', i));
+    let first = decimal::read_decimal(text::part(line, b'\t', i));
     let Decimal::Value(start) = first else {
         return no_times();
     };

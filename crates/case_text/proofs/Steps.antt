@@ -11,9 +11,9 @@ use Rattle.path_text.specs.declared.PathField.{PathField}
 use Rattle.path_text.specs.declared.Found.the-variants as found
 use Rattle.path_text.specs.PathText.{readPathText}
 use Rattle.text.specs.Parts.{parts, partAt}
-use Rattle.text.specs.Fields.{readDecimal}
-use Rattle.text.specs.declared.Decimal.{Decimal}
-use Rattle.text.specs.declared.Decimal.the-variants as decimal
+use Rattle.decimal.specs.Decimal.{readDecimal}
+use Rattle.decimal.specs.declared.Decimal.{Decimal}
+use Rattle.decimal.specs.declared.Decimal.the-variants as decimal
 use Rattle.case_text.specs.declared.HexField.{HexField}
 use Rattle.case_text.specs.declared.HexField.the-variants as hex
 use Rattle.case_text.specs.declared.MessageField.{MessageField}

@@ -13,9 +13,10 @@ use Rattle.codec.specs.Bytes.{sameBytes}
 use Rattle.text.specs.Parts.{parts, partAt}
 use Rattle.text.specs.Hex.{unhex}
 use Rattle.text.specs.Ids.{readId}
-use Rattle.text.specs.Fields.{readDecimal, readHex}
-use Rattle.text.specs.declared.Decimal.{Decimal}
-use Rattle.text.specs.declared.Decimal.the-variants as decimal
+use Rattle.decimal.specs.Decimal.{readDecimal}
+use Rattle.text.specs.Fields.{readHex}
+use Rattle.decimal.specs.declared.Decimal.{Decimal}
+use Rattle.decimal.specs.declared.Decimal.the-variants as decimal
 use Rattle.text.specs.declared.Hex.{Hex}
 use Rattle.text.specs.declared.Hex.the-variants as hex
 use Rattle.case_text.specs.declared.Op.{Op}

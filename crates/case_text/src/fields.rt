@@ -6,7 +6,7 @@ ghost use Rattle.case_text.specs.Answers.{ReadsHex, ReadsMessage};
 use crate::HexField;
 use crate::MessageField;
 use crate::Op;
-use text::Decimal;
+use decimal::Decimal;
 use text::Hex;
 
 // The operation that a field names.
@@ -50,7 +50,7 @@ pub fn message(line: &[u8], i: usize, buffer: &mut [u8]) -> MessageField
     if count - 2 != i {
         return MessageField::Refused;
     }
-    let start = text::read_decimal(text::part(line, b'\t', i));
+    let start = decimal::read_decimal(text::part(line, b'\t', i));
     let Decimal::Value(s) = start else {
         return MessageField::Refused;
     };

@@ -12,11 +12,13 @@ use Rattle.grouping.specs.Range.{bounds, includesTime, includesRange}
 use Rattle.grouping.specs.Area.{includesArea, liesInside}
 use Rattle.grouping.specs.Record.{areaFrom, wellFormedSubspace, wellFormedArea}
 use Rattle.time_relative.specs.Difference.{differenceOf, timeAt, isNearest, readTime, isIncluded, readIncluded}
-use Rattle.area_area.specs.Header.{spareBits}
-use Rattle.area_area.specs.Area.{headerOf, timesBytes, areaBytes, readSubspace, readEnd, readTimes, readParts, readArea}
+use Rattle.area_times.specs.Header.{spareBits}
+use Rattle.area_times.specs.Times.{headerOf, timesBytes, readEnd, readTimes}
+use Rattle.area_area.specs.Area.{areaBytes, readSubspace, readParts, readArea}
 use Rattle.area_area.specs.Records.{readAgainstArea}
 use Rattle.entry.specs.Entry.{liesInsideArea}
 use Rattle.entry.specs.Record.{entryFrom, wellFormedEntry}
+use Rattle.entry_end.specs.End as ends
 use Rattle.entry_area.specs.Entry as entries
 use Rattle.entry_area.specs.Records.{readAgainstNamespaceArea}
 use Rattle.range_3d.specs.Record.{subspacesFrom, pathsFrom, rangeFrom, wellFormedSubspaces, wellFormedPaths, wellFormedRange3d}
@@ -30,5 +32,5 @@ use Rattle.path.specs.Prefix.{isPrefix}
 use Rattle.cases.specs.Cases.{AllHold, cases}
 
 pub cases-hold : AllHold cases
-unfolding putAnswer minTag encodingWidth numberBytes numberSaid readNumber pathFrom wellFormed componentBytes sizesBytes suffixBytes readSizes readSized readLast readComponents readSuffix readPath joinOk readAgainst readAgainstPath readExtension bounds includesRange includesArea liesInside areaFrom wellFormedSubspace wellFormedArea differenceOf timeAt isNearest readTime spareBits headerOf timesBytes areaBytes readSubspace readEnd readTimes readParts readArea readAgainstArea isPrefix includesTime readIncluded isIncluded entryFrom wellFormedEntry liesInsideArea entries.headerOf entries.entryBytes entries.readEnd entries.readParts entries.readEntry readAgainstNamespaceArea subspacesFrom pathsFrom rangeFrom wellFormedSubspaces wellFormedPaths wellFormedRange3d nearestOf readFrom subspaces.sourceOf subspaces.sourcesOf subspaces.idBytes subspaces.subspacesBytes subspaces.readSubspaces paths.sidesOf paths.pathBytes paths.pathsBytes paths.readPaths times.headerOf times.timesBytes times.readEnd times.readTimes ranges.headerOf ranges.rangeBytes ranges.readParts ranges.readRange readAgainstRange
+unfolding putAnswer minTag encodingWidth numberBytes numberSaid readNumber pathFrom wellFormed componentBytes sizesBytes suffixBytes readSizes readSized readLast readComponents readSuffix readPath joinOk readAgainst readAgainstPath readExtension bounds includesRange includesArea liesInside areaFrom wellFormedSubspace wellFormedArea differenceOf timeAt isNearest readTime spareBits headerOf timesBytes areaBytes readSubspace readEnd readTimes readParts readArea readAgainstArea isPrefix includesTime readIncluded isIncluded entryFrom wellFormedEntry liesInsideArea ends.headerOf entries.entryBytes ends.readEnd entries.readParts entries.readEntry readAgainstNamespaceArea subspacesFrom pathsFrom rangeFrom wellFormedSubspaces wellFormedPaths wellFormedRange3d nearestOf readFrom subspaces.sourceOf subspaces.sourcesOf subspaces.idBytes subspaces.subspacesBytes subspaces.readSubspaces paths.sidesOf paths.pathBytes paths.pathsBytes paths.readPaths times.headerOf times.timesBytes times.readEnd times.readTimes ranges.headerOf ranges.rangeBytes ranges.readParts ranges.readRange readAgainstRange
 cases-hold = ((refl, refl), ((refl, refl), ((refl, refl), ((refl, refl), ((refl, refl), ((refl, refl), ((refl, refl), ((refl, refl), ((refl, refl), ((refl, refl), ((refl, refl), ((refl, refl), ((refl, refl), ((refl, refl), ((refl, refl), ((refl, refl), ((refl, refl), ((refl, refl), ((refl, refl), ((refl, refl), (refl, ((refl, refl), tt))))))))))))))))))))))

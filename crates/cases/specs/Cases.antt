@@ -15,7 +15,8 @@ use Rattle.grouping.specs.declared.RangeEnd.{RangeEnd}
 use Rattle.grouping.specs.declared.RangeEnd.the-variants.{Closed, Open}
 use Rattle.grouping.specs.Area.{AreaValue}
 use Rattle.grouping.specs.Record.{areaFrom}
-use Rattle.area_area.specs.Area.{timesFrom, valueFrom}
+use Rattle.area_times.specs.Times.{timesFrom}
+use Rattle.area_area.specs.Area.{valueFrom}
 use Rattle.area_area.specs.Records.{againstArea, readAgainstArea}
 use Rattle.entry.specs.Entry.{EntryValue}
 use Rattle.entry.specs.Record.{entryFrom}

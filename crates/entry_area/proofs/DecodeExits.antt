@@ -11,10 +11,8 @@ use lib.Seq.{drop-cons, drop-drop}
 use borrow.Author.Tests.{eq-eqb, ne-eqb}
 use Rattle.codec.specs.Answers.{Answer, accepted, refused}
 use Rattle.codec.specs.Reader.{shift, named, passed, someBytes, checked, mapped}
-use Rattle.codec.proofs.Bounded.{someBytes-bounded, checked-bounded, mapped-bounded}
+use Rattle.codec.proofs.Bounded.{checked-bounded, mapped-bounded}
 use Rattle.codec.proofs.Readers.{named-inv, named-refused}
-use Rattle.compact_u64.specs.Number.{readNumber}
-use Rattle.compact_u64.proofs.Number.{number-bounded}
 use Rattle.path.specs.declared.Path.{Path}
 use Rattle.path.specs.Prefix.{isPrefix}
 use Rattle.path.specs.Record.{componentsOf, pathFrom, wellFormed}
@@ -22,20 +20,18 @@ use Rattle.path.proofs.Record.{components-of}
 use Rattle.path_relative.specs.Against.{readAgainst}
 use Rattle.path_relative.specs.Records.{readAgainstPath}
 use Rattle.path_relative.proofs.Against.{against-bounded}
-use Rattle.grouping.specs.declared.TimeRange.{TimeRange}
 use Rattle.grouping.specs.declared.AreaSubspace.{AreaSubspace}
 use Rattle.grouping.specs.declared.Area.{Area}
 use Rattle.grouping.specs.Record.{subspaceOf, areaOf, wellFormedArea}
-use Rattle.time_relative.specs.Difference.{readIncluded}
-use Rattle.time_relative.proofs.Included.{included-bounded}
 use Rattle.entry.specs.Entry.{EntryValue}
 use Rattle.entry.specs.Record.{entryFrom}
-use Rattle.entry_area.proofs.Parts.{id-bounded}
+use Rattle.entry_area.proofs.Id.{id-bounded}
 use Rattle.entry_area.proofs.Entry.{parts-bounded}
-use Rattle.entry_area.specs.declared.Header.{Header}
-use Rattle.entry_area.specs.declared.End.{End}
-use Rattle.entry_area.specs.Header.{unpackHeader}
-use Rattle.entry_area.specs.Entry.{readId, endFrom, readEnd, readParts, readEntry}
+use Rattle.entry_end.specs.declared.Header.{Header}
+use Rattle.entry_end.specs.declared.End.{End}
+use Rattle.entry_end.specs.Header.{unpackHeader}
+use Rattle.entry_end.specs.End.{readEnd}
+use Rattle.entry_area.specs.Entry.{readId, readParts, readEntry}
 use Rattle.entry_area.specs.Records.{readAgainstNamespaceArea}
 
 -- ---- the id
@@ -87,34 +83,6 @@ module _ (canonic : Bool) (r : Path) (w : wellFormed r ≡ true) (s : List ℕ) 
 
     pub path-read : isPrefix (componentsOf r) (componentsOf p) ≡ true → mapped pathFrom (checked (isPrefix (componentsOf r)) (readAgainst canonic (componentsOf r))) s ≡ accepted p n
     path-read i = judged true i
-
--- ---- the fields after the path
-module _ (canonic : Bool) (r : TimeRange) (h : Header) (s : List ℕ) where
-  pub end-time : (k : ℕ) → readIncluded canonic r (h .«time_added») (h .«time_tag») s ≡ refused k → readEnd canonic r h s ≡ refused k
-  unfolding readEnd
-  end-time k e = rw e
-
-  module _ (x a : ℕ) (e : readIncluded canonic r (h .«time_added») (h .«time_tag») s ≡ accepted x a) where
-    pub end-size : (k : ℕ) → readNumber canonic 2 (h .«length_tag») (drop a s) ≡ refused k → readEnd canonic r h s ≡ refused k
-    unfolding readEnd
-    end-size k f = rw (e, f)
-
-    module _ (y b : ℕ) (f : readNumber canonic 2 (h .«length_tag») (drop a s) ≡ accepted y b) where
-      pub end-inside : a + b ≤ length s
-      end-inside =
-          omega (arith, included-bounded r (h .«time_added») (h .«time_tag») canonic .bound s x a e, number-bounded 2 (h .«length_tag») canonic .bound (drop a s) y b f, length-drop a s)
-
-      pub end-digest : (k : ℕ) → someBytes 32 (drop (a + b) s) ≡ refused k → readEnd canonic r h s ≡ refused k
-      unfolding readEnd
-      end-digest k g = rw (e, f, drop-drop, g)
-
-      module _ (d : List ℕ) (n : ℕ) (g : someBytes 32 (drop (a + b) s) ≡ accepted d n) where
-        pub end-read : readEnd canonic r h s ≡ accepted (endFrom x y d) (a + (b + n))
-        unfolding readEnd
-        end-read = rw (e, f, drop-drop, g)
-
-        pub digest-inside : a + (b + n) ≤ length s
-        digest-inside = omega (arith, end-inside, someBytes-bounded 32 .bound (drop (a + b) s) d n g, length-drop (a + b) s)
 
 -- ---- what follows the header
 

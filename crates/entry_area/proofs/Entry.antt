@@ -18,7 +18,6 @@ use Rattle.codec.proofs.Header.{header-reads}
 use Rattle.codec.proofs.Readers.{reads-as, then-reads, guard-reads, checked-reads, mapped-reads}
 use Rattle.codec.proofs.Relaxes.{relaxes-back, relaxes-self, then-relaxes, guard-relaxes, checked-relaxes, mapped-relaxes}
 use Rattle.codec.proofs.Bounded.{then-bounded, checked-bounded, mapped-bounded}
-use Rattle.compact_u64.proofs.Tags.{min-tag-fits}
 use Rattle.path.specs.Limits.{PathOk}
 use Rattle.path.specs.Prefix.{isPrefix}
 use Rattle.path.proofs.Limits.{typed-of}
@@ -27,17 +26,15 @@ use Rattle.path_relative.proofs.Against.{against-reads, against-relaxes, agains
 use Rattle.grouping.specs.Range.{TypedRange, includesTime}
 use Rattle.grouping.specs.Area.{AreaValue, TypedSubspace, includesSubspace}
 use Rattle.entry.specs.Entry.{EntryValue, liesInsideArea}
-use Rattle.entry_area.specs.declared.Header.{Header}
-use Rattle.entry_area.specs.Header.{unpackHeader, packHeader, HeaderFits}
-use Rattle.entry_area.specs.Entry.{headerOf, idBytes, endBytes, restBytes, entryBytes, readId, endFrom, valueFrom, readParts, readEntry}
-use Rattle.entry_area.specs.Relations.{IdAs, EndAs, EntryAs}
-use Rattle.entry_area.proofs.HeaderLayout.{header-layout}
-use Rattle.entry_area.proofs.Parts.{id-reads, id-bounded, end-reads, end-relaxes, end-bounded}
-
--- ---- the header that writing gives
-pub header-fits : (r : AreaValue) (v : EntryValue) → HeaderFits (headerOf r v)
-unfolding headerOf
-header-fits r v = record { time = min-tag-fits 2 _ (omega arith); length = min-tag-fits 2 _ (omega arith); spare = omega arith }
+use Rattle.entry_end.specs.declared.Header.{Header}
+use Rattle.entry_end.specs.Header.{unpackHeader, packHeader, HeaderFits}
+use Rattle.entry_end.specs.End.{headerOf, endFrom}
+use Rattle.entry_end.specs.Relations.{EndAs}
+use Rattle.entry_end.proofs.HeaderLayout.{header-layout, header-fits}
+use Rattle.entry_end.proofs.Reading.{end-reads, end-relaxes, end-bounded}
+use Rattle.entry_area.specs.Entry.{isAny, entryHeader, idBytes, endBytes, restBytes, entryBytes, readId, valueFrom, readParts, readEntry}
+use Rattle.entry_area.specs.Relations.{IdAs, EntryAs}
+use Rattle.entry_area.proofs.Id.{id-reads, id-bounded}
 
 -- ---- lies inside, part by part
 pub record Inside (n : List ℕ) (r : AreaValue) (v : EntryValue) : Type 0 where
@@ -75,7 +72,7 @@ module _ (n : List ℕ) (r : AreaValue) where
       let m = p .second .second in
       let d = m .stands in
       let w = valueFrom n (p .value) (p .second .value) (m .value) in
-      let is : headerOf r w ≡ h = rw (s .any, d .timeAdded, d .timeTag, d .lengthTag, ← (eqb-true (h .spare) 0 (j .second .0))) in
+      let is : entryHeader r w ≡ h = rw (s .any, d .timeAdded, d .timeTag, d .lengthTag, ← (eqb-true (h .spare) 0 (j .second .0))) in
       rw (← (m .named)) (record {
         typed = record {
           namespace = ty;
@@ -94,14 +91,14 @@ module _ (n : List ℕ) (r : AreaValue) where
   unfolding Rel PartsRel entryBytes headerOf
   entry-back v e x =
       let i = inside n r v (x .inside) in
-      let h = headerOf r v in
+      let h = entryHeader r v in
       let same : valueFrom n (v .subspace) (v .path) (endFrom (v .time) (v .size) (v .digest)) ≡ v = rw (same-eq n (v .namespace) (i .namespace)) in
       record {
         value = h;
         front = packHeader h ∷ [];
         rear = idBytes (r .subspace) (v .subspace) ++ restBytes r v;
         whole = x .bytes;
-        first = (header-fits r v, refl);
+        first = (header-fits (isAny (r .subspace)) (r .times) (v .time) (v .size), refl);
         second = (
           refl,
           record {

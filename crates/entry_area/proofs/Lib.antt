@@ -1,5 +1,4 @@
-pub mod HeaderLayout
-pub mod Parts
+pub mod Id
 pub mod Entry
 pub mod Records
 pub mod Writing

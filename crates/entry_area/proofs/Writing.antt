@@ -23,8 +23,8 @@ use Rattle.entry.specs.declared.Entry.{Entry}
 use Rattle.entry.specs.Entry.{liesInsideArea}
 use Rattle.entry.specs.Record.{entryOf, wellFormedEntry, entryInside, TypedEntry}
 use Rattle.entry.proofs.Record.{apart-entry}
-use Rattle.entry_area.specs.Entry.{isAny, headerOf, idBytes, startBytes, restBytes, endBytes, entryBytes}
-use Rattle.entry_area.specs.Header.{packHeader}
+use Rattle.entry_end.specs.Header.{packHeader}
+use Rattle.entry_area.specs.Entry.{isAny, entryHeader, idBytes, startBytes, restBytes, endBytes, entryBytes}
 use Rattle.entry_area.specs.Records.{againstNamespaceArea}
 
 -- ---- the id
@@ -41,12 +41,12 @@ id-any s id e = rw e
 id-one : (s : AreaSubspace) (id : List ℕ) → s .any ≡ false → idBytes (subspaceOf s) id ≡ []
 id-one s id e = rw e
 
-module _ (r : Area) (e : Entry) {b : ℕ} (head : b ≡ packHeader (headerOf (areaOf r) (entryOf e))) where
+module _ (r : Area) (e : Entry) {b : ℕ} (head : b ≡ packHeader (entryHeader (areaOf r) (entryOf e))) where
   pub start-any : r .subspace .any ≡ true → startBytes (areaOf r) (entryOf e) ≡ b ∷ e .«subspace_id»
-  start-any f = ap (λ (l : List ℕ). packHeader (headerOf (areaOf r) (entryOf e)) ∷ l) (id-any (r .subspace) (e .«subspace_id») f) ∙ ap (λ (h : ℕ). h ∷ e .«subspace_id») (sym head)
+  start-any f = ap (λ (l : List ℕ). packHeader (entryHeader (areaOf r) (entryOf e)) ∷ l) (id-any (r .subspace) (e .«subspace_id») f) ∙ ap (λ (h : ℕ). h ∷ e .«subspace_id») (sym head)
 
   pub start-one : r .subspace .any ≡ false → startBytes (areaOf r) (entryOf e) ≡ b ∷ []
-  start-one f = ap (λ (l : List ℕ). packHeader (headerOf (areaOf r) (entryOf e)) ∷ l) (id-one (r .subspace) (e .«subspace_id») f) ∙ ap (λ (h : ℕ). h ∷ []) (sym head)
+  start-one f = ap (λ (l : List ℕ). packHeader (entryHeader (areaOf r) (entryOf e)) ∷ l) (id-one (r .subspace) (e .«subspace_id») f) ∙ ap (λ (h : ℕ). h ∷ []) (sym head)
 
 -- ---- the verdict
 module _ (n : List ℕ) (r : Area) (e : Entry) where

@@ -6,37 +6,32 @@ use Prim.Native.Nat.{ℕ}
 use lib.Dec.{eqb}
 use Rattle.codec.specs.Header.{readHeader}
 use Rattle.codec.specs.Reader.{Reader, give, someBytes, andThen, guard, checked, mapped}
-use Rattle.compact_u64.specs.Number.{minTag, numberBytes, readNumber}
+use Rattle.compact_u64.specs.Number.{numberBytes}
 use Rattle.path.specs.Prefix.{isPrefix}
 use Rattle.path_relative.specs.Against.{againstBytes, readAgainst}
 use Rattle.grouping.specs.declared.TimeRange.{TimeRange}
 use Rattle.grouping.specs.Area.{AreaValue}
-use Rattle.time_relative.specs.Difference.{differenceOf, readIncluded}
+use Rattle.time_relative.specs.Difference.{differenceOf}
 use Rattle.entry.specs.Entry.{EntryValue}
-use Rattle.entry_area.specs.declared.Header.{Header}
-use Rattle.entry_area.specs.declared.End.{End}
-use Rattle.entry_area.specs.Header.{unpackHeader, packHeader}
+use Rattle.entry_end.specs.declared.Header.{Header}
+use Rattle.entry_end.specs.declared.End.{End}
+use Rattle.entry_end.specs.Header.{unpackHeader, packHeader}
+use Rattle.entry_end.specs.End.{headerOf, readEnd}
 
 -- ---- writing: header, id, path against the area's, time difference, payload length, digest. The id is written where the area has any subspace
 abbrev pub isAny : Option (List ℕ) → Bool
 isAny none = true
 isAny (some id) = false
 
-unfoldable pub headerOf : AreaValue → EntryValue → Header
-headerOf r v = record {
-  «id_written» = isAny (r .subspace);
-  «time_added» = differenceOf (r .times) (v .time) .added;
-  «time_tag» = minTag 2 (differenceOf (r .times) (v .time) .difference);
-  «length_tag» = minTag 2 (v .size);
-  spare = 0;
-}
+abbrev pub entryHeader : AreaValue → EntryValue → Header
+entryHeader r v = headerOf (isAny (r .subspace)) (r .times) (v .time) (v .size)
 
 abbrev pub idBytes : Option (List ℕ) → List ℕ → List ℕ
 idBytes none id = id
 idBytes (some r) id = []
 
 abbrev pub startBytes : AreaValue → EntryValue → List ℕ
-startBytes r v = packHeader (headerOf r v) ∷ idBytes (r .subspace) (v .subspace)
+startBytes r v = packHeader (entryHeader r v) ∷ idBytes (r .subspace) (v .subspace)
 
 abbrev pub payloadBytes : EntryValue → List ℕ
 payloadBytes v = numberBytes 2 (v .size) ++ v .digest
@@ -56,16 +51,6 @@ entryBytes r v = startBytes r v ++ restBytes r v
 abbrev pub readId : Option (List ℕ) → Bool → Reader (List ℕ)
 readId none written = guard written (someBytes 32)
 readId (some id) written = guard (not written) (give id)
-
-abbrev pub endFrom : ℕ → ℕ → List ℕ → End
-endFrom time size digest = record { timestamp = time; «payload_length» = size; «payload_digest» = digest }
-
-unfoldable pub readEnd : Bool → TimeRange → Header → Reader End
-readEnd canonic r h =
-    andThen (readIncluded canonic r (h .«time_added») (h .«time_tag»)) (λ time.
-    andThen (readNumber canonic 2 (h .«length_tag»)) (λ size.
-    mapped (endFrom time size) (
-    someBytes 32)))
 
 abbrev pub valueFrom : List ℕ → List ℕ → List (List ℕ) → End → EntryValue
 valueFrom namespace subspace path end = record {

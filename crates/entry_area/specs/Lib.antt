@@ -1,4 +1,3 @@
-pub mod Header
 pub mod Entry
 pub mod Records
 pub mod Relations

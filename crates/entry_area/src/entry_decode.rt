@@ -9,19 +9,14 @@ ghost use Rattle.path_relative.specs.Against.{readAgainst};
 ghost use Rattle.grouping.specs.Record.{subspaceOf, areaOf, wellFormedArea};
 ghost use Rattle.entry.specs.Record.{entryFrom};
 ghost use Rattle.entry.specs.Answers.{GivesEntry};
-ghost use Rattle.entry_area.specs.Entry.{readId, readEnd, readParts};
-use crate::DecodedEnd;
-use crate::End;
-use crate::Header;
+ghost use Rattle.entry_area.specs.Entry.{readId, readParts};
 use codec::Decoded;
 use codec::DecodedId;
-use compact_u64::DecodedU64;
-use compact_u64::TagWidth;
 use entry::DecodedEntry;
 use entry::Entry;
+use entry_end::Header;
 use grouping::Area;
 use grouping::AreaSubspace;
-use grouping::TimeRange;
 use path::Compared;
 use path::Path;
 use path_codec::DecodedPath;
@@ -62,60 +57,6 @@ fn decode_path(message: &[u8], canonic: bool, reference: Path) -> DecodedPath
     read
 }
 
-fn no_end(answer: Decoded) -> DecodedEnd
-    ensures { λ r. ⌜ r .answer ≡ answer ⌝ }
-{
-    DecodedEnd {
-        answer: answer,
-        end: End {
-            timestamp: 0,
-            payload_length: 0,
-            payload_digest: [0u8; 32],
-        },
-    }
-}
-
-fn decode_end(message: &[u8], canonic: bool, times: TimeRange, header: Header) -> DecodedEnd
-    ensures { λ r. ⌜ answerOf (r .answer) (r .end) ≡ readEnd canonic times header (now (message .entry)) ⌝ }
-{
-    let first = time_relative::decode_included(
-        message,
-        0,
-        canonic,
-        times,
-        header.time_added,
-        header.time_tag,
-    );
-    let DecodedU64::Value(time, a) = first else {
-        return no_end(compact_u64::refusal(first));
-    };
-    let second = compact_u64::relative_decode(
-        message,
-        a,
-        TagWidth::Two,
-        header.length_tag,
-        canonic,
-    );
-    let DecodedU64::Value(size, b) = second else {
-        return no_end(compact_u64::refusal(second));
-    };
-    let at = a + b;
-    let third = codec::decode_id(message, at);
-    let answer = third.answer;
-    let Decoded::Consumed(n) = answer else {
-        return no_end(answer);
-    };
-    let digest = third.id;
-    DecodedEnd {
-        answer: Decoded::Consumed(a + (b + n)),
-        end: End {
-            timestamp: time,
-            payload_length: size,
-            payload_digest: digest,
-        },
-    }
-}
-
 pub(crate) fn decode_parts(
     message: &[u8],
     canonic: bool,
@@ -137,7 +78,7 @@ pub(crate) fn decode_parts(
         return entry::refuse(second_answer);
     };
     let at = a + b;
-    let third = decode_end(&message[at..], canonic, area.times, header);
+    let third = entry_end::relative_decode(&message[at..], canonic, area.times, header);
     let third_answer = third.answer;
     let Decoded::Consumed(c) = third_answer else {
         return entry::refuse(third_answer);

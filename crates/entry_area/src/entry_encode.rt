@@ -7,28 +7,14 @@ ghost use Rattle.codec.specs.Format.{allowed, over};
 ghost use Rattle.grouping.specs.Record.{subspaceOf, areaOf};
 ghost use Rattle.entry.specs.Record.{entryOf};
 ghost use Rattle.path_relative.specs.Records.{againstPath};
-ghost use Rattle.entry_area.specs.Entry.{headerOf, idBytes, startBytes, payloadBytes, endBytes, restBytes};
+ghost use Rattle.entry_area.specs.Entry.{idBytes, startBytes, payloadBytes, endBytes, restBytes};
 ghost use Rattle.entry_area.specs.Records.{againstNamespaceArea};
-use crate::Header;
 use codec::Encoded;
 use compact_u64::TagWidth;
 use entry::Entry;
 use grouping::Area;
 use grouping::AreaSubspace;
 use grouping::TimeRange;
-
-fn header_of(entry: Entry, area: Area) -> Header
-    ensures { λ r. ⌜ r ≡ headerOf (areaOf area) (entryOf entry) ⌝ }
-{
-    let told = time_relative::difference(area.times, entry.timestamp);
-    Header {
-        id_written: area.subspace.any,
-        time_added: told.added,
-        time_tag: compact_u64::min_tag(TagWidth::Two, told.difference),
-        length_tag: compact_u64::min_tag(TagWidth::Two, entry.payload_length),
-        spare: 0,
-    }
-}
 
 // How many bytes the id of an entry takes.
 pub(crate) fn id_len(subspace: AreaSubspace) -> usize
@@ -55,8 +41,12 @@ fn put_start(buffer: &mut [u8], entry: Entry, area: Area) -> usize
     requires { ⌜ length (startBytes (areaOf area) (entryOf entry)) ≤ length (now buffer) ⌝ }
     ensures { λ r. ⌜ (r ≡ length (startBytes (areaOf area) (entryOf entry))) × (now (buffer .exit) ≡ over (startBytes (areaOf area) (entryOf entry)) (now (buffer .entry))) ⌝ }
 {
-    let header = header_of(entry, area);
-    buffer[0] = crate::entry_header::pack(header);
+    buffer[0] = entry_end::header_byte(
+        area.subspace.any,
+        area.times,
+        entry.timestamp,
+        entry.payload_length,
+    );
     if !area.subspace.any {
         return 1;
     }

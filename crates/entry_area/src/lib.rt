@@ -14,28 +14,6 @@ use path::Compared;
 
 mod entry_decode;
 mod entry_encode;
-mod entry_header;
-
-// What the header byte says; `spare` are two bits that must be zero.
-pub struct Header {
-    pub id_written: bool,
-    pub time_added: bool,
-    pub time_tag: u8,
-    pub length_tag: u8,
-    pub spare: u8,
-}
-
-// The fields after the path.
-pub struct End {
-    pub timestamp: u64,
-    pub payload_length: u64,
-    pub payload_digest: [u8; 32],
-}
-
-pub struct DecodedEnd {
-    pub answer: Decoded,
-    pub end: End,
-}
 
 // Reads an entry against a namespace and an area.
 pub fn relative_decode(
@@ -54,7 +32,7 @@ pub fn relative_decode(
     if message.len() <= start {
         return entry::refuse(Decoded::EndOfInput);
     }
-    let header = entry_header::unpack(message[start]);
+    let header = entry_end::entry_header::unpack(message[start]);
     if header.spare != 0 {
         return entry::refuse(Decoded::TheirFault);
     }

@@ -11,24 +11,23 @@ use Rattle.codec.specs.Answers.{Answer, accepted, refused}
 use Rattle.codec.specs.Reader.{shift, named, someBytes, mapped}
 use Rattle.codec.proofs.Bounded.{mapped-bounded}
 use Rattle.codec.proofs.Readers.{named-inv, named-refused}
-use Rattle.compact_u64.specs.Number.{readNumber}
 use Rattle.path.specs.declared.Path.{Path}
 use Rattle.path.specs.Record.{componentsOf, pathFrom, wellFormed}
 use Rattle.path_relative.specs.Against.{readAgainst}
 use Rattle.path_relative.specs.Records.{readAgainstPath}
-use Rattle.grouping.specs.declared.RangeEnd.the-variants.{Closed}
-use Rattle.time_distance.specs.Distance.{readFrom}
 use Rattle.entry.specs.declared.Entry.{Entry}
 use Rattle.entry.specs.Entry.{EntryValue}
 use Rattle.entry.specs.Record.{entryOf, entryFrom, wellFormedEntry}
-use Rattle.entry_entry.specs.declared.Header.{Header}
+use Rattle.entry_numbers.specs.declared.Header.{Header}
+use Rattle.entry_numbers.specs.declared.Numbers.{Numbers}
+use Rattle.entry_numbers.specs.Header.{unpackHeader}
+use Rattle.entry_numbers.specs.Numbers.{readNumbers}
+use Rattle.entry_numbers.proofs.Reading.{numbers-bounded}
 use Rattle.entry_entry.specs.declared.Ids.{Ids}
-use Rattle.entry_entry.specs.declared.Numbers.{Numbers}
 use Rattle.entry_entry.specs.declared.End.{End}
-use Rattle.entry_entry.specs.Header.{unpackHeader}
-use Rattle.entry_entry.specs.Entry.{readId, idsFrom, readIds, numbersFrom, readNumbers, readEnd, readParts, readEntry}
+use Rattle.entry_entry.specs.Entry.{readId, idsFrom, readIds, readEnd, readParts, readEntry}
 use Rattle.entry_entry.specs.Records.{readAgainstEntry, endOf, readEndOf}
-use Rattle.entry_entry.proofs.Entry.{ids-bounded, numbers-bounded, end-bounded, parts-bounded}
+use Rattle.entry_entry.proofs.Entry.{ids-bounded, end-bounded, parts-bounded}
 
 -- ---- the ids
 module _ (r : EntryValue) (h : Header) (s : List ℕ) where
@@ -48,25 +47,6 @@ module _ (r : EntryValue) (h : Header) (s : List ℕ) where
 
       pub ids-inside : a + b ≤ length s
       ids-inside = ids-bounded r h .bound s _ _ ids-read
-
--- ---- the time and the payload length
-module _ (time : ℕ) (h : Header) (s : List ℕ) where
-  pub numbers-first : (k : ℕ) → readFrom (Closed time) (h .«time_added») (h .«time_tag») s ≡ refused k → readNumbers time h s ≡ refused k
-  unfolding readNumbers
-  numbers-first k e = rw e
-
-  module _ (x a : ℕ) (e : readFrom (Closed time) (h .«time_added») (h .«time_tag») s ≡ accepted x a) where
-    pub numbers-second : (k : ℕ) → readNumber false 3 (h .«length_tag») (drop a s) ≡ refused k → readNumbers time h s ≡ refused k
-    unfolding readNumbers
-    numbers-second k f = rw (e, f)
-
-    module _ (y b : ℕ) (f : readNumber false 3 (h .«length_tag») (drop a s) ≡ accepted y b) where
-      pub numbers-read : readNumbers time h s ≡ accepted (numbersFrom x y) (a + b)
-      unfolding readNumbers
-      numbers-read = rw (e, f)
-
-      pub numbers-inside : a + b ≤ length s
-      numbers-inside = numbers-bounded time h .bound s _ _ numbers-read
 
 -- ---- the path and the digest
 module _ (r : Path) (w : wellFormed r ≡ true) (s : List ℕ) where

@@ -1,4 +1,3 @@
-pub mod HeaderLayout
 pub mod Entry
 pub mod Records
 pub mod Writing

@@ -15,7 +15,8 @@ use Rattle.path_relative.proofs.Against.{against-short}
 use Rattle.entry.specs.declared.Entry.{Entry}
 use Rattle.entry.specs.Record.{entryOf, wellFormedEntry, TypedEntry}
 use Rattle.entry.proofs.Record.{apart-entry}
-use Rattle.entry_entry.specs.Entry.{idWritten, idBytes, idsBytes, numbersBytes, endBytes, restBytes, entryBytes}
+use Rattle.entry_numbers.specs.Numbers.{numbersBytes}
+use Rattle.entry_entry.specs.Entry.{idWritten, idBytes, idsBytes, endBytes, restBytes, entryBytes}
 use Rattle.entry_entry.specs.Records.{againstEntry}
 
 -- ---- an id
@@ -40,8 +41,8 @@ module _ (r e : Entry) where
       let p = apart-entry e t (and-right (wellFormedEntry r) (wellFormedEntry e) formed) .ok in
       omega (arith, against-short (componentsOf (r .path)) (componentsOf (e .path)), p .total, p .count)
 
-  pub entry-long : (i m p : ℕ) → i ≡ length (idsBytes (entryOf r) (entryOf e)) → m ≡ length (numbersBytes (entryOf r) (entryOf e)) → p ≡ length (againstPath (r .path) .encode (e .path)) → length (e .«payload_digest») ≡ 32
+  pub entry-long : (i m p : ℕ) → i ≡ length (idsBytes (entryOf r) (entryOf e)) → m ≡ length (numbersBytes (r .timestamp) (e .timestamp) (e .«payload_length»)) → p ≡ length (againstPath (r .path) .encode (e .path)) → length (e .«payload_digest») ≡ 32
       → 1 + (i + (m + (p + 32))) ≡ length (againstEntry r .encode e)
   unfolding entryBytes
   entry-long i m p ei em ep ed =
-      omega (arith, ei, em, ep, ed, length-append (idsBytes (entryOf r) (entryOf e)) (restBytes (entryOf r) (entryOf e)), length-append (numbersBytes (entryOf r) (entryOf e)) (endBytes (entryOf r) (entryOf e)), length-append (againstBytes (componentsOf (r .path)) (componentsOf (e .path))) (e .«payload_digest»))
+      omega (arith, ei, em, ep, ed, length-append (idsBytes (entryOf r) (entryOf e)) (restBytes (entryOf r) (entryOf e)), length-append (numbersBytes (r .timestamp) (e .timestamp) (e .«payload_length»)) (endBytes (entryOf r) (entryOf e)), length-append (againstBytes (componentsOf (r .path)) (componentsOf (e .path))) (e .«payload_digest»))

@@ -2,32 +2,23 @@
 use mathlib.Core.List.{List, [], _∷_, _++_}
 use mathlib.Core.Bool.{Bool, false, cond, not}
 use Prim.Native.Nat.{ℕ}
-use lib.Dec.{ltb}
 use Rattle.codec.specs.Bytes.{sameBytes}
 use Rattle.codec.specs.Header.{readHeader}
 use Rattle.codec.specs.Reader.{Reader, give, someBytes, andThen, mapped, choose}
-use Rattle.compact_u64.specs.Number.{minTag, numberBytes, readNumber}
 use Rattle.path_relative.specs.Against.{againstBytes, readAgainst}
-use Rattle.grouping.specs.declared.RangeEnd.the-variants.{Closed}
-use Rattle.time_distance.specs.Distance.{distance, readFrom}
 use Rattle.entry.specs.Entry.{EntryValue}
-use Rattle.entry_entry.specs.declared.Header.{Header}
+use Rattle.entry_numbers.specs.declared.Header.{Header}
+use Rattle.entry_numbers.specs.declared.Numbers.{Numbers}
+use Rattle.entry_numbers.specs.Header.{unpackHeader, packHeader}
+use Rattle.entry_numbers.specs.Numbers.{headerOf, numbersBytes, readNumbers}
 use Rattle.entry_entry.specs.declared.Ids.{Ids}
-use Rattle.entry_entry.specs.declared.Numbers.{Numbers}
-use Rattle.entry_entry.specs.Header.{unpackHeader, packHeader}
 
--- ---- writing: header, namespace and subspace if they differ, time difference, payload length, path, digest. A time is added only if it is later
+-- ---- writing: header, namespace and subspace if they differ, time difference, payload length, path, digest
 unfoldable pub idWritten : List ℕ → List ℕ → Bool
 idWritten r id = not (sameBytes id r)
 
-unfoldable pub headerOf : EntryValue → EntryValue → Header
-headerOf r v = record {
-  «namespace_written» = idWritten (r .namespace) (v .namespace);
-  «subspace_written» = idWritten (r .subspace) (v .subspace);
-  «time_added» = ltb (r .time) (v .time);
-  «time_tag» = minTag 2 (distance (v .time) (r .time));
-  «length_tag» = minTag 3 (v .size);
-}
+abbrev pub entryHeader : EntryValue → EntryValue → Header
+entryHeader r v = headerOf (idWritten (r .namespace) (v .namespace)) (idWritten (r .subspace) (v .subspace)) (r .time) (v .time) (v .size)
 
 unfoldable pub idBytes : List ℕ → List ℕ → List ℕ
 idBytes r id = cond (idWritten r id) id []
@@ -35,22 +26,19 @@ idBytes r id = cond (idWritten r id) id []
 abbrev pub idsBytes : EntryValue → EntryValue → List ℕ
 idsBytes r v = idBytes (r .namespace) (v .namespace) ++ idBytes (r .subspace) (v .subspace)
 
-abbrev pub numbersBytes : EntryValue → EntryValue → List ℕ
-numbersBytes r v = numberBytes 2 (distance (v .time) (r .time)) ++ numberBytes 3 (v .size)
-
 abbrev pub endBytes : EntryValue → EntryValue → List ℕ
 endBytes r v = againstBytes (r .path) (v .path) ++ v .digest
 
 abbrev pub restBytes : EntryValue → EntryValue → List ℕ
-restBytes r v = numbersBytes r v ++ endBytes r v
+restBytes r v = numbersBytes (r .time) (v .time) (v .size) ++ endBytes r v
 
 abbrev pub partsBytes : EntryValue → EntryValue → List ℕ
 partsBytes r v = idsBytes r v ++ restBytes r v
 
 unfoldable pub entryBytes : EntryValue → EntryValue → List ℕ
-entryBytes r v = packHeader (headerOf r v) ∷ partsBytes r v
+entryBytes r v = packHeader (entryHeader r v) ∷ partsBytes r v
 
--- ---- reading: an id that is written may be the reference's, and a difference that is added may be zero
+-- ---- reading: an id that is written may be the reference's
 abbrev pub readId : Bool → List ℕ → Reader (List ℕ)
 readId written r = choose written (someBytes 32) (give r)
 
@@ -62,15 +50,6 @@ readIds r h =
     andThen (readId (h .«namespace_written») (r .namespace)) (λ namespace.
     mapped (idsFrom namespace) (
     readId (h .«subspace_written») (r .subspace)))
-
-abbrev pub numbersFrom : ℕ → ℕ → Numbers
-numbersFrom time size = record { timestamp = time; «payload_length» = size }
-
-unfoldable pub readNumbers : ℕ → Header → Reader Numbers
-readNumbers time h =
-    andThen (readFrom (Closed time) (h .«time_added») (h .«time_tag»)) (λ time.
-    mapped (numbersFrom time) (
-    readNumber false 3 (h .«length_tag»)))
 
 -- the path and the digest
 pub record EndValue : Type 0 where

@@ -7,22 +7,17 @@ ghost use Rattle.codec.specs.Reader.{mapped};
 ghost use Rattle.path.specs.Record.{wellFormed};
 ghost use Rattle.entry.specs.Record.{entryOf, entryFrom, wellFormedEntry};
 ghost use Rattle.entry.specs.Answers.{GivesEntry};
-ghost use Rattle.entry_entry.specs.Entry.{readId, readIds, readNumbers, readParts};
+ghost use Rattle.entry_entry.specs.Entry.{readId, readIds, readParts};
 ghost use Rattle.entry_entry.specs.Records.{readEndOf};
 use crate::DecodedEnd;
 use crate::DecodedIds;
-use crate::DecodedNumbers;
 use crate::End;
-use crate::Header;
 use crate::Ids;
-use crate::Numbers;
 use codec::Decoded;
 use codec::DecodedId;
-use compact_u64::DecodedU64;
-use compact_u64::TagWidth;
 use entry::DecodedEntry;
 use entry::Entry;
-use grouping::RangeEnd;
+use entry_numbers::Header;
 use path::Path;
 
 // An id is the reference's unless it is written.
@@ -76,51 +71,6 @@ fn decode_ids(message: &[u8], header: Header, reference: Entry) -> DecodedIds
     }
 }
 
-fn no_numbers(answer: Decoded) -> DecodedNumbers
-    ensures { λ r. ⌜ r .answer ≡ answer ⌝ }
-{
-    DecodedNumbers {
-        answer: answer,
-        numbers: Numbers {
-            timestamp: 0,
-            payload_length: 0,
-        },
-    }
-}
-
-fn decode_numbers(message: &[u8], header: Header, time: u64) -> DecodedNumbers
-    ensures { λ r. ⌜ answerOf (r .answer) (r .numbers) ≡ readNumbers time header (now (message .entry)) ⌝ }
-{
-    let from = RangeEnd::Closed(time);
-    let first = time_distance::relative_decode(
-        message,
-        0,
-        from,
-        header.time_added,
-        header.time_tag,
-    );
-    let DecodedU64::Value(timestamp, a) = first else {
-        return no_numbers(compact_u64::refusal(first));
-    };
-    let second = compact_u64::relative_decode(
-        message,
-        a,
-        TagWidth::Three,
-        header.length_tag,
-        false,
-    );
-    let DecodedU64::Value(size, b) = second else {
-        return no_numbers(compact_u64::refusal(second));
-    };
-    DecodedNumbers {
-        answer: Decoded::Consumed(a + b),
-        numbers: Numbers {
-            timestamp: timestamp,
-            payload_length: size,
-        },
-    }
-}
-
 fn no_end(answer: Decoded) -> DecodedEnd
     ensures { λ r. ⌜ r .answer ≡ answer ⌝ }
 {
@@ -168,7 +118,7 @@ pub(crate) fn decode_parts(message: &[u8], header: Header, reference: Entry) -> 
     let Decoded::Consumed(a) = first_answer else {
         return entry::refuse(first_answer);
     };
-    let second = decode_numbers(&message[a..], header, reference.timestamp);
+    let second = entry_numbers::relative_decode(&message[a..], header, reference.timestamp);
     let second_answer = second.answer;
     let Decoded::Consumed(b) = second_answer else {
         return entry::refuse(second_answer);

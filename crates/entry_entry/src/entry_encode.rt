@@ -5,11 +5,10 @@ ghost use lib.ListN.{length};
 ghost use Rattle.codec.specs.Format.{allowed, over};
 ghost use Rattle.path_relative.specs.Records.{againstPath};
 ghost use Rattle.entry.specs.Record.{entryOf};
-ghost use Rattle.entry_entry.specs.Entry.{idWritten, headerOf, idBytes, idsBytes, numbersBytes, endBytes, restBytes, partsBytes};
+ghost use Rattle.entry_numbers.specs.Header.{packHeader};
+ghost use Rattle.entry_entry.specs.Entry.{idWritten, entryHeader, idBytes, idsBytes, endBytes, restBytes, partsBytes};
 ghost use Rattle.entry_entry.specs.Records.{againstEntry};
-use crate::Header;
 use codec::Encoded;
-use compact_u64::TagWidth;
 use entry::Entry;
 
 fn id_written(id: [u8; 32], reference: [u8; 32]) -> bool
@@ -18,21 +17,22 @@ fn id_written(id: [u8; 32], reference: [u8; 32]) -> bool
     !codec::same_bytes(&id, &reference)
 }
 
-fn header_of(entry: Entry, reference: Entry) -> Header
-    ensures { λ r. ⌜ r ≡ headerOf (entryOf reference) (entryOf entry) ⌝ }
+fn header_byte(entry: Entry, reference: Entry) -> u8
+    ensures { λ r. ⌜ r ≡ packHeader (entryHeader (entryOf reference) (entryOf entry)) ⌝ }
 {
-    let difference = time_distance::abs_diff(entry.timestamp, reference.timestamp);
     let namespace_id = entry.namespace_id;
     let reference_namespace = reference.namespace_id;
+    let namespace_written = id_written(namespace_id, reference_namespace);
     let subspace_id = entry.subspace_id;
     let reference_subspace = reference.subspace_id;
-    Header {
-        namespace_written: id_written(namespace_id, reference_namespace),
-        subspace_written: id_written(subspace_id, reference_subspace),
-        time_added: reference.timestamp < entry.timestamp,
-        time_tag: compact_u64::min_tag(TagWidth::Two, difference),
-        length_tag: compact_u64::min_tag(TagWidth::Three, entry.payload_length),
-    }
+    let subspace_written = id_written(subspace_id, reference_subspace);
+    entry_numbers::header_byte(
+        namespace_written,
+        subspace_written,
+        entry.timestamp,
+        entry.payload_length,
+        reference.timestamp,
+    )
 }
 
 // How many bytes an id takes.
@@ -56,15 +56,6 @@ pub(crate) fn ids_len(entry: Entry, reference: Entry) -> usize
     let subspace_id = entry.subspace_id;
     let reference_subspace = reference.subspace_id;
     a + id_len(subspace_id, reference_subspace)
-}
-
-// How many bytes the time's difference and the payload length take.
-pub(crate) fn numbers_len(entry: Entry, reference: Entry) -> usize
-    ensures { λ r. ⌜ (r ≡ length (numbersBytes (entryOf reference) (entryOf entry))) × (r ≤ 16) ⌝ }
-{
-    let difference = time_distance::abs_diff(entry.timestamp, reference.timestamp);
-    let a = compact_u64::relative_len_of_encoding(TagWidth::Two, difference);
-    a + compact_u64::relative_len_of_encoding(TagWidth::Three, entry.payload_length)
 }
 
 fn put_id(buffer: &mut [u8], id: [u8; 32], reference: [u8; 32]) -> usize
@@ -92,18 +83,6 @@ fn put_ids(buffer: &mut [u8], entry: Entry, reference: Entry) -> usize
     a + put_id(&mut buffer[a..], subspace_id, reference_subspace)
 }
 
-// The time's difference and the payload length.
-fn put_numbers(buffer: &mut [u8], entry: Entry, reference: Entry) -> usize
-    requires { ⌜ length (numbersBytes (entryOf reference) (entryOf entry)) ≤ length (now buffer) ⌝ }
-    ensures { λ r. ⌜ (r ≡ length (numbersBytes (entryOf reference) (entryOf entry))) × (now (buffer .exit) ≡ over (numbersBytes (entryOf reference) (entryOf entry)) (now (buffer .entry))) ⌝ }
-{
-    let difference = time_distance::abs_diff(entry.timestamp, reference.timestamp);
-    let a = compact_u64::relative_len_of_encoding(TagWidth::Two, difference);
-    compact_u64::relative_encode(buffer, TagWidth::Two, difference);
-    compact_u64::relative_encode(&mut buffer[a..], TagWidth::Three, entry.payload_length);
-    a + compact_u64::relative_len_of_encoding(TagWidth::Three, entry.payload_length)
-}
-
 // The path and the digest.
 fn put_end(buffer: &mut [u8], entry: Entry, reference: Entry)
     requires { ⌜ (againstPath (reference .path) .check (entry .path) ≡ allowed) × (length (endBytes (entryOf reference) (entryOf entry)) ≤ length (now buffer)) ⌝ }
@@ -122,7 +101,17 @@ fn put_rest(buffer: &mut [u8], entry: Entry, reference: Entry)
     requires { ⌜ (againstPath (reference .path) .check (entry .path) ≡ allowed) × (length (restBytes (entryOf reference) (entryOf entry)) ≤ length (now buffer)) ⌝ }
     ensures { λ _. ⌜ now (buffer .exit) ≡ over (restBytes (entryOf reference) (entryOf entry)) (now (buffer .entry)) ⌝ }
 {
-    let n = put_numbers(buffer, entry, reference);
+    let n = entry_numbers::relative_len_of_encoding(
+        entry.timestamp,
+        entry.payload_length,
+        reference.timestamp,
+    );
+    entry_numbers::relative_encode(
+        buffer,
+        entry.timestamp,
+        entry.payload_length,
+        reference.timestamp,
+    );
     put_end(&mut buffer[n..], entry, reference);
 }
 
@@ -140,7 +129,6 @@ pub(crate) fn put_entry(buffer: &mut [u8], entry: Entry, reference: Entry)
     requires { ⌜ (againstEntry reference .check entry ≡ allowed) × (length (againstEntry reference .encode entry) ≤ length (now buffer)) ⌝ }
     ensures { λ _. ⌜ now (buffer .exit) ≡ over (againstEntry reference .encode entry) (now (buffer .entry)) ⌝ }
 {
-    let header = header_of(entry, reference);
-    buffer[0] = crate::entry_header::pack(header);
+    buffer[0] = header_byte(entry, reference);
     put_parts(&mut buffer[1..], entry, reference);
 }

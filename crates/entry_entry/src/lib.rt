@@ -13,16 +13,6 @@ use path::Path;
 
 mod entry_decode;
 mod entry_encode;
-mod entry_header;
-
-// What the header byte says.
-pub struct Header {
-    pub namespace_written: bool,
-    pub subspace_written: bool,
-    pub time_added: bool,
-    pub time_tag: u8,
-    pub length_tag: u8,
-}
 
 pub struct Ids {
     pub namespace_id: [u8; 32],
@@ -32,17 +22,6 @@ pub struct Ids {
 pub struct DecodedIds {
     pub answer: Decoded,
     pub ids: Ids,
-}
-
-// The time and the payload length.
-pub struct Numbers {
-    pub timestamp: u64,
-    pub payload_length: u64,
-}
-
-pub struct DecodedNumbers {
-    pub answer: Decoded,
-    pub numbers: Numbers,
 }
 
 // The path and the payload digest.
@@ -67,7 +46,7 @@ pub fn relative_decode(message: &[u8], start: usize, reference: Entry) -> Decode
     if message.len() <= start {
         return entry::refuse(Decoded::EndOfInput);
     }
-    let header = entry_header::unpack(message[start]);
+    let header = entry_numbers::entry_header::unpack(message[start]);
     let at = start + 1;
     let read = entry_decode::decode_parts(&message[at..], header, reference);
     let answer = read.answer;
@@ -90,7 +69,11 @@ pub fn relative_len_of_encoding(entry: Entry, reference: Entry) -> Encoded
         return path;
     };
     let a = entry_encode::ids_len(entry, reference);
-    let b = entry_encode::numbers_len(entry, reference);
+    let b = entry_numbers::relative_len_of_encoding(
+        entry.timestamp,
+        entry.payload_length,
+        reference.timestamp,
+    );
     Encoded::Length(1 + (a + (b + (n + 32))))
 }
 

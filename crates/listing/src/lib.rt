@@ -15,6 +15,7 @@ use case_text::MAX_BYTES;
 use case_text::Op;
 use case_text::fields;
 use case_text::put;
+use decimal::Decimal;
 use grouping::Area;
 use grouping::AreaSubspace;
 use grouping::RangeEnd;
@@ -22,7 +23,6 @@ use grouping::TimeRange;
 use path::Path;
 use path_text::Found;
 use path_text::PathField;
-use text::Decimal;
 
 // The longest line, its newline not counted.
 pub const MAX_LINE: usize = 4096;
@@ -86,7 +86,7 @@ fn read_area(line: &[u8]) -> AreaField
     let Found::Read = found else {
         return no_area();
     };
-    let third = text::read_decimal(text::part(line, b'\t', 3));
+    let third = decimal::read_decimal(text::part(line, b'\t', 3));
     let Decimal::Value(start) = third else {
         return no_area();
     };

@@ -24,8 +24,8 @@ use Rattle.range_paths.proofs.Paths.{paths-bounded}
 use Rattle.range_paths.proofs.DecodeExits.{paths-refused, paths-accepted}
 use Rattle.range_times.specs.Header.{unpackHeader as unpackTimes}
 use Rattle.range_times.specs.Times.{readTimes}
-use Rattle.range3d_range3d.specs.declared.Header.{Header}
-use Rattle.range3d_range3d.specs.Header.{unpackHeader}
+use Rattle.range_header.specs.declared.Header.{Header}
+use Rattle.range_header.specs.Header.{unpackHeader}
 use Rattle.range3d_range3d.specs.Range.{sourcesIn, sidesIn, readParts, readRange}
 use Rattle.range3d_range3d.specs.Records.{readAgainstRange}
 use Rattle.range3d_range3d.proofs.Range.{parts-bounded}

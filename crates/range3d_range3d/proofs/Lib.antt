@@ -1,4 +1,3 @@
-pub mod HeaderLayout
 pub mod Range
 pub mod Records
 pub mod DecodeExits

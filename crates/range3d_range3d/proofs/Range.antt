@@ -21,10 +21,10 @@ use Rattle.range_times.specs.Header.{unpackHeader as unpackTimes, packHeader as
 use Rattle.range_times.specs.Times.{headerOf as timesHeader, timesBytes, readTimes}
 use Rattle.range_times.proofs.HeaderLayout.{header-layout as times-layout, header-fits as times-fit}
 use Rattle.range_times.proofs.Times.{times-as, times-bounded}
-use Rattle.range3d_range3d.specs.declared.Header.{Header}
-use Rattle.range3d_range3d.specs.Header.{unpackHeader, packHeader}
+use Rattle.range_header.specs.declared.Header.{Header}
+use Rattle.range_header.specs.Header.{unpackHeader, packHeader}
 use Rattle.range3d_range3d.specs.Range.{headerOf, partsBytes, rangeBytes, sourcesIn, sidesIn, valueFrom, readParts, readRange}
-use Rattle.range3d_range3d.proofs.HeaderLayout.{HeaderFits, header-layout}
+use Rattle.range_header.proofs.HeaderLayout.{HeaderFits, header-layout}
 
 -- ---- what is written is read back
 

@@ -1,4 +1,3 @@
-pub mod Header
 pub mod Range
 pub mod Records
 pub mod Answers

@@ -12,8 +12,8 @@ use Rattle.range_paths.specs.declared.Sides.{Sides}
 use Rattle.range_paths.specs.Paths.{sidesOf, pathsBytes, readPaths}
 use Rattle.range_times.specs.Header.{unpackHeader as unpackTimes, packHeader as packTimes}
 use Rattle.range_times.specs.Times.{headerOf as timesHeader, timesBytes, readTimes}
-use Rattle.range3d_range3d.specs.declared.Header.{Header}
-use Rattle.range3d_range3d.specs.Header.{unpackHeader, packHeader}
+use Rattle.range_header.specs.declared.Header.{Header}
+use Rattle.range_header.specs.Header.{unpackHeader, packHeader}
 
 -- ---- writing: two header bytes, subspaces, paths, times
 unfoldable pub headerOf : Range3dValue → Range3dValue → Header

@@ -8,21 +8,9 @@ ghost use Rattle.range3d_range3d.specs.Records.{againstRange, readAgains
 use codec::Decoded;
 use codec::Encoded;
 use range_3d::Range3d;
-use range_subspaces::IdSource;
 
 mod range_decode;
 mod range_encode;
-mod range_header;
-
-// What the first header byte says; the second is that of the times.
-pub struct Header {
-    pub subspace_start: IdSource,
-    pub subspace_end: IdSource,
-    pub path_start_from_start: bool,
-    pub path_end_open: bool,
-    pub path_end_from_start: bool,
-    pub times_end_open: bool,
-}
 
 // A 3d range beside the answer; beside a refusal nothing lies in it.
 pub struct DecodedRange3d {

@@ -6,7 +6,6 @@ ghost use Rattle.range_3d.specs.Record.{rangeOf, rangeFrom, wellFormedRange3d};
 ghost use Rattle.range3d_range3d.specs.Range.{readParts};
 ghost use Rattle.range3d_range3d.specs.Answers.{GivesRange, refusal};
 use crate::DecodedRange3d;
-use crate::Header;
 use codec::Decoded;
 use grouping::RangeEnd;
 use grouping::TimeRange;
@@ -14,6 +13,7 @@ use path::Path;
 use range_3d::PathRange;
 use range_3d::Range3d;
 use range_3d::SubspaceRange;
+use range_header::Header;
 use range_paths::Sides;
 use range_subspaces::Sources;
 

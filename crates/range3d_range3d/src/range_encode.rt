@@ -6,9 +6,9 @@ ghost use Rattle.codec.specs.Format.{allowed, over};
 ghost use Rattle.range_3d.specs.Record.{rangeOf};
 ghost use Rattle.range3d_range3d.specs.Range.{headerOf, headBytes, partsBytes, restBytes};
 ghost use Rattle.range3d_range3d.specs.Records.{againstRange};
-use crate::Header;
 use codec::Encoded;
 use range_3d::Range3d;
+use range_header::Header;
 
 fn header_of(range: Range3d, reference: Range3d) -> Header
     requires { ⌜ againstRange reference .check range ≡ allowed ⌝ }
@@ -36,7 +36,7 @@ fn put_head(buffer: &mut [u8], range: Range3d, reference: Range3d)
     ensures { λ _. ⌜ now (buffer .exit) ≡ over (headBytes (rangeOf reference) (rangeOf range)) (now (buffer .entry)) ⌝ }
 {
     let header = header_of(range, reference);
-    buffer[0] = crate::range_header::pack(header);
+    buffer[0] = range_header::pack(header);
     buffer[1] = range_times::header_byte(range.times, reference.times);
 }
 

@@ -11,13 +11,14 @@ use lib.ListN.{length, getD, List·getD-append}
 use Rattle.io.specs.Digits.{glyph, digits}
 use Rattle.codec.specs.Answers.{AllBytes}
 use Rattle.codec.specs.Format.{over}
+use Rattle.decimal.specs.Decimal.{decimalValue, allDigits, isDecimal, digitsAfter, readDecimal}
+use Rattle.decimal.specs.declared.Decimal.the-variants.{Value}
+use Rattle.decimal.proofs.DecimalSteps.{other-start, read-value}
 use Rattle.text.specs.Hex.{hexValue, isHex, unhex, hexText}
-use Rattle.text.specs.Decimal.{decimalValue, allDigits, isDecimal, digitsAfter, digitCount, decimalText}
-use Rattle.text.specs.Fields.{readDecimal, readHex, hexBuffer}
+use Rattle.text.specs.Decimal.{digitCount, decimalText}
+use Rattle.text.specs.Fields.{readHex, hexBuffer}
 use Rattle.text.specs.Laws.{TextLaws}
-use Rattle.text.specs.declared.Decimal.the-variants.{Value}
 use Rattle.text.specs.declared.Hex.the-variants.{Bytes}
-use Rattle.text.proofs.DecimalSteps.{other-start, read-value}
 use Rattle.text.proofs.DecimalPrinted.{digits-long}
 use Rattle.text.proofs.Tests.{both}
 

@@ -3,7 +3,6 @@ pub mod Buffer
 pub mod Parts
 pub mod HexSteps
 pub mod HexAnswers
-pub mod DecimalSteps
 pub mod DecimalPrinted
 pub mod Back
 pub mod IdSteps

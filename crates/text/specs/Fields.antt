@@ -1,20 +1,13 @@
 -- What reading a field answers.
 use mathlib.Core.List.{List}
 use mathlib.Core.Bool.{cond}
-use Prim.Native.Nat.{ℕ, _^_}
+use Prim.Native.Nat.{ℕ}
 use lib.Dec.{ltb}
 use lib.ListN.{length}
 use Rattle.codec.specs.Format.{over}
 use Rattle.text.specs.Hex.{isHex, unhex}
-use Rattle.text.specs.Decimal.{isDecimal, digitsAfter}
-use Rattle.text.specs.declared.Decimal.{Decimal}
-use Rattle.text.specs.declared.Decimal.the-variants.{Value, Refused}
 use Rattle.text.specs.declared.Hex.{Hex}
 use Rattle.text.specs.declared.Hex.the-variants.{Bytes, NoHex, NoRoom}
-
--- a number in decimal, below 2 ^ 64
-unfoldable pub readDecimal : List ℕ → Decimal
-readDecimal s = cond (isDecimal s) (cond (ltb (digitsAfter 0 s) (2 ^ 64)) (Value (digitsAfter 0 s)) Refused) Refused
 
 -- bytes in hex, read into a buffer of `room` bytes
 unfoldable pub readHex : List ℕ → ℕ → Hex

@@ -5,10 +5,11 @@ use Prim.Native.Nat.{ℕ, _≤_, _<_, _^_}
 use lib.ListN.{length}
 use Rattle.codec.specs.Answers.{AllBytes}
 use Rattle.codec.specs.Format.{over}
+use Rattle.decimal.specs.Decimal.{readDecimal}
+use Rattle.decimal.specs.declared.Decimal.the-variants.{Value}
 use Rattle.text.specs.Hex.{hexText}
 use Rattle.text.specs.Decimal.{decimalText}
-use Rattle.text.specs.Fields.{readDecimal, readHex, hexBuffer}
-use Rattle.text.specs.declared.Decimal.the-variants.{Value}
+use Rattle.text.specs.Fields.{readHex, hexBuffer}
 use Rattle.text.specs.declared.Hex.the-variants.{Bytes}
 
 pub record TextLaws : Type 0 where

@@ -37,22 +37,22 @@ returns c =
 subspace-len-requires : tie.Need-subspace-len-requires
 subspace-len-requires c κs = search needs
 
-times-len-requires : tie.Need-times-len-requires
-times-len-requires c κs = search needs
+relative-len-of-encoding-requires : tie.Need-relative-len-of-encoding-requires
+relative-len-of-encoding-requires c κs = search needs
 
 add-t7 : tie.Need-add-t7
-add-t7 c = let p = path-is (c .before .before) in omega (arith, p .0, p .1, c .times-len .ensures .1)
+add-t7 c = let p = path-is (c .before .before) in omega (arith, p .0, p .1, c .relative-len-of-encoding .ensures .1)
 
 add-t8 : tie.Need-add-t8
-add-t8 c = let p = path-is (c .before .before) in omega (arith, p .0, p .1, c .times-len .ensures .1, c .before .subspace-len .ensures .1)
+add-t8 c = let p = path-is (c .before .before) in omega (arith, p .0, p .1, c .relative-len-of-encoding .ensures .1, c .before .subspace-len .ensures .1)
 
 add-t9 : tie.Need-add-t9
-add-t9 c = let p = path-is (c .before .before) in omega (arith, p .0, p .1, c .times-len .ensures .1, c .before .subspace-len .ensures .1)
+add-t9 c = let p = path-is (c .before .before) in omega (arith, p .0, p .1, c .relative-len-of-encoding .ensures .1, c .before .subspace-len .ensures .1)
 
 returns-2 : tie.Need-returns-2
 returns-2 c =
     let a = c .before .before .before .before .before .before .args in
-    length-allowed (againstArea (a .reference)) (a .area) _ (c .before .before .before .before .before .before .pre) (area-long (a .reference) (a .area) _ _ _ (c .before .subspace-len .ensures .0) (c .times-len .ensures .0) (path-is (c .before .before) .0))
+    length-allowed (againstArea (a .reference)) (a .area) _ (c .before .before .before .before .before .before .pre) (area-long (a .reference) (a .area) _ _ _ (c .before .subspace-len .ensures .0) (c .relative-len-of-encoding .ensures .0) (path-is (c .before .before) .0))
 
 pub len-inside-spec : {M : Type 1} → statement M
 len-inside-spec =
@@ -62,7 +62,7 @@ len-inside-spec =
     enum-known-path
     returns
     subspace-len-requires
-    times-len-requires
+    relative-len-of-encoding-requires
     add-t7
     add-t8
     add-t9

@@ -12,8 +12,8 @@ use Rattle.codec.specs.declared.Decoded.{Decoded}
 use Rattle.codec.proofs.Answers.{gives-refused, later-accepted, later-refused}
 use Rattle.codec.proofs.Lending.{to-end}
 use Rattle.grouping.specs.Record.{areaOf, areaFrom, wellFormedArea}
-use Rattle.area_area.specs.declared.Header.{Header}
-use Rattle.area_area.specs.Header.{unpackHeader, spareBits}
+use Rattle.area_times.specs.declared.Header.{Header}
+use Rattle.area_times.specs.Header.{unpackHeader, spareBits}
 use Rattle.area_area.specs.Area.{readParts}
 use Rattle.area_area.specs.Records.{readAgainstArea}
 use Rattle.area_area.specs.Answers.{GivesArea, refusal}

@@ -14,8 +14,8 @@ use Rattle.codec.proofs.Lending.{to-end}
 use Rattle.grouping.specs.Record.{areaOf, wellFormedArea}
 use Rattle.entry.specs.Record.{entryFrom}
 use Rattle.entry.specs.Answers.{GivesEntry, refusal}
-use Rattle.entry_area.specs.declared.Header.{Header}
-use Rattle.entry_area.specs.Header.{unpackHeader}
+use Rattle.entry_end.specs.declared.Header.{Header}
+use Rattle.entry_end.specs.Header.{unpackHeader}
 use Rattle.entry_area.specs.Entry.{readParts}
 use Rattle.entry_area.specs.Records.{readAgainstNamespaceArea}
 use Rattle.entry_area.proofs.Entry.{parts-bounded}

@@ -13,8 +13,8 @@ use Rattle.codec.proofs.Bounded.{mapped-bounded}
 use Rattle.codec.proofs.Lending.{to-end}
 use Rattle.entry.specs.Record.{entryOf, entryFrom, wellFormedEntry}
 use Rattle.entry.specs.Answers.{GivesEntry, refusal}
-use Rattle.entry_entry.specs.declared.Header.{Header}
-use Rattle.entry_entry.specs.Header.{unpackHeader}
+use Rattle.entry_numbers.specs.declared.Header.{Header}
+use Rattle.entry_numbers.specs.Header.{unpackHeader}
 use Rattle.entry_entry.specs.Entry.{readParts}
 use Rattle.entry_entry.specs.Records.{readAgainstEntry}
 use Rattle.entry_entry.proofs.Entry.{parts-bounded}

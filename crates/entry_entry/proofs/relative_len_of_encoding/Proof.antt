@@ -37,26 +37,26 @@ returns c =
 ids-len-requires : tie.Need-ids-len-requires
 ids-len-requires c κs = search needs
 
-numbers-len-requires : tie.Need-numbers-len-requires
-numbers-len-requires c κs = search needs
+relative-len-of-encoding-requires-2 : tie.Need-relative-len-of-encoding-requires-2
+relative-len-of-encoding-requires-2 c κs = search needs
 
 add-t7 : tie.Need-add-t7
 add-t7 c = let p = path-is (c .before .before) in omega (arith, p .1, p .2)
 
 add-t8 : tie.Need-add-t8
-add-t8 c = let p = path-is (c .before .before) in omega (arith, p .1, p .2, c .numbers-len .ensures .1)
+add-t8 c = let p = path-is (c .before .before) in omega (arith, p .1, p .2, c .relative-len-of-encoding2 .ensures .1)
 
 add-t9 : tie.Need-add-t9
-add-t9 c = let p = path-is (c .before .before) in omega (arith, p .1, p .2, c .numbers-len .ensures .1, c .before .ids-len .ensures .1)
+add-t9 c = let p = path-is (c .before .before) in omega (arith, p .1, p .2, c .relative-len-of-encoding2 .ensures .1, c .before .ids-len .ensures .1)
 
 add-t10 : tie.Need-add-t10
-add-t10 c = let p = path-is (c .before .before) in omega (arith, p .1, p .2, c .numbers-len .ensures .1, c .before .ids-len .ensures .1)
+add-t10 c = let p = path-is (c .before .before) in omega (arith, p .1, p .2, c .relative-len-of-encoding2 .ensures .1, c .before .ids-len .ensures .1)
 
 returns-2 : tie.Need-returns-2
 returns-2 c =
     let a = c .before .before .before .before .before .before .args in
     let p = path-is (c .before .before) in
-    length-allowed (againstEntry (a .reference)) (a .entry) _ (p .0) (entry-long (a .reference) (a .entry) _ _ _ (c .before .ids-len .ensures .0) (c .numbers-len .ensures .0) (p .1) (typed-entry (a .entry) (c .before .before .before .before .before .before .good .0) .digest .0))
+    length-allowed (againstEntry (a .reference)) (a .entry) _ (p .0) (entry-long (a .reference) (a .entry) _ _ _ (c .before .ids-len .ensures .0) (c .relative-len-of-encoding2 .ensures .0) (p .1) (typed-entry (a .entry) (c .before .before .before .before .before .before .good .0) .digest .0))
 
 pub relative-len-of-encoding-spec : {M : Type 1} → statement M
 relative-len-of-encoding-spec =
@@ -66,7 +66,7 @@ relative-len-of-encoding-spec =
     enum-known-path
     returns
     ids-len-requires
-    numbers-len-requires
+    relative-len-of-encoding-requires-2
     add-t7
     add-t8
     add-t9

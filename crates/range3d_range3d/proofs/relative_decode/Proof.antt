@@ -14,7 +14,7 @@ use Rattle.codec.proofs.Lending.{to-end}
 use Rattle.range_3d.specs.declared.Range3d.{Range3d}
 use Rattle.range_3d.specs.Record.{rangeOf, rangeFrom, wellFormedRange3d}
 use Rattle.range3d_range3d.specs.Answers.{GivesRange, refusal}
-use Rattle.range3d_range3d.specs.Header.{unpackHeader}
+use Rattle.range_header.specs.Header.{unpackHeader}
 use Rattle.range3d_range3d.specs.Range.{readParts}
 use Rattle.range3d_range3d.specs.Records.{readAgainstRange}
 use Rattle.range3d_range3d.proofs.Range.{parts-bounded}

@@ -13,11 +13,12 @@ use Rattle.path.specs.Record.{wellFormed}
 use Rattle.path_relative.specs.Records.{readExtendsPath}
 use Rattle.grouping.specs.declared.Area.{Area}
 use Rattle.grouping.specs.Record.{subspaceOf, subspaceFrom, areaOf, areaFrom, wellFormedSubspace, wellFormedArea}
-use Rattle.area_area.specs.Area.{readSubspace, readTimes, readParts}
+use Rattle.area_times.specs.Times.{readTimes}
+use Rattle.area_times.proofs.Times.{times-bounded}
+use Rattle.area_area.specs.Area.{readSubspace, readParts}
 use Rattle.area_area.specs.Answers.{refusal}
 use Rattle.area_area.proofs.Area.{parts-bounded}
 use Rattle.area_area.proofs.Subspace.{subspace-bounded}
-use Rattle.area_area.proofs.Times.{times-bounded}
 use Rattle.area_area.proofs.DecodeExits.{parts-subspace, parts-times, parts-path, parts-read}
 use Rattle.codec.proofs.Bounded.{mapped-bounded}
 use borrow.Author.Needs.{needs}
@@ -33,13 +34,13 @@ subspace-inside c =
     let a = c .before .before .before .before .before .args in
     mapped-bounded subspaceFrom _ (subspace-bounded (subspaceOf (a .reference .subspace)) (a .header .«id_written») (a .canonic)) .bound (now (a .message)) _ _ (subspace-is c)
 
-times-told : (c : tie.After-decode-times) → let a = c .before .before .before .before .before .before .before .args in
-    answerOf (c .decode-times .result .answer) (c .decode-times .result .times) ≡ readTimes (a .canonic) (a .reference .times) (a .header) (drop (c .before .before .before .first-answer .given .0 .0) (now (a .message)))
-times-told c = rw (to-end (c .before .before .before .first-answer .given .0 .0) (now (c .before .before .before .before .before .before .before .args .message))) at (c .decode-times .ensures)
+times-told : (c : tie.After-relative-decode) → let a = c .before .before .before .before .before .before .before .args in
+    answerOf (c .relative-decode .result .answer) (c .relative-decode .result .times) ≡ readTimes (a .canonic) (a .reference .times) (a .header) (drop (c .before .before .before .first-answer .given .0 .0) (now (a .message)))
+times-told c = rw (to-end (c .before .before .before .first-answer .given .0 .0) (now (c .before .before .before .before .before .before .before .args .message))) at (c .relative-decode .ensures .answer)
 
 times-are : (c : tie.After-known-told2) → let a = c .before .before .before .before .before .before .before .before .before .before .args in
-    readTimes (a .canonic) (a .reference .times) (a .header) (drop (c .before .before .before .before .before .before .first-answer .given .0 .0) (now (a .message))) ≡ accepted (c .before .before .before .decode-times .result .times) (c .before .second-answer .given .0 .0)
-times-are c = sym (times-told (c .before .before .before)) ∙ ap (λ (d : Decoded). answerOf d (c .before .before .before .decode-times .result .times)) (c .before .second-answer .given .1)
+    readTimes (a .canonic) (a .reference .times) (a .header) (drop (c .before .before .before .before .before .before .first-answer .given .0 .0) (now (a .message))) ≡ accepted (c .before .before .before .relative-decode .result .times) (c .before .second-answer .given .0 .0)
+times-are c = sym (times-told (c .before .before .before)) ∙ ap (λ (d : Decoded). answerOf d (c .before .before .before .relative-decode .result .times)) (c .before .second-answer .given .1)
 
 times-inside : (c : tie.After-known-told2) → c .before .before .before .before .before .before .first-answer .given .0 .0 + c .before .second-answer .given .0 .0 ≤ length (now (c .before .before .before .before .before .before .before .before .before .before .args .message))
 times-inside c =
@@ -53,7 +54,7 @@ path-told : (c : tie.After-decode-path-extends-path) → let a = c .before .befo
 path-told c = rw (to-end (c .before .before .before .before .before .before .before .before .first-answer .given .0 .0 + c .before .before .before .second-answer .given .0 .0) (now (c .before .before .before .before .before .before .before .before .before .before .before .before .args .message))) at (c .decode-path-extends-path .ensures .answer)
 
 abbrev read-area : tie.After-times → Area
-read-area c = record { subspace = c .before .before .before .before .before .before .before .before .before .before .before .before .before .before .before .before .decode-subspace .result .subspace; path = c .before .before .before .before .before .before .decode-path-extends-path .result .path; times = c .before .before .before .before .before .before .before .before .before .before .before .decode-times .result .times }
+read-area c = record { subspace = c .before .before .before .before .before .before .before .before .before .before .before .before .before .before .before .before .decode-subspace .result .subspace; path = c .before .before .before .before .before .before .decode-path-extends-path .result .path; times = c .before .before .before .before .before .before .before .before .before .before .before .relative-decode .result .times }
 
 area-is : (c : tie.After-times) → let a = c .before .before .before .before .before .before .before .before .before .before .before .before .before .before .before .before .before .before .args in
     mapped areaFrom (readParts (a .canonic) (areaOf (a .reference)) (a .header)) (now (a .message))
@@ -84,17 +85,17 @@ returns c =
     let x = no-value (c .before .before .decode-subspace .result .answer) (c .before .match .keys2) in
     rw (c .refuse .ensures) (gives-refused (x .why) (x .beside _) (parts-subspace (a .canonic) (a .reference) (c .before .before .before .before .pre) (a .header) (now (a .message)) (x .why) (sym (c .before .before .decode-subspace .ensures) ∙ x .beside _)))
 
-sub-decode-times : tie.Need-sub-decode-times
-sub-decode-times c = omega (arith, subspace-inside c)
+sub-relative-decode : tie.Need-sub-relative-decode
+sub-relative-decode c = omega (arith, subspace-inside c)
 
-part-decode-times-start : tie.Need-part-decode-times-start
-part-decode-times-start c = omega (arith, subspace-inside c)
+part-relative-decode-start : tie.Need-part-relative-decode-start
+part-relative-decode-start c = omega (arith, subspace-inside c)
 
-part-decode-times-end : tie.Need-part-decode-times-end
-part-decode-times-end c = search needs
+part-relative-decode-end : tie.Need-part-relative-decode-end
+part-relative-decode-end c = search needs
 
-decode-times-requires : tie.Need-decode-times-requires
-decode-times-requires c κs = search needs
+relative-decode-requires : tie.Need-relative-decode-requires
+relative-decode-requires c κs = search needs
 
 enum-known-second-answer : tie.Need-enum-known-second-answer
 enum-known-second-answer c = search needs
@@ -106,7 +107,7 @@ returns-2 : tie.Need-returns-2
 unfolding refusal
 returns-2 c =
     let a = c .before .before .before .before .before .before .before .before .before .args in
-    let x = no-value (c .before .before .decode-times .result .answer) (c .before .match2 .keys2) in
+    let x = no-value (c .before .before .relative-decode .result .answer) (c .before .match2 .keys2) in
     rw (c .refuse2 .ensures) (gives-refused (x .why) (x .beside _) (parts-times (a .canonic) (a .reference) (c .before .before .before .before .before .before .before .before .before .pre) (a .header) (now (a .message)) _ _ (subspace-is (c .before .before .before .before)) (x .why) (sym (times-told (c .before .before)) ∙ x .beside _)))
 
 add-at : tie.Need-add-at
@@ -154,10 +155,10 @@ decode-parts-spec =
     enum-known-first-answer
     refuse-requires
     returns
-    sub-decode-times
-    part-decode-times-start
-    part-decode-times-end
-    decode-times-requires
+    sub-relative-decode
+    part-relative-decode-start
+    part-relative-decode-end
+    relative-decode-requires
     enum-known-second-answer
     refuse-requires-2
     returns-2

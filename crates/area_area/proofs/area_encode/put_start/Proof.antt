@@ -1,24 +1,25 @@
 use mathlib.Core.Path.{ap, _∙_}
 use native.Mathlib.Omega.{arith}
 use mathlib.Core.List.{_∷_}
+use mathlib.Core.Bool.{Bool}
 use Prim.Native.Nat.{ℕ}
 use denote.Ref.{now}
 use lib.ListN.{set, length-set, length-drop}
 use Rattle.codec.specs.Format.{over}
 use Rattle.codec.proofs.Lending.{over-cons, to-end, put-end, put-end-long}
-use Rattle.grouping.specs.Record.{subspaceOf, areaOf}
-use Rattle.area_area.specs.Header.{packHeader}
+use Rattle.grouping.specs.Record.{subspaceOf}
+use Rattle.area_times.specs.Header.{packHeader}
+use Rattle.area_times.specs.Times.{headerOf}
 use Rattle.area_area.specs.Area.{subspaceBytes}
-use Rattle.area_area.proofs.Area.{header-fits}
 use borrow.Author.Needs.{needs}
 use Rattle.area_area.proofs.area_encode.put_start.Statement.{statement}
 use Rattle.area_area.proofs.area_encode.put_start.Tie as tie
 
-header-of-requires : tie.Need-header-of-requires
-header-of-requires c κs = search needs
+id-written-requires : tie.Need-id-written-requires
+id-written-requires c κs = search needs
 
-pack-requires : tie.Need-pack-requires
-pack-requires c κs = let a = c .before .before .args in rw (c .header-of .ensures) (header-fits (areaOf (a .reference)) (areaOf (a .area)))
+header-byte-requires : tie.Need-header-byte-requires
+header-byte-requires c κs = search needs
 
 slice-write-buffer : tie.Need-slice-write-buffer
 slice-write-buffer c = omega (arith, c .before .before .before .pre)
@@ -34,7 +35,7 @@ part-put-subspace-end c = search needs
 
 put-subspace-requires : tie.Need-put-subspace-requires
 put-subspace-requires c κs =
-    let l = set (now (c .before .before .before .before .args .buffer)) 0 (c .before .pack .result) in
+    let l = set (now (c .before .before .before .before .args .buffer)) 0 (c .before .header-byte .result) in
     rw (to-end 1 l, length-drop, length-set) (omega (arith, c .before .before .before .before .pre))
 
 add-result : tie.Need-add-result
@@ -43,27 +44,27 @@ add-result c = omega (arith, c .before .before .put-subspace .ensures .0, c .bef
 same-length : tie.Need-same-length
 same-length c =
     let l = now (c .before .before .before .before .before .before .before .args .buffer) in
-    let h = c .before .before .before .before .pack .result in
+    let h = c .before .before .before .before .header-byte .result in
     put-end-long 1 (set l 0 h) (c .before .before .put-subspace .last .0) (rw length-set (omega (arith, c .before .before .before .before .before .before .before .pre))) (c .before .before .put-subspace .kept .0) ∙ length-set l 0 h
 
 returns : tie.Need-returns
 returns c =
     let a = c .before .before .before .before .before .before .before .args in
     let l = now (a .buffer) in
-    let h = c .before .before .before .before .pack in
+    let h = c .before .before .before .before .header-byte in
     let w = c .before .before .put-subspace in
     let s = subspaceBytes (subspaceOf (a .reference .subspace)) (subspaceOf (a .area .subspace)) in
     let rest = rw (to-end 1 (set l 0 (h .result))) at (w .ensures .1) in (
       omega (arith, w .ensures .0),
-      put-end 1 (set l 0 (h .result)) (w .last .0) ∙ rw rest (over-cons l s (h .result) (omega (arith, c .before .before .before .before .before .before .before .pre))) ∙ ap (λ (b : ℕ). over (b ∷ s) l) (h .ensures ∙ ap packHeader (c .before .before .before .before .before .header-of .ensures)),
+      put-end 1 (set l 0 (h .result)) (w .last .0) ∙ rw rest (over-cons l s (h .result) (omega (arith, c .before .before .before .before .before .before .before .pre))) ∙ ap (λ (b : ℕ). over (b ∷ s) l) (h .ensures ∙ ap (λ (w : Bool). packHeader (headerOf w (a .reference .times) (a .area .times))) (c .before .before .before .before .before .id-written .ensures)),
     )
 
 pub put-start-spec : {M : Type 1} → statement M
 put-start-spec =
     tie.close
     (tie.spec
-    header-of-requires
-    pack-requires
+    id-written-requires
+    header-byte-requires
     slice-write-buffer
     sub-put-subspace
     part-put-subspace-start

@@ -14,7 +14,8 @@ use Rattle.path.specs.Record.{componentsOf, pathFrom, wellFormed}
 use Rattle.path_relative.specs.Against.{readAgainst}
 use Rattle.grouping.specs.Record.{subspaceOf, wellFormedSubspace, wellFormedArea}
 use Rattle.entry.specs.Answers.{refusal}
-use Rattle.entry_area.specs.Entry.{readId, readEnd}
+use Rattle.entry_end.specs.End.{readEnd}
+use Rattle.entry_area.specs.Entry.{readId}
 use Rattle.entry_area.proofs.DecodeExits.{parts-id, id-inside, parts-path, path-inside, parts-end, parts-read, parts-inside}
 use borrow.Author.Needs.{needs}
 use Rattle.entry_area.proofs.entry_decode.decode_parts.Statement.{statement}
@@ -44,13 +45,13 @@ path-in c =
     let a = c .before .before .before .before .before .before .before .before .before .before .args in
     path-inside (a .canonic) (a .namespace) (a .area) (a .header) (now (a .message)) _ _ (id-is (c .before .before .before .before .before)) _ _ (path-is c)
 
-end-told : (c : tie.After-decode-end) → let a = c .before .before .before .before .before .before .before .before .before .before .before .before .args in
-    answerOf (c .decode-end .result .answer) (c .decode-end .result .end) ≡ readEnd (a .canonic) (a .area .times) (a .header) (drop (c .before .before .before .before .before .before .before .before .first-answer .given .0 .0 + c .before .before .before .second-answer .given .0 .0) (now (a .message)))
-end-told c = rw (to-end (c .before .before .before .before .before .before .before .before .first-answer .given .0 .0 + c .before .before .before .second-answer .given .0 .0) (now (c .before .before .before .before .before .before .before .before .before .before .before .before .args .message))) at (c .decode-end .ensures)
+end-told : (c : tie.After-relative-decode) → let a = c .before .before .before .before .before .before .before .before .before .before .before .before .args in
+    answerOf (c .relative-decode .result .answer) (c .relative-decode .result .end) ≡ readEnd (a .canonic) (a .area .times) (a .header) (drop (c .before .before .before .before .before .before .before .before .first-answer .given .0 .0 + c .before .before .before .second-answer .given .0 .0) (now (a .message)))
+end-told c = rw (to-end (c .before .before .before .before .before .before .before .before .first-answer .given .0 .0 + c .before .before .before .second-answer .given .0 .0) (now (c .before .before .before .before .before .before .before .before .before .before .before .before .args .message))) at (c .relative-decode .ensures .answer)
 
 end-is : (c : tie.After-known-told3) → let a = c .before .before .before .before .before .before .before .before .before .before .before .before .before .before .before .args in
-    readEnd (a .canonic) (a .area .times) (a .header) (drop (c .before .before .before .before .before .before .before .before .before .before .before .first-answer .given .0 .0 + c .before .before .before .before .before .before .second-answer .given .0 .0) (now (a .message))) ≡ accepted (c .before .before .before .decode-end .result .end) (c .before .third-answer .given .0 .0)
-end-is c = sym (end-told (c .before .before .before)) ∙ ap (λ (d : Decoded). answerOf d (c .before .before .before .decode-end .result .end)) (c .before .third-answer .given .1)
+    readEnd (a .canonic) (a .area .times) (a .header) (drop (c .before .before .before .before .before .before .before .before .before .before .before .first-answer .given .0 .0 + c .before .before .before .before .before .before .second-answer .given .0 .0) (now (a .message))) ≡ accepted (c .before .before .before .relative-decode .result .end) (c .before .third-answer .given .0 .0)
+end-is c = sym (end-told (c .before .before .before)) ∙ ap (λ (d : Decoded). answerOf d (c .before .before .before .relative-decode .result .end)) (c .before .third-answer .given .1)
 
 inside : (c : tie.After-known-told3) → c .before .before .before .before .before .before .before .before .before .before .before .first-answer .given .0 .0 + (c .before .before .before .before .before .before .second-answer .given .0 .0 + c .before .third-answer .given .0 .0) ≤ length (now (c .before .before .before .before .before .before .before .before .before .before .before .before .before .before .before .args .message))
 inside c =
@@ -104,17 +105,17 @@ returns-2 c =
 add-at : tie.Need-add-at
 add-at c = omega (arith, path-in c)
 
-sub-decode-end : tie.Need-sub-decode-end
-sub-decode-end c = path-in c
+sub-relative-decode : tie.Need-sub-relative-decode
+sub-relative-decode c = path-in c
 
-part-decode-end-start : tie.Need-part-decode-end-start
-part-decode-end-start c = omega (arith, path-in c)
+part-relative-decode-start : tie.Need-part-relative-decode-start
+part-relative-decode-start c = omega (arith, path-in c)
 
-part-decode-end-end : tie.Need-part-decode-end-end
-part-decode-end-end c = search needs
+part-relative-decode-end : tie.Need-part-relative-decode-end
+part-relative-decode-end c = search needs
 
-decode-end-requires : tie.Need-decode-end-requires
-decode-end-requires c κs = search needs
+relative-decode-requires : tie.Need-relative-decode-requires
+relative-decode-requires c κs = search needs
 
 enum-known-third-answer : tie.Need-enum-known-third-answer
 enum-known-third-answer c = search needs
@@ -126,7 +127,7 @@ returns-3 : tie.Need-returns-3
 unfolding refusal
 returns-3 c =
     let a = c .before .before .before .before .before .before .before .before .before .before .before .before .before .before .args in
-    let x = no-value (c .before .before .decode-end .result .answer) (c .before .match3 .keys2) in
+    let x = no-value (c .before .before .relative-decode .result .answer) (c .before .match3 .keys2) in
     rw (c .refuse3 .ensures) (gives-refused (x .why) (x .beside _) (parts-end (a .canonic) (a .namespace) (a .area) (a .header) (now (a .message)) _ _ (id-is (c .before .before .before .before .before .before .before .before .before)) _ _ (path-is (c .before .before .before .before)) (x .why) (sym (end-told (c .before .before)) ∙ x .beside _)))
 
 add-t21 : tie.Need-add-t21
@@ -156,10 +157,10 @@ decode-parts-spec =
     refuse-requires-2
     returns-2
     add-at
-    sub-decode-end
-    part-decode-end-start
-    part-decode-end-end
-    decode-end-requires
+    sub-relative-decode
+    part-relative-decode-start
+    part-relative-decode-end
+    relative-decode-requires
     enum-known-third-answer
     refuse-requires-3
     returns-3

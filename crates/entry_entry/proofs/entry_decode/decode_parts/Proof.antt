@@ -11,7 +11,8 @@ use Rattle.codec.proofs.Answers.{gives-accepted, gives-refused, no-value}
 use Rattle.codec.proofs.Lending.{to-end}
 use Rattle.entry.specs.Record.{entryOf, wellFormedEntry}
 use Rattle.entry.specs.Answers.{refusal}
-use Rattle.entry_entry.specs.Entry.{readIds, readNumbers}
+use Rattle.entry_numbers.specs.Numbers.{readNumbers}
+use Rattle.entry_entry.specs.Entry.{readIds}
 use Rattle.entry_entry.specs.Records.{readEndOf}
 use Rattle.entry_entry.proofs.DecodeExits.{first-inside, second-inside, parts-ids, parts-numbers, parts-end, parts-read, parts-inside}
 use borrow.Author.Needs.{needs}
@@ -25,13 +26,13 @@ ids-is c = sym (c .before .before .before .decode-ids .ensures) ∙ ap (λ (d : 
 ids-in : (c : tie.After-known-told) → c .before .first-answer .given .0 .0 ≤ length (now (c .before .before .before .before .before .args .message))
 ids-in c = let a = c .before .before .before .before .before .args in first-inside (a .reference) (a .header) (now (a .message)) _ _ (ids-is c)
 
-numbers-told : (c : tie.After-decode-numbers) → let a = c .before .before .before .before .before .before .before .args in
-    answerOf (c .decode-numbers .result .answer) (c .decode-numbers .result .numbers) ≡ readNumbers (a .reference .timestamp) (a .header) (drop (c .before .before .before .first-answer .given .0 .0) (now (a .message)))
-numbers-told c = rw (to-end (c .before .before .before .first-answer .given .0 .0) (now (c .before .before .before .before .before .before .before .args .message))) at (c .decode-numbers .ensures)
+numbers-told : (c : tie.After-relative-decode) → let a = c .before .before .before .before .before .before .before .args in
+    answerOf (c .relative-decode .result .answer) (c .relative-decode .result .numbers) ≡ readNumbers (a .reference .timestamp) (a .header) (drop (c .before .before .before .first-answer .given .0 .0) (now (a .message)))
+numbers-told c = rw (to-end (c .before .before .before .first-answer .given .0 .0) (now (c .before .before .before .before .before .before .before .args .message))) at (c .relative-decode .ensures .answer)
 
 numbers-is : (c : tie.After-known-told2) → let a = c .before .before .before .before .before .before .before .before .before .before .args in
-    readNumbers (a .reference .timestamp) (a .header) (drop (c .before .before .before .before .before .before .first-answer .given .0 .0) (now (a .message))) ≡ accepted (c .before .before .before .decode-numbers .result .numbers) (c .before .second-answer .given .0 .0)
-numbers-is c = sym (numbers-told (c .before .before .before)) ∙ ap (λ (d : Decoded). answerOf d (c .before .before .before .decode-numbers .result .numbers)) (c .before .second-answer .given .1)
+    readNumbers (a .reference .timestamp) (a .header) (drop (c .before .before .before .before .before .before .first-answer .given .0 .0) (now (a .message))) ≡ accepted (c .before .before .before .relative-decode .result .numbers) (c .before .second-answer .given .0 .0)
+numbers-is c = sym (numbers-told (c .before .before .before)) ∙ ap (λ (d : Decoded). answerOf d (c .before .before .before .relative-decode .result .numbers)) (c .before .second-answer .given .1)
 
 numbers-in : (c : tie.After-known-told2) → c .before .before .before .before .before .before .first-answer .given .0 .0 + c .before .second-answer .given .0 .0 ≤ length (now (c .before .before .before .before .before .before .before .before .before .before .args .message))
 numbers-in c = let a = c .before .before .before .before .before .before .before .before .before .before .args in second-inside (a .reference) (a .header) (now (a .message)) _ _ (ids-is (c .before .before .before .before .before)) _ _ (numbers-is c)
@@ -67,17 +68,17 @@ returns c =
     let x = no-value (c .before .before .decode-ids .result .answer) (c .before .match .keys2) in
     rw (c .refuse .ensures) (gives-refused (x .why) (x .beside _) (parts-ids (a .reference) (a .header) (now (a .message)) (x .why) (sym (c .before .before .decode-ids .ensures) ∙ x .beside _)))
 
-sub-decode-numbers : tie.Need-sub-decode-numbers
-sub-decode-numbers c = ids-in c
+sub-relative-decode : tie.Need-sub-relative-decode
+sub-relative-decode c = ids-in c
 
-part-decode-numbers-start : tie.Need-part-decode-numbers-start
-part-decode-numbers-start c = omega (arith, ids-in c)
+part-relative-decode-start : tie.Need-part-relative-decode-start
+part-relative-decode-start c = omega (arith, ids-in c)
 
-part-decode-numbers-end : tie.Need-part-decode-numbers-end
-part-decode-numbers-end c = search needs
+part-relative-decode-end : tie.Need-part-relative-decode-end
+part-relative-decode-end c = search needs
 
-decode-numbers-requires : tie.Need-decode-numbers-requires
-decode-numbers-requires c κs = search needs
+relative-decode-requires : tie.Need-relative-decode-requires
+relative-decode-requires c κs = search needs
 
 enum-known-second-answer : tie.Need-enum-known-second-answer
 enum-known-second-answer c = search needs
@@ -89,7 +90,7 @@ returns-2 : tie.Need-returns-2
 unfolding refusal
 returns-2 c =
     let a = c .before .before .before .before .before .before .before .before .before .args in
-    let x = no-value (c .before .before .decode-numbers .result .answer) (c .before .match2 .keys2) in
+    let x = no-value (c .before .before .relative-decode .result .answer) (c .before .match2 .keys2) in
     rw (c .refuse2 .ensures) (gives-refused (x .why) (x .beside _) (parts-numbers (a .reference) (a .header) (now (a .message)) _ _ (ids-is (c .before .before .before .before)) (x .why) (sym (numbers-told (c .before .before)) ∙ x .beside _)))
 
 add-at : tie.Need-add-at
@@ -140,10 +141,10 @@ decode-parts-spec =
     enum-known-first-answer
     refuse-requires
     returns
-    sub-decode-numbers
-    part-decode-numbers-start
-    part-decode-numbers-end
-    decode-numbers-requires
+    sub-relative-decode
+    part-relative-decode-start
+    part-relative-decode-end
+    relative-decode-requires
     enum-known-second-answer
     refuse-requires-2
     returns-2

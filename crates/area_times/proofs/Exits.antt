@@ -1,0 +1,63 @@
+-- What the definitions say at each exit of the code.
+use mathlib.Core.Path.{_≡_}
+use mathlib.Core.List.{List, _++_, append-nil}
+use mathlib.Core.Bool.{Bool, true, false}
+use Prim.Native.Nat.{ℕ, _+_}
+use lib.ListN.{drop}
+use Rattle.codec.specs.Answers.{accepted, refused}
+use Rattle.compact_u64.specs.Number.{numberBytes}
+use Rattle.grouping.specs.declared.RangeEnd.{RangeEnd}
+use Rattle.grouping.specs.declared.RangeEnd.the-variants.{Closed, Open}
+use Rattle.grouping.specs.declared.TimeRange.{TimeRange}
+use Rattle.grouping.specs.Range.{includesRange}
+use Rattle.time_relative.specs.Difference.{differenceOf, readTime}
+use Rattle.area_times.specs.declared.Header.{Header}
+use Rattle.area_times.specs.Times.{timesBytes, readEnd, timesFrom, readTimes}
+
+-- ---- reading
+module _ (canonic : Bool) (r : TimeRange) (h : Header) (s : List ℕ) where
+  module _ (o : h .«end_open» ≡ true) where
+    pub end-fault : h .«end_added» ≡ true → readEnd canonic r h s ≡ refused 2
+    unfolding readEnd
+    end-fault a = rw (o, a)
+
+    pub end-open : h .«end_added» ≡ false → readEnd canonic r h s ≡ accepted Open 0
+    unfolding readEnd
+    end-open a = rw (o, a)
+
+  module _ (o : h .«end_open» ≡ false) where
+    pub end-refused : (k : ℕ) → readTime canonic r (h .«end_added») (h .«end_tag») s ≡ refused k → readEnd canonic r h s ≡ refused k
+    unfolding readEnd
+    end-refused k e = rw (o, e)
+
+    pub end-read : (x n : ℕ) → readTime canonic r (h .«end_added») (h .«end_tag») s ≡ accepted x n → readEnd canonic r h s ≡ accepted (Closed x) n
+    unfolding readEnd
+    end-read x n e = rw (o, e)
+
+  pub times-start : (k : ℕ) → readTime canonic r (h .«start_added») (h .«start_tag») s ≡ refused k → readTimes canonic r h s ≡ refused k
+  unfolding readTimes
+  times-start k e = rw e
+
+  module _ (x a : ℕ) (e : readTime canonic r (h .«start_added») (h .«start_tag») s ≡ accepted x a) where
+    pub times-end : (k : ℕ) → readEnd canonic r h (drop a s) ≡ refused k → readTimes canonic r h s ≡ refused k
+    unfolding readTimes
+    times-end k f = rw (e, f)
+
+    module _ (y : RangeEnd) (b : ℕ) (f : readEnd canonic r h (drop a s) ≡ accepted y b) where
+      pub times-outside : includesRange r (timesFrom x y) ≡ false → readTimes canonic r h s ≡ refused 2
+      unfolding readTimes
+      times-outside i = rw (e, f, i)
+
+      pub times-read : includesRange r (timesFrom x y) ≡ true → readTimes canonic r h s ≡ accepted (timesFrom x y) (a + b)
+      unfolding readTimes
+      times-read i = rw (e, f, i)
+
+-- ---- writing
+module _ (r t : TimeRange) where
+  pub times-open : t .end ≡ Open → timesBytes r t ≡ numberBytes 2 (differenceOf r (t .start) .difference)
+  unfolding timesBytes
+  times-open e = rw e (append-nil _)
+
+  pub times-closed : (x : ℕ) → t .end ≡ Closed x → timesBytes r t ≡ numberBytes 2 (differenceOf r (t .start) .difference) ++ numberBytes 2 (differenceOf r x .difference)
+  unfolding timesBytes
+  times-closed x e = rw e

@@ -1,0 +1,174 @@
+-- The laws of an area's times against the reference's.
+use mathlib.Core.Path.{_≡_, refl, sym, ap, _∙_}
+use mathlib.Core.List.{List}
+use mathlib.Core.Bool.{Bool, true, false, _&&_, _||_, not, true≢false, false≢true}
+use Prim.Native.Nat.{ℕ}
+use lib.Dec.{leb, eqb}
+use borrow.Author.Tests.{le-leb, eqb-true}
+use Rattle.codec.specs.Reader.{give}
+use Rattle.codec.specs.Reads.{Reads, Relaxes, Bounded, Nothing, Tested, Mapped, Joined, Either}
+use Rattle.codec.proofs.Tests.{and-right}
+use Rattle.codec.proofs.Readers.{reads-as, choose-reads, then-reads, guard-reads, mapped-reads, checked-reads, give-reads}
+use Rattle.codec.proofs.Relaxes.{relaxes-self, choose-relaxes, then-relaxes, mapped-relaxes, checked-relaxes}
+use Rattle.codec.proofs.Bounded.{choose-bounded, then-bounded, guard-bounded, mapped-bounded, checked-bounded, give-bounded}
+use Rattle.compact_u64.specs.Number.{minTag, numberBytes}
+use Rattle.grouping.specs.declared.RangeEnd.{RangeEnd}
+use Rattle.grouping.specs.declared.RangeEnd.the-variants.{Closed, Open}
+use Rattle.grouping.specs.declared.TimeRange.{TimeRange}
+use Rattle.grouping.specs.Range.{TypedRange, top, endValue, isOpen, endAtMost, bounds, includesRange}
+use Rattle.time_relative.specs.Difference.{differenceOf, endDifference, readTime, TimeAs}
+use Rattle.time_relative.proofs.Time.{time-reads, time-relaxes, time-bounded}
+use Rattle.area_times.specs.declared.Header.{Header}
+use Rattle.area_times.specs.Header.{spareBits}
+use Rattle.area_times.specs.Times.{headerOf, timesFrom, endBytes, timesBytes, readEnd, readTimes}
+use Rattle.area_times.specs.Relations.{EndAs, TimesAs}
+
+-- ---- the header that writing gives
+pub header-spares : (id : Bool) (r t : TimeRange) → not (spareBits (headerOf id r t)) ≡ true
+unfolding headerOf spareBits minTag
+header-spares id r t = go (t .end)
+  where
+    go : (end : RangeEnd) → not (isOpen end && (endDifference r end .added || not (eqb (minTag 2 (endDifference r end .difference)) 0))) ≡ true
+    go (Closed x) = refl
+    go Open = refl
+
+pub header-is : (id : Bool) (r t : TimeRange) (h : Header) → id ≡ h .«id_written» → {e : List ℕ} → TimesAs r h t e → headerOf id r t ≡ h
+unfolding headerOf
+header-is id r t h i x = rw (i, x .endOpen, x .startAdded, x .endAdded, x .startTag, x .endTag)
+
+-- ---- the end
+-- no spare bits: an open end comes without a flag and with the tag 0
+pub no-spare : (h : Header) → spareBits h ≡ false → h .«end_open» ≡ true → (h .«end_added» ≡ false) × (h .«end_tag» ≡ 0)
+unfolding spareBits
+no-spare h e o = go (h .«end_added») (eqb (h .«end_tag») 0) refl refl (rw o at e)
+  where
+    go : (a z : Bool) → h .«end_added» ≡ a → eqb (h .«end_tag») 0 ≡ z → (a || not z) ≡ false → (h .«end_added» ≡ false) × (h .«end_tag» ≡ 0)
+    go true z p q f = absurd (true≢false f)
+    go false true p q f = (p, eqb-true (h .«end_tag») 0 q)
+    go false false p q f = absurd (true≢false f)
+
+module _ (r : TimeRange) (added : Bool) (tag : ℕ) where
+  EndRel : Bool → RangeEnd → List ℕ → Type 0
+  EndRel opens = Either opens (Tested (λ end. not added) (Nothing Open)) (Mapped Closed (TimeAs r added tag))
+
+  end-there : (opens : Bool) → (opens ≡ true → (added ≡ false) × (tag ≡ 0)) → (end : RangeEnd) (e : List ℕ) → EndRel opens end e → EndAs r opens added tag end e
+  unfolding EndRel minTag
+  end-there true q end e j = rw (← (j .1 .0), j .1 .1) (record {
+    is-open = refl;
+    near = sym (q refl .0);
+    tagged = sym (q refl .1);
+    inside = λ f. absurd (true≢false f);
+    bytes = refl;
+  })
+  end-there false q end e m =
+      let t = m .stands in
+      rw (← (m .named)) (record { is-open = refl; near = t .near; tagged = t .tagged; inside = λ f. t .inside; bytes = t .bytes })
+
+  end-back : (opens : Bool) (end : RangeEnd) (e : List ℕ) → EndAs r opens added tag end e → EndRel opens end e
+  unfolding EndRel
+  end-back true Open e a = (rw (← (a .near)), (refl, a .bytes))
+  end-back true (Closed x) e a = absurd (false≢true (a .is-open))
+  end-back false Open e a = absurd (true≢false (a .is-open))
+  end-back false (Closed x) e a = record { value = x; named = refl; stands = record { inside = a .inside refl; near = a .near; tagged = a .tagged; bytes = a .bytes } }
+
+module _ (r : TimeRange) (h : Header) where
+  end-reads : TypedRange r → spareBits h ≡ false → Reads (readEnd true r h) (EndAs r (h .«end_open») (h .«end_added») (h .«end_tag»))
+  unfolding readEnd EndRel
+  end-reads ty spare = reads-as _ _ _
+      (choose-reads (h .«end_open») _ _ _ _
+      (guard-reads (not (h .«end_added»)) (give Open) (Nothing Open) (λ ok. give-reads Open))
+      (mapped-reads Closed _ _ (time-reads r (h .«end_added») (h .«end_tag») ty)))
+      (end-there r (h .«end_added») (h .«end_tag») (h .«end_open») (no-spare h spare))
+      (end-back r (h .«end_added») (h .«end_tag») (h .«end_open»))
+
+  end-relaxes : Relaxes (readEnd true r h) (readEnd false r h)
+  unfolding readEnd
+  end-relaxes = choose-relaxes (h .«end_open») _ _ _ _ (relaxes-self _) (mapped-relaxes Closed _ _ (time-relaxes r (h .«end_added») (h .«end_tag»)))
+
+  pub end-bounded : (canonic : Bool) → Bounded (readEnd canonic r h)
+  unfolding readEnd
+  end-bounded canonic =
+      choose-bounded (h .«end_open») _ _
+      (guard-bounded (not (h .«end_added»)) _ (give-bounded Open))
+      (mapped-bounded Closed _ (time-bounded r (h .«end_added») (h .«end_tag») canonic))
+
+-- ---- both
+-- an open end that is included lies between
+open-inside : (r t : TimeRange) → TypedRange r → includesRange r t ≡ true → t .end ≡ Open → bounds r (endValue (t .end)) ≡ true
+unfolding includesRange bounds
+open-inside r t ty i o = rw o (go (r .end) refl (rw o at (and-right (leb (r .start) (t .start)) _ i)))
+  where
+    go : (end : RangeEnd) → r .end ≡ end → endAtMost Open end ≡ true → bounds r top ≡ true
+    go (Closed x) e q = absurd (false≢true q)
+    go Open e q = rw (e, le-leb (r .start) top (ty .start))
+
+is-open : (end : RangeEnd) → isOpen end ≡ true → end ≡ Open
+is-open (Closed x) e = absurd (false≢true e)
+is-open Open e = refl
+
+end-inside : (r t : TimeRange) → TypedRange r → includesRange r t ≡ true → (opens : Bool) → isOpen (t .end) ≡ opens → (opens ≡ false → bounds r (endValue (t .end)) ≡ true) → bounds r (endValue (t .end)) ≡ true
+end-inside r t ty i true o f = open-inside r t ty i (is-open (t .end) o)
+end-inside r t ty i false o f = f refl
+
+module _ (r : TimeRange) (h : Header) where
+  Rel : TimeRange → List ℕ → Type 0
+  Rel = Tested (includesRange r) (Joined (TimeAs r (h .«start_added») (h .«start_tag»)) (λ start. Mapped (timesFrom start) (EndAs r (h .«end_open») (h .«end_added») (h .«end_tag»))))
+
+  times-there : TypedRange r → (t : TimeRange) (e : List ℕ) → Rel t e → TimesAs r h t e
+  unfolding Rel timesBytes
+  times-there ty t e j =
+      let s = j .1 .first in
+      let m = j .1 .second in
+      let n = m .stands in
+      let i = ap (includesRange r) (m .named) ∙ j .0 in
+      rw (← (m .named)) (record {
+        startAdded = s .near;
+        startTag = s .tagged;
+        endOpen = n .is-open;
+        endAdded = n .near;
+        endTag = n .tagged;
+        included = i;
+        start = s .inside;
+        end = end-inside r (timesFrom (j .1 .value) (m .value)) ty i (h .«end_open») (n .is-open) (n .inside);
+        bytes = j .1 .whole ∙ rw (s .bytes, n .bytes);
+      })
+
+  times-back : (t : TimeRange) (e : List ℕ) → TimesAs r h t e → Rel t e
+  unfolding Rel timesBytes
+  times-back t e a = (
+    a .included,
+    record {
+      value = t .start;
+      front = numberBytes 2 (differenceOf r (t .start) .difference);
+      rear = endBytes r (t .end);
+      whole = a .bytes;
+      first = record { inside = a .start; near = a .startAdded; tagged = a .startTag; bytes = refl };
+      second = record {
+        value = t .end;
+        named = refl;
+        stands = record { is-open = a .endOpen; near = a .endAdded; tagged = a .endTag; inside = λ f. a .end; bytes = refl };
+      };
+    },
+  )
+
+  pub times-reads : TypedRange r → spareBits h ≡ false → Reads (readTimes true r h) (TimesAs r h)
+  unfolding readTimes Rel
+  times-reads ty spare = reads-as _ _ _
+      (checked-reads (includesRange r) _ _ (
+      then-reads (readTime true r (h .«start_added») (h .«start_tag»)) _ _ _ (time-reads r (h .«start_added») (h .«start_tag») ty) (λ start e x.
+      mapped-reads (timesFrom start) _ _ (end-reads r h ty spare))))
+      (times-there ty) times-back
+
+  pub times-relaxes : Relaxes (readTimes true r h) (readTimes false r h)
+  unfolding readTimes
+  times-relaxes =
+      checked-relaxes (includesRange r) (includesRange r) _ _ (λ t i. i) (
+      then-relaxes (readTime true r (h .«start_added») (h .«start_tag»)) (readTime false r (h .«start_added») (h .«start_tag»)) _ _ (time-relaxes r (h .«start_added») (h .«start_tag»)) (λ start.
+      mapped-relaxes (timesFrom start) _ _ (end-relaxes r h)))
+
+  pub times-bounded : (canonic : Bool) → Bounded (readTimes canonic r h)
+  unfolding readTimes
+  times-bounded canonic =
+      checked-bounded (includesRange r) _ (
+      then-bounded (readTime canonic r (h .«start_added») (h .«start_tag»)) _ (time-bounded r (h .«start_added») (h .«start_tag») canonic) (λ start.
+      mapped-bounded (timesFrom start) _ (end-bounded r h canonic)))

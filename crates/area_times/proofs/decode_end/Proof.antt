@@ -1,0 +1,48 @@
+use mathlib.Core.Path.{sym, ap, _∙_}
+use denote.Ref.{now}
+use lib.ListN.{drop}
+use Rattle.compact_u64.specs.Answers.{numberAnswer}
+use Rattle.compact_u64.proofs.Exits.{refused-number}
+use Rattle.grouping.specs.declared.RangeEnd.the-variants.{Open}
+use Rattle.area_times.proofs.Exits.{end-fault, end-open, end-refused, end-read}
+use borrow.Author.Needs.{needs}
+use Rattle.area_times.proofs.decode_end.Statement.{statement}
+use Rattle.area_times.proofs.decode_end.Tie as tie
+
+returns : tie.Need-returns
+returns c = sym (end-fault _ _ _ _ (c .before .if1 .taken) (c .if2 .taken))
+
+returns-2 : tie.Need-returns-2
+returns-2 c = sym (end-open _ _ _ _ (c .before .if1 .taken) (c .if2 .left))
+
+relative-decode-requires : tie.Need-relative-decode-requires
+relative-decode-requires c κs = search needs
+
+enum-known-read : tie.Need-enum-known-read
+enum-known-read c = search needs
+
+refusal-requires : tie.Need-refusal-requires
+refusal-requires c κs = search needs
+
+returns-3 : tie.Need-returns-3
+returns-3 c =
+    let a = c .before .before .before .before .before .args in
+    let x = refused-number Open (c .before .before .relative-decode .result) (c .before .match .keys2) in
+    rw (c .refusal .ensures) (x .whole ∙ sym (end-refused (a .canonic) (a .reference) (a .header) (drop (a .start) (now (a .message))) (c .before .before .before .if1 .left) (x .why) (sym (c .before .before .relative-decode .ensures) ∙ x .number)))
+
+returns-4 : tie.Need-returns-4
+returns-4 c =
+    let a = c .before .before .before .before .before .before .args in
+    sym (end-read (a .canonic) (a .reference) (a .header) (drop (a .start) (now (a .message))) (c .before .before .before .before .if1 .left) _ _ (sym (c .before .before .before .relative-decode .ensures) ∙ ap numberAnswer (c .before .read .given .1)))
+
+pub decode-end-spec : {M : Type 1} → statement M
+decode-end-spec =
+    tie.close
+    (tie.spec
+    returns
+    returns-2
+    relative-decode-requires
+    enum-known-read
+    refusal-requires
+    returns-3
+    returns-4)

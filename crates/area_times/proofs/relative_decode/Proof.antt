@@ -1,0 +1,91 @@
+use mathlib.Core.Path.{_≡_, refl, sym, ap, _∙_}
+use Prim.Native.Nat.{_+_}
+use native.Mathlib.Omega.{arith}
+use denote.Ref.{now}
+use lib.ListN.{drop}
+use borrow.Author.Tests.{not-true, not-false}
+use Rattle.codec.specs.Answers.{accepted, answerOf}
+use Rattle.codec.specs.declared.Decoded.{Decoded}
+use Rattle.compact_u64.specs.Answers.{numberAnswer}
+use Rattle.compact_u64.proofs.Exits.{refused-number}
+use Rattle.time_relative.specs.Difference.{readTime}
+use Rattle.area_times.specs.Times.{readEnd, timesFrom, readTimes}
+use Rattle.area_times.proofs.Exits.{times-start, times-end, times-outside, times-read}
+use Rattle.area_times.proofs.Times.{times-bounded}
+use Rattle.codec.proofs.Answers.{no-value, gives-refused, gives-accepted}
+use borrow.Author.Needs.{needs}
+use Rattle.area_times.proofs.relative_decode.Statement.{statement}
+use Rattle.area_times.proofs.relative_decode.Tie as tie
+
+start-is : (c : tie.After-known-told) → let a = c .before .before .before .before .before .args in let x = c .before .first .given .0 in
+    readTime (a .canonic) (a .reference) (a .header .«start_added») (a .header .«start_tag») (now (a .message)) ≡ accepted (x .0) (x .1 .0)
+start-is c = sym (c .before .before .before .relative-decode .ensures) ∙ ap numberAnswer (c .before .first .given .1)
+
+end-is : (c : tie.After-known-told2) → let a = c .before .before .before .before .before .before .before .before .before .args in
+    readEnd (a .canonic) (a .reference) (a .header) (drop (c .before .before .before .before .before .first .given .0 .1 .0) (now (a .message))) ≡ accepted (c .before .before .before .decode-end .result .end) (c .before .answer .given .0 .0)
+end-is c = sym (c .before .before .before .decode-end .ensures) ∙ ap (λ (d : Decoded). answerOf d (c .before .before .before .decode-end .result .end)) (c .before .answer .given .1)
+
+times-are : (c : tie.Else1) → let a = c .before .before .before .before .before .before .before .before .before .before .before .args in let x = c .before .before .before .before .before .before .before .first .given .0 in
+    readTimes (a .canonic) (a .reference) (a .header) (now (a .message)) ≡ accepted (timesFrom (x .0) (c .before .before .before .before .before .decode-end .result .end)) (x .1 .0 + c .before .before .before .answer .given .0 .0)
+times-are c =
+    let a = c .before .before .before .before .before .before .before .before .before .before .before .args in
+    times-read (a .canonic) (a .reference) (a .header) (now (a .message)) _ _ (start-is (c .before .before .before .before .before .before)) _ _ (end-is (c .before .before)) (sym (c .before .includes-range .ensures) ∙ not-false _ (c .if1 .left))
+
+relative-decode-requires : tie.Need-relative-decode-requires
+relative-decode-requires c κs = search needs
+
+enum-known-first : tie.Need-enum-known-first
+enum-known-first c = search needs
+
+refusal-requires : tie.Need-refusal-requires
+refusal-requires c κs = search needs
+
+returns : tie.Need-returns
+returns c =
+    let a = c .before .before .before .before .args in
+    let x = refused-number (a .reference) (c .before .before .relative-decode .result) (c .before .match .keys2) in
+    rw (c .refusal .ensures) (gives-refused (x .why) (x .whole) (times-start (a .canonic) (a .reference) (a .header) (now (a .message)) (x .why) (sym (c .before .before .relative-decode .ensures) ∙ x .number)))
+
+decode-end-requires : tie.Need-decode-end-requires
+decode-end-requires c κs = search needs
+
+enum-known-answer : tie.Need-enum-known-answer
+enum-known-answer c = search needs
+
+returns-2 : tie.Need-returns-2
+returns-2 c =
+    let a = c .before .before .before .before .before .before .before .args in
+    let x = no-value (c .before .decode-end .result .answer) (c .match2 .keys2) in
+    gives-refused (x .why) (x .beside (a .reference)) (times-end (a .canonic) (a .reference) (a .header) (now (a .message)) _ _ (start-is (c .before .before)) (x .why) (sym (c .before .decode-end .ensures) ∙ x .beside (c .before .decode-end .result .end)))
+
+includes-range-requires : tie.Need-includes-range-requires
+includes-range-requires c κs = search needs
+
+returns-3 : tie.Need-returns-3
+returns-3 c =
+    let a = c .before .before .before .before .before .before .before .before .before .before .before .args in
+    gives-refused 2 refl (times-outside (a .canonic) (a .reference) (a .header) (now (a .message)) _ _ (start-is (c .before .before .before .before .before .before)) _ _ (end-is (c .before .before)) (sym (c .before .includes-range .ensures) ∙ not-true _ (c .if1 .taken)))
+
+add-t17 : tie.Need-add-t17
+add-t17 c =
+    let a = c .before .before .before .before .before .before .before .before .before .before .before .args in
+    omega (arith, times-bounded (a .reference) (a .header) (a .canonic) .bound (now (a .message)) _ _ (times-are c))
+
+returns-4 : tie.Need-returns-4
+returns-4 c = gives-accepted (times-are c)
+
+pub relative-decode-spec : {M : Type 1} → statement M
+relative-decode-spec =
+    tie.close
+    (tie.spec
+    relative-decode-requires
+    enum-known-first
+    refusal-requires
+    returns
+    decode-end-requires
+    enum-known-answer
+    returns-2
+    includes-range-requires
+    returns-3
+    add-t17
+    returns-4)

@@ -1,0 +1,116 @@
+use mathlib.Core.Path.{_≡_, refl, sym, ap, _∙_}
+use mathlib.Core.List.{List, _++_}
+use Prim.Native.Nat.{ℕ, _+_, _≤_}
+use native.Mathlib.Omega.{arith}
+use denote.Ref.{now}
+use lib.ListN.{length, drop, length-append, length-drop}
+use Rattle.codec.specs.Format.{allowed, over}
+use Rattle.codec.proofs.Lending.{put-full, put-fits, put-over, over-then, to-end, put-end}
+use Rattle.compact_u64.specs.Number.{numberBytes}
+use Rattle.area_times.specs.Times.{timesBytes}
+use Rattle.area_times.proofs.Exits.{times-open, times-closed}
+use borrow.Author.Needs.{needs}
+use Rattle.area_times.proofs.relative_encode.Statement.{statement}
+use Rattle.area_times.proofs.relative_encode.Tie as tie
+
+bytes : (c : tie.After-difference2) → let a = c .before .before .before .before .before .before .before .before .before .before .before .before .before .args in
+    timesBytes (a .reference) (a .times) ≡ numberBytes 2 (c .before .before .before .before .before .before .before .before .before .difference .result .difference) ++ numberBytes 2 (c .difference2 .result .difference)
+bytes c = let a = c .before .before .before .before .before .before .before .before .before .before .before .before .before .args in rw (← (c .before .before .before .before .before .before .before .before .before .difference .ensures), ← (c .difference2 .ensures)) at (times-closed (a .reference) (a .times) _ (c .before .before .end .given .1))
+
+-- the start's bytes are in the buffer
+inside : (c : tie.After-difference2) → c .before .before .before .before .before .before .before .before .relative-len-of-encoding2 .result ≤ length (c .before .before .before .before .before .before .relative-encode .last .0)
+inside c =
+    omega (arith, c .before .before .before .before .before .before .before .before .before .before .if1 .left, c .before .before .before .before .before .before .before .before .before .before .before .relative-len-of-encoding .ensures .0, ap length (bytes c), length-append (numberBytes 2 (c .before .before .before .before .before .before .before .before .before .difference .result .difference)) (numberBytes 2 (c .difference2 .result .difference)), c .before .before .before .before .before .before .before .before .relative-len-of-encoding2 .ensures .0, c .before .before .before .before .before .before .relative-encode .kept .0)
+
+relative-len-of-encoding-requires : tie.Need-relative-len-of-encoding-requires
+relative-len-of-encoding-requires c κs = search needs
+
+returns : tie.Need-returns
+returns c =
+    let a = c .before .before .before .args in
+    put-full allowed (timesBytes (a .reference) (a .times)) (now (a .buffer)) refl (c .before .relative-len-of-encoding .result) (c .before .relative-len-of-encoding .ensures .0) (c .if1 .taken)
+
+difference-requires : tie.Need-difference-requires
+difference-requires c κs = search needs
+
+relative-len-of-encoding-requires-2 : tie.Need-relative-len-of-encoding-requires-2
+relative-len-of-encoding-requires-2 c κs = search needs
+
+relative-encode-requires : tie.Need-relative-encode-requires
+relative-encode-requires c κs = search needs
+
+enum-known-end : tie.Need-enum-known-end
+enum-known-end c = search needs
+
+enum-told : tie.Need-enum-told
+enum-told c = search needs
+
+same-length : tie.Need-same-length
+same-length c = search needs
+
+returns-2 : tie.Need-returns-2
+returns-2 c =
+    let a = c .before .before .before .before .before .before .before .before .before .before .before .args in
+    let l = now (a .buffer) in
+    let e = rw (← (c .before .before .before .before .before .before .before .difference .ensures)) at (times-open (a .reference) (a .times) (c .enum-told .given .1)) in
+    let n = c .before .before .before .before .before .before .before .before .before .relative-len-of-encoding .ensures .0 in
+    let f = put-fits allowed (timesBytes (a .reference) (a .times)) l refl (c .before .before .before .before .before .before .before .before .before .relative-len-of-encoding .result) n (omega (arith, c .before .before .before .before .before .before .before .before .if1 .left)) in
+    (f .0, c .before .before .before .before .relative-encode .ensures .1 ∙ put-over _ l (omega (arith, c .before .before .before .before .before .before .before .before .if1 .left, n, ap length e)) ∙ ap (λ (bs : List ℕ). over bs l) (sym e) ∙ f .1)
+
+difference-requires-2 : tie.Need-difference-requires-2
+difference-requires-2 c κs = search needs
+
+sub-relative-encode : tie.Need-sub-relative-encode
+sub-relative-encode c = inside c
+
+part-relative-encode-start : tie.Need-part-relative-encode-start
+part-relative-encode-start c = inside c
+
+part-relative-encode-end : tie.Need-part-relative-encode-end
+part-relative-encode-end c = search needs
+
+relative-encode-requires-2 : tie.Need-relative-encode-requires-2
+relative-encode-requires-2 c κs = search needs
+
+same-length-2 : tie.Need-same-length-2
+same-length-2 c = search needs
+
+returns-3 : tie.Need-returns-3
+returns-3 c =
+    let a = c .before .before .before .before .before .before .before .before .before .before .before .before .before .before .before .before .before .args in
+    let l = now (a .buffer) in
+    let p = c .before .before .before .before .before .before .before .before .before .before .relative-encode in
+    let q = c .before .before .relative-encode2 in
+    let n = c .before .before .before .before .before .before .before .before .before .before .before .before .relative-len-of-encoding2 in
+    let x = numberBytes 2 (c .before .before .before .before .before .before .before .before .before .before .before .before .before .difference .result .difference) in
+    let y = numberBytes 2 (c .before .before .before .before .difference2 .result .difference) in
+    let e : timesBytes (a .reference) (a .times) ≡ x ++ y = bytes (c .before .before .before .before) in
+    let long : length (timesBytes (a .reference) (a .times)) ≡ length x + length y = ap length e ∙ length-append x y in
+    let fits = put-fits allowed (timesBytes (a .reference) (a .times)) l refl (c .before .before .before .before .before .before .before .before .before .before .before .before .before .before .before .relative-len-of-encoding .result) (c .before .before .before .before .before .before .before .before .before .before .before .before .before .before .before .relative-len-of-encoding .ensures .0) (omega (arith, c .before .before .before .before .before .before .before .before .before .before .before .before .before .before .if1 .left)) in
+    let first : p .last .0 ≡ over x l = p .ensures .1 ∙ put-over x l (omega (arith, c .before .before .before .before .before .before .before .before .before .before .before .before .before .before .if1 .left, c .before .before .before .before .before .before .before .before .before .before .before .before .before .before .before .relative-len-of-encoding .ensures .0, long)) in
+    let rest = rw (to-end (n .result) (p .last .0)) at (q .ensures .1) in
+    let room : length y ≤ length (drop (n .result) (p .last .0)) = rw length-drop (omega (arith, c .before .before .before .before .before .before .before .before .before .before .before .before .before .before .if1 .left, c .before .before .before .before .before .before .before .before .before .before .before .before .before .before .before .relative-len-of-encoding .ensures .0, long, p .kept .0, n .ensures .0)) in (
+      fits .0,
+      put-end (n .result) (p .last .0) (q .last .0) ∙ rw (rest, put-over y (drop (n .result) (p .last .0)) room, first, n .ensures .0) (over-then l x y) ∙ ap (λ (bs : List ℕ). over bs l) (sym e) ∙ fits .1,
+    )
+
+pub relative-encode-spec : {M : Type 1} → statement M
+relative-encode-spec =
+    tie.close
+    (tie.spec
+    relative-len-of-encoding-requires
+    returns
+    difference-requires
+    relative-len-of-encoding-requires-2
+    relative-encode-requires
+    enum-known-end
+    enum-told
+    same-length
+    returns-2
+    difference-requires-2
+    sub-relative-encode
+    part-relative-encode-start
+    part-relative-encode-end
+    relative-encode-requires-2
+    same-length-2
+    returns-3)

@@ -1,0 +1,52 @@
+-- docs/FORMAT.md, "Areas": the header byte of an area against an area.
+use mathlib.Core.Bool.{Bool, _&&_, _||_, not}
+use Prim.Native.Nat.{ℕ, _+_, _<_}
+use lib.Dec.{eqb}
+use Rattle.codec.specs.Header.{field, flag, placed, bit}
+use Rattle.area_times.specs.declared.Header.{Header}
+
+-- where each part stands
+abbrev pub idWrittenAt : ℕ
+idWrittenAt = 0
+
+abbrev pub endOpenAt : ℕ
+endOpenAt = 1
+
+abbrev pub startAddedAt : ℕ
+startAddedAt = 2
+
+abbrev pub endAddedAt : ℕ
+endAddedAt = 3
+
+abbrev pub startTagAt : ℕ
+startTagAt = 4
+
+abbrev pub endTagAt : ℕ
+endTagAt = 6
+
+abbrev pub unpackHeader : ℕ → Header
+unpackHeader b = record {
+  «id_written» = flag idWrittenAt b;
+  «end_open» = flag endOpenAt b;
+  «start_added» = flag startAddedAt b;
+  «end_added» = flag endAddedAt b;
+  «start_tag» = field startTagAt 2 b;
+  «end_tag» = field endTagAt 2 b;
+}
+
+abbrev pub packHeader : Header → ℕ
+packHeader h =
+    placed idWrittenAt 1 (bit (h .«id_written»))
+    + placed endOpenAt 1 (bit (h .«end_open»))
+    + placed startAddedAt 1 (bit (h .«start_added»))
+    + placed endAddedAt 1 (bit (h .«end_added»))
+    + placed startTagAt 2 (h .«start_tag»)
+    + placed endTagAt 2 (h .«end_tag»)
+
+pub record HeaderFits (h : Header) : Type 0 where
+  pub start : h .«start_tag» < 4
+  pub end : h .«end_tag» < 4
+
+-- an open end has no difference; bits that speak of one are spare
+unfoldable pub spareBits : Header → Bool
+spareBits h = h .«end_open» && (h .«end_added» || not (eqb (h .«end_tag») 0))

@@ -1,0 +1,48 @@
+-- docs/FORMAT.md, "Areas": the times of an area against those of another.
+use mathlib.Core.List.{List, [], _++_}
+use mathlib.Core.Bool.{Bool, not}
+use Prim.Native.Nat.{ℕ}
+use Rattle.codec.specs.Reader.{Reader, give, andThen, guard, checked, mapped, choose}
+use Rattle.compact_u64.specs.Number.{minTag, numberBytes}
+use Rattle.grouping.specs.declared.RangeEnd.{RangeEnd}
+use Rattle.grouping.specs.declared.RangeEnd.the-variants.{Closed, Open}
+use Rattle.grouping.specs.declared.TimeRange.{TimeRange}
+use Rattle.grouping.specs.Range.{isOpen, includesRange}
+use Rattle.time_relative.specs.Difference.{differenceOf, endDifference, readTime}
+use Rattle.area_times.specs.declared.Header.{Header}
+
+-- ---- writing: the start's difference, then the end's
+unfoldable pub headerOf : Bool → TimeRange → TimeRange → Header
+headerOf idWritten r t = record {
+  «id_written» = idWritten;
+  «end_open» = isOpen (t .end);
+  «start_added» = differenceOf r (t .start) .added;
+  «end_added» = endDifference r (t .end) .added;
+  «start_tag» = minTag 2 (differenceOf r (t .start) .difference);
+  «end_tag» = minTag 2 (endDifference r (t .end) .difference);
+}
+
+-- a time takes the bytes of its difference, an open end none
+abbrev pub endBytes : TimeRange → RangeEnd → List ℕ
+endBytes r (Closed x) = numberBytes 2 (differenceOf r x .difference)
+endBytes r Open = []
+
+unfoldable pub timesBytes : TimeRange → TimeRange → List ℕ
+timesBytes r t = numberBytes 2 (differenceOf r (t .start) .difference) ++ endBytes r (t .end)
+
+-- ---- reading: an open end has no difference to add
+unfoldable pub readEnd : Bool → TimeRange → Header → Reader RangeEnd
+readEnd canonic r h =
+    choose (h .«end_open»)
+    (guard (not (h .«end_added»)) (give Open))
+    (mapped Closed (readTime canonic r (h .«end_added») (h .«end_tag»)))
+
+abbrev pub timesFrom : ℕ → RangeEnd → TimeRange
+timesFrom start end = record { start = start; end = end }
+
+unfoldable pub readTimes : Bool → TimeRange → Header → Reader TimeRange
+readTimes canonic r h =
+    checked (includesRange r) (
+    andThen (readTime canonic r (h .«start_added») (h .«start_tag»)) (λ start.
+    mapped (timesFrom start) (
+    readEnd canonic r h)))

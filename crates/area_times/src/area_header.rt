@@ -1,0 +1,56 @@
+// The header byte of an area against an area.
+ghost use mathlib.Core.Path.{_≡_};
+ghost use Rattle.area_times.specs.Header.{unpackHeader, packHeader, HeaderFits, spareBits};
+use crate::Header;
+
+// What one of each part adds to the byte.
+const ID_WRITTEN: u8 = 128;
+
+const END_OPEN: u8 = 64;
+
+const START_ADDED: u8 = 32;
+
+const END_ADDED: u8 = 16;
+
+const START_TAG: u8 = 4;
+
+const END_TAG: u8 = 1;
+
+// What a header byte says.
+pub fn unpack(b: u8) -> Header
+    ensures { λ r. ⌜ r ≡ unpackHeader b ⌝ }
+{
+    Header {
+        id_written: b / ID_WRITTEN % 2 == 1,
+        end_open: b / END_OPEN % 2 == 1,
+        start_added: b / START_ADDED % 2 == 1,
+        end_added: b / END_ADDED % 2 == 1,
+        start_tag: b / START_TAG % 4,
+        end_tag: b / END_TAG % 4,
+    }
+}
+
+pub(crate) fn pack(header: Header) -> u8
+    requires { ⌜ HeaderFits header ⌝ }
+    ensures { λ r. ⌜ r ≡ packHeader header ⌝ }
+{
+    codec::bit(header.id_written) * ID_WRITTEN
+        + codec::bit(header.end_open) * END_OPEN
+        + codec::bit(header.start_added) * START_ADDED
+        + codec::bit(header.end_added) * END_ADDED
+        + header.start_tag * START_TAG
+        + header.end_tag * END_TAG
+}
+
+// Whether an open end comes with a flag or a tag of its difference, which it does not have.
+pub fn spare_bits(header: Header) -> bool
+    ensures { λ r. ⌜ r ≡ spareBits header ⌝ }
+{
+    if !header.end_open {
+        return false;
+    }
+    if header.end_added {
+        return true;
+    }
+    header.end_tag != 0
+}

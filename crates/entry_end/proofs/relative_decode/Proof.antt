@@ -1,0 +1,124 @@
+use mathlib.Core.Path.{_≡_, sym, ap, _∙_}
+use Prim.Native.Nat.{_+_, _≤_}
+use native.Mathlib.Omega.{arith}
+use denote.Ref.{now}
+use lib.ListN.{length, drop}
+use Rattle.codec.specs.Answers.{accepted, answerOf}
+use Rattle.codec.specs.Reader.{someBytes}
+use Rattle.codec.specs.declared.Decoded.{Decoded}
+use Rattle.codec.proofs.Answers.{no-value, gives-refused, gives-accepted}
+use Rattle.compact_u64.specs.Answers.{numberAnswer}
+use Rattle.compact_u64.specs.Number.{readNumber}
+use Rattle.compact_u64.proofs.Exits.{refused-number}
+use Rattle.time_relative.specs.Difference.{readIncluded}
+use Rattle.entry_end.specs.End.{noEnd}
+use Rattle.entry_end.proofs.Reading.{end-time, end-size, end-inside, end-digest, end-read, digest-inside}
+use borrow.Author.Needs.{needs}
+use Rattle.entry_end.proofs.relative_decode.Statement.{statement}
+use Rattle.entry_end.proofs.relative_decode.Tie as tie
+
+time-is : (c : tie.After-known-told) → let a = c .before .before .before .before .before .args in let x = c .before .first .given .0 in
+    readIncluded (a .canonic) (a .times) (a .header .«time_added») (a .header .«time_tag») (now (a .message)) ≡ accepted (x .0) (x .1 .0)
+time-is c = sym (c .before .before .before .decode-included .ensures) ∙ ap numberAnswer (c .before .first .given .1)
+
+size-is : (c : tie.After-known-told2) → let a = c .before .before .before .before .before .before .before .before .before .args in let x = c .before .second .given .0 in
+    readNumber (a .canonic) 2 (a .header .«length_tag») (drop (c .before .before .before .before .before .first .given .0 .1 .0) (now (a .message))) ≡ accepted (x .0) (x .1 .0)
+size-is c = sym (c .before .before .before .relative-decode .ensures) ∙ ap numberAnswer (c .before .second .given .1)
+
+digest-is : (c : tie.After-known-told3) → someBytes 32 (drop (c .before .before .before .before .before .before .before .before .before .first .given .0 .1 .0 + c .before .before .before .before .before .second .given .0 .1 .0) (now (c .before .before .before .before .before .before .before .before .before .before .before .before .before .args .message))) ≡ accepted (c .before .before .before .decode-id .result .id) (c .before .answer .given .0 .0)
+digest-is c = sym (c .before .before .before .decode-id .ensures .answer) ∙ ap (λ (d : Decoded). answerOf d (c .before .before .before .decode-id .result .id)) (c .before .answer .given .1)
+
+inside : (c : tie.After-known-told3) → c .before .before .before .before .before .before .before .before .before .first .given .0 .1 .0 + (c .before .before .before .before .before .second .given .0 .1 .0 + c .before .answer .given .0 .0) ≤ length (now (c .before .before .before .before .before .before .before .before .before .before .before .before .before .args .message))
+inside c =
+    let a = c .before .before .before .before .before .before .before .before .before .before .before .before .before .args in
+    digest-inside (a .canonic) (a .times) (a .header) (now (a .message)) _ _ (time-is (c .before .before .before .before .before .before .before .before)) _ _ (size-is (c .before .before .before .before)) _ _ (digest-is c)
+
+decode-included-requires : tie.Need-decode-included-requires
+decode-included-requires c κs = search needs
+
+enum-known-first : tie.Need-enum-known-first
+enum-known-first c = search needs
+
+refusal-requires : tie.Need-refusal-requires
+refusal-requires c κs = search needs
+
+refuse-requires : tie.Need-refuse-requires
+refuse-requires c κs = search needs
+
+returns : tie.Need-returns
+returns c =
+    let a = c .before .before .before .before .before .args in
+    let x = refused-number noEnd (c .before .before .before .decode-included .result) (c .before .before .match .keys2) in
+    rw (c .refuse .ensures .0, c .refuse .ensures .1, c .before .refusal .ensures) (gives-refused (x .why) (x .whole) (end-time (a .canonic) (a .times) (a .header) (now (a .message)) (x .why) (sym (c .before .before .before .decode-included .ensures) ∙ x .number)))
+
+relative-decode-requires : tie.Need-relative-decode-requires
+relative-decode-requires c κs = search needs
+
+enum-known-second : tie.Need-enum-known-second
+enum-known-second c = search needs
+
+refusal-requires-2 : tie.Need-refusal-requires-2
+refusal-requires-2 c κs = search needs
+
+refuse-requires-2 : tie.Need-refuse-requires-2
+refuse-requires-2 c κs = search needs
+
+returns-2 : tie.Need-returns-2
+returns-2 c =
+    let a = c .before .before .before .before .before .before .before .before .before .args in
+    let x = refused-number noEnd (c .before .before .before .relative-decode .result) (c .before .before .match2 .keys2) in
+    rw (c .refuse2 .ensures .0, c .refuse2 .ensures .1, c .before .refusal2 .ensures) (gives-refused (x .why) (x .whole) (end-size (a .canonic) (a .times) (a .header) (now (a .message)) _ _ (time-is (c .before .before .before .before)) (x .why) (sym (c .before .before .before .relative-decode .ensures) ∙ x .number)))
+
+add-at : tie.Need-add-at
+add-at c =
+    let a = c .before .before .before .before .before .before .before .before .before .args in
+    omega (arith, end-inside (a .canonic) (a .times) (a .header) (now (a .message)) _ _ (time-is (c .before .before .before .before)) _ _ (size-is c))
+
+decode-id-requires : tie.Need-decode-id-requires
+decode-id-requires c κs = search needs
+
+enum-known-answer : tie.Need-enum-known-answer
+enum-known-answer c = search needs
+
+refuse-requires-3 : tie.Need-refuse-requires-3
+refuse-requires-3 c κs = search needs
+
+returns-3 : tie.Need-returns-3
+returns-3 c =
+    let a = c .before .before .before .before .before .before .before .before .before .before .before .before .args in
+    let x = no-value (c .before .before .decode-id .result .answer) (c .before .match3 .keys2) in
+    rw (c .refuse3 .ensures .0, c .refuse3 .ensures .1) (gives-refused (x .why) (x .beside _) (end-digest (a .canonic) (a .times) (a .header) (now (a .message)) _ _ (time-is (c .before .before .before .before .before .before .before)) _ _ (size-is (c .before .before .before)) (x .why) (sym (c .before .before .decode-id .ensures .answer) ∙ x .beside _)))
+
+add-t19 : tie.Need-add-t19
+add-t19 c = omega (arith, inside (c .before))
+
+add-t20 : tie.Need-add-t20
+add-t20 c = omega (arith, inside (c .before))
+
+returns-4 : tie.Need-returns-4
+returns-4 c =
+    let a = c .before .before .before .before .before .before .before .before .before .before .before .before .before .before .args in
+    gives-accepted (end-read (a .canonic) (a .times) (a .header) (now (a .message)) _ _ (time-is (c .before .before .before .before .before .before .before .before .before)) _ _ (size-is (c .before .before .before .before .before)) _ _ (digest-is (c .before)))
+
+pub relative-decode-spec : {M : Type 1} → statement M
+relative-decode-spec =
+    tie.close
+    (tie.spec
+    decode-included-requires
+    enum-known-first
+    refusal-requires
+    refuse-requires
+    returns
+    relative-decode-requires
+    enum-known-second
+    refusal-requires-2
+    refuse-requires-2
+    returns-2
+    add-at
+    decode-id-requires
+    enum-known-answer
+    refuse-requires-3
+    returns-3
+    add-t19
+    add-t20
+    returns-4)

@@ -1,0 +1,33 @@
+-- docs/FORMAT.md, "Entries": the header that writing gives, and reading the fields after the path, on plain values.
+use mathlib.Core.List.{List}
+use mathlib.Core.Bool.{Bool}
+use Prim.Native.Nat.{ℕ}
+use lib.ListN.{replicate}
+use Rattle.codec.specs.Reader.{Reader, someBytes, andThen, mapped}
+use Rattle.compact_u64.specs.Number.{minTag, readNumber}
+use Rattle.grouping.specs.declared.TimeRange.{TimeRange}
+use Rattle.time_relative.specs.Difference.{differenceOf, readIncluded}
+use Rattle.entry_end.specs.declared.Header.{Header}
+use Rattle.entry_end.specs.declared.End.{End}
+
+unfoldable pub headerOf : Bool → TimeRange → ℕ → ℕ → Header
+headerOf idWritten r time size = record {
+  «id_written» = idWritten;
+  «time_added» = differenceOf r time .added;
+  «time_tag» = minTag 2 (differenceOf r time .difference);
+  «length_tag» = minTag 2 size;
+  spare = 0;
+}
+
+abbrev pub endFrom : ℕ → ℕ → List ℕ → End
+endFrom time size digest = record { timestamp = time; «payload_length» = size; «payload_digest» = digest }
+
+abbrev pub noEnd : End
+noEnd = endFrom 0 0 (replicate 32 0)
+
+unfoldable pub readEnd : Bool → TimeRange → Header → Reader End
+readEnd canonic r h =
+    andThen (readIncluded canonic r (h .«time_added») (h .«time_tag»)) (λ time.
+    andThen (readNumber canonic 2 (h .«length_tag»)) (λ size.
+    mapped (endFrom time size) (
+    someBytes 32)))

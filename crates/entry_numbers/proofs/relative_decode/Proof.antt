@@ -1,0 +1,88 @@
+use mathlib.Core.Path.{_≡_, sym, ap, _∙_}
+use mathlib.Core.Bool.{false}
+use native.Mathlib.Omega.{arith}
+use denote.Ref.{now}
+use lib.ListN.{drop}
+use Rattle.codec.specs.Answers.{accepted}
+use Rattle.codec.proofs.Answers.{gives-refused, gives-accepted}
+use Rattle.compact_u64.specs.Answers.{numberAnswer}
+use Rattle.compact_u64.specs.Number.{readNumber}
+use Rattle.compact_u64.proofs.Exits.{refused-number}
+use Rattle.grouping.specs.declared.RangeEnd.the-variants.{Closed}
+use Rattle.time_distance.specs.Distance.{readFrom}
+use Rattle.entry_numbers.specs.Numbers.{noNumbers}
+use Rattle.entry_numbers.proofs.Reading.{numbers-first, numbers-second, numbers-read, numbers-inside}
+use borrow.Author.Needs.{needs}
+use Rattle.entry_numbers.proofs.relative_decode.Statement.{statement}
+use Rattle.entry_numbers.proofs.relative_decode.Tie as tie
+
+time-is : (c : tie.After-known-told) → let a = c .before .before .before .before .before .args in let x = c .before .first .given .0 in
+    readFrom (Closed (a .reference)) (a .header .«time_added») (a .header .«time_tag») (now (a .message)) ≡ accepted (x .0) (x .1 .0)
+time-is c = sym (c .before .before .before .relative-decode .ensures) ∙ ap numberAnswer (c .before .first .given .1)
+
+size-is : (c : tie.After-known-told2) → let a = c .before .before .before .before .before .before .before .before .before .args in let x = c .before .second .given .0 in
+    readNumber false 3 (a .header .«length_tag») (drop (c .before .before .before .before .before .first .given .0 .1 .0) (now (a .message))) ≡ accepted (x .0) (x .1 .0)
+size-is c = sym (c .before .before .before .relative-decode2 .ensures) ∙ ap numberAnswer (c .before .second .given .1)
+
+relative-decode-requires : tie.Need-relative-decode-requires
+relative-decode-requires c κs = search needs
+
+enum-known-first : tie.Need-enum-known-first
+enum-known-first c = search needs
+
+refusal-requires : tie.Need-refusal-requires
+refusal-requires c κs = search needs
+
+refuse-requires : tie.Need-refuse-requires
+refuse-requires c κs = search needs
+
+returns : tie.Need-returns
+returns c =
+    let a = c .before .before .before .before .before .args in
+    let x = refused-number noNumbers (c .before .before .before .relative-decode .result) (c .before .before .match .keys2) in
+    rw (c .refuse .ensures .0, c .refuse .ensures .1, c .before .refusal .ensures) (gives-refused (x .why) (x .whole) (numbers-first (a .reference) (a .header) (now (a .message)) (x .why) (sym (c .before .before .before .relative-decode .ensures) ∙ x .number)))
+
+relative-decode-requires-2 : tie.Need-relative-decode-requires-2
+relative-decode-requires-2 c κs = search needs
+
+enum-known-second : tie.Need-enum-known-second
+enum-known-second c = search needs
+
+refusal-requires-2 : tie.Need-refusal-requires-2
+refusal-requires-2 c κs = search needs
+
+refuse-requires-2 : tie.Need-refuse-requires-2
+refuse-requires-2 c κs = search needs
+
+returns-2 : tie.Need-returns-2
+returns-2 c =
+    let a = c .before .before .before .before .before .before .before .before .before .args in
+    let x = refused-number noNumbers (c .before .before .before .relative-decode2 .result) (c .before .before .match2 .keys2) in
+    rw (c .refuse2 .ensures .0, c .refuse2 .ensures .1, c .before .refusal2 .ensures) (gives-refused (x .why) (x .whole) (numbers-second (a .reference) (a .header) (now (a .message)) _ _ (time-is (c .before .before .before .before)) (x .why) (sym (c .before .before .before .relative-decode2 .ensures) ∙ x .number)))
+
+add-t14 : tie.Need-add-t14
+add-t14 c =
+    let a = c .before .before .before .before .before .before .before .before .before .args in
+    omega (arith, numbers-inside (a .reference) (a .header) (now (a .message)) _ _ (time-is (c .before .before .before .before)) _ _ (size-is c))
+
+returns-3 : tie.Need-returns-3
+returns-3 c =
+    let a = c .before .before .before .before .before .before .before .before .before .args in
+    gives-accepted (numbers-read (a .reference) (a .header) (now (a .message)) _ _ (time-is (c .before .before .before .before)) _ _ (size-is c))
+
+pub relative-decode-spec : {M : Type 1} → statement M
+relative-decode-spec =
+    tie.close
+    (tie.spec
+    relative-decode-requires
+    enum-known-first
+    refusal-requires
+    refuse-requires
+    returns
+    relative-decode-requires-2
+    enum-known-second
+    refusal-requires-2
+    refuse-requires-2
+    returns-2
+    add-t14
+    returns-3)

@@ -1,0 +1,92 @@
+use mathlib.Core.Path.{_≡_, refl, sym, ap, _∙_}
+use mathlib.Core.List.{List, _++_}
+use Prim.Native.Nat.{ℕ, _+_, _≤_}
+use native.Mathlib.Omega.{arith}
+use denote.Ref.{now}
+use lib.ListN.{length, drop, length-append, length-drop}
+use Rattle.codec.specs.Format.{allowed, over}
+use Rattle.codec.proofs.Lending.{put-full, put-fits, put-over, over-then, to-end, put-end}
+use Rattle.compact_u64.specs.Number.{numberBytes}
+use Rattle.entry_numbers.specs.Numbers.{numbersBytes}
+use borrow.Author.Needs.{needs}
+use Rattle.entry_numbers.proofs.relative_encode.Statement.{statement}
+use Rattle.entry_numbers.proofs.relative_encode.Tie as tie
+
+bytes : (c : tie.After-abs-diff) → let a = c .before .before .before .before .args in numbersBytes (a .reference) (a .time) (a .size) ≡ numberBytes 2 (c .abs-diff .result) ++ numberBytes 3 (a .size)
+bytes c = rw (← (c .abs-diff .ensures))
+
+-- the parts fit
+parts : (c : tie.After-abs-diff) → let a = c .before .before .before .before .args in length (numberBytes 2 (c .abs-diff .result)) + length (numberBytes 3 (a .size)) ≤ length (now (a .buffer))
+parts c = let a = c .before .before .before .before .args in omega (arith, c .before .if1 .left, c .before .before .relative-len-of-encoding .ensures .0, ap length (bytes c), length-append (numberBytes 2 (c .abs-diff .result)) (numberBytes 3 (a .size)))
+
+-- the difference's bytes are in the buffer
+inside : (c : tie.After-slice-known2) → c .before .before .before .before .relative-len-of-encoding2 .result ≤ length (c .before .before .relative-encode .last .0)
+inside c = omega (arith, parts (c .before .before .before .before .before), c .before .before .before .before .relative-len-of-encoding2 .ensures .0, c .before .before .relative-encode .kept .0)
+
+relative-len-of-encoding-requires : tie.Need-relative-len-of-encoding-requires
+relative-len-of-encoding-requires c κs = search needs
+
+returns : tie.Need-returns
+returns c =
+    let a = c .before .before .before .args in
+    let n = c .before .relative-len-of-encoding in
+    put-full allowed (numbersBytes (a .reference) (a .time) (a .size)) (now (a .buffer)) refl (n .result) (n .ensures .0) (c .if1 .taken)
+
+abs-diff-requires : tie.Need-abs-diff-requires
+abs-diff-requires c κs = search needs
+
+relative-len-of-encoding-requires-2 : tie.Need-relative-len-of-encoding-requires-2
+relative-len-of-encoding-requires-2 c κs = search needs
+
+relative-encode-requires : tie.Need-relative-encode-requires
+relative-encode-requires c κs = search needs
+
+sub-relative-encode : tie.Need-sub-relative-encode
+sub-relative-encode c = inside c
+
+part-relative-encode-start : tie.Need-part-relative-encode-start
+part-relative-encode-start c = inside c
+
+part-relative-encode-end : tie.Need-part-relative-encode-end
+part-relative-encode-end c = search needs
+
+relative-encode-requires-2 : tie.Need-relative-encode-requires-2
+relative-encode-requires-2 c κs = search needs
+
+same-length : tie.Need-same-length
+same-length c = search needs
+
+returns-2 : tie.Need-returns-2
+returns-2 c =
+    let a = c .before .before .before .before .before .before .before .before .before .before .before .before .before .args in
+    let l = now (a .buffer) in
+    let whole = c .before .before .before .before .before .before .before .before .before .before .before .relative-len-of-encoding in
+    let n = c .before .before .before .before .before .before .before .before .relative-len-of-encoding2 in
+    let p = c .before .before .before .before .before .before .relative-encode in
+    let w = c .before .before .relative-encode2 in
+    let x = numberBytes 2 (c .before .before .before .before .before .before .before .before .before .abs-diff .result) in
+    let y = numberBytes 3 (a .size) in
+    let e : numbersBytes (a .reference) (a .time) (a .size) ≡ x ++ y = bytes (c .before .before .before .before .before .before .before .before .before) in
+    let fits = put-fits allowed (numbersBytes (a .reference) (a .time) (a .size)) l refl (whole .result) (whole .ensures .0) (omega (arith, c .before .before .before .before .before .before .before .before .before .before .if1 .left)) in
+    let first : p .last .0 ≡ over x l = p .ensures .1 ∙ put-over x l (omega (arith, parts (c .before .before .before .before .before .before .before .before .before))) in
+    let rest = rw (to-end (n .result) (p .last .0)) at (w .ensures .1) in
+    let room : length y ≤ length (drop (n .result) (p .last .0)) = rw length-drop (omega (arith, parts (c .before .before .before .before .before .before .before .before .before), p .kept .0, n .ensures .0)) in (
+      fits .0,
+      put-end (n .result) (p .last .0) (w .last .0) ∙ rw (rest, put-over y (drop (n .result) (p .last .0)) room, first, n .ensures .0) (over-then l x y) ∙ ap (λ (bs : List ℕ). over bs l) (sym e) ∙ fits .1,
+    )
+
+pub relative-encode-spec : {M : Type 1} → statement M
+relative-encode-spec =
+    tie.close
+    (tie.spec
+    relative-len-of-encoding-requires
+    returns
+    abs-diff-requires
+    relative-len-of-encoding-requires-2
+    relative-encode-requires
+    sub-relative-encode
+    part-relative-encode-start
+    part-relative-encode-end
+    relative-encode-requires-2
+    same-length
+    returns-2)

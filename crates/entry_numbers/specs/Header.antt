@@ -1,0 +1,41 @@
+-- docs/FORMAT.md, "Entries against an entry": the header byte.
+use Prim.Native.Nat.{ℕ, _+_, _<_}
+use Rattle.codec.specs.Header.{field, flag, placed, bit}
+use Rattle.entry_numbers.specs.declared.Header.{Header}
+
+-- where each part stands
+abbrev pub namespaceWrittenAt : ℕ
+namespaceWrittenAt = 0
+
+abbrev pub subspaceWrittenAt : ℕ
+subspaceWrittenAt = 1
+
+abbrev pub timeAddedAt : ℕ
+timeAddedAt = 2
+
+abbrev pub timeTagAt : ℕ
+timeTagAt = 3
+
+abbrev pub lengthTagAt : ℕ
+lengthTagAt = 5
+
+abbrev pub unpackHeader : ℕ → Header
+unpackHeader b = record {
+  «namespace_written» = flag namespaceWrittenAt b;
+  «subspace_written» = flag subspaceWrittenAt b;
+  «time_added» = flag timeAddedAt b;
+  «time_tag» = field timeTagAt 2 b;
+  «length_tag» = field lengthTagAt 3 b;
+}
+
+abbrev pub packHeader : Header → ℕ
+packHeader h =
+    placed namespaceWrittenAt 1 (bit (h .«namespace_written»))
+    + placed subspaceWrittenAt 1 (bit (h .«subspace_written»))
+    + placed timeAddedAt 1 (bit (h .«time_added»))
+    + placed timeTagAt 2 (h .«time_tag»)
+    + placed lengthTagAt 3 (h .«length_tag»)
+
+pub record HeaderFits (h : Header) : Type 0 where
+  pub time : h .«time_tag» < 4
+  pub length : h .«length_tag» < 8

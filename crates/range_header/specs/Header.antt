@@ -1,0 +1,56 @@
+-- docs/FORMAT.md, "3d ranges": the first header byte.
+use mathlib.Core.Bool.{cond}
+use Prim.Native.Nat.{ℕ, _+_}
+use lib.Dec.{eqb}
+use Rattle.codec.specs.Header.{field, flag, placed, bit}
+use Rattle.range_subspaces.specs.declared.IdSource.{IdSource}
+use Rattle.range_subspaces.specs.declared.IdSource.the-variants.{Nowhere, Start, End, Written}
+use Rattle.range_header.specs.declared.Header.{Header}
+
+-- where each part stands
+abbrev pub subspaceStartAt : ℕ
+subspaceStartAt = 0
+
+abbrev pub subspaceEndAt : ℕ
+subspaceEndAt = 2
+
+abbrev pub pathStartFromStartAt : ℕ
+pathStartFromStartAt = 4
+
+abbrev pub pathEndOpenAt : ℕ
+pathEndOpenAt = 5
+
+abbrev pub pathEndFromStartAt : ℕ
+pathEndFromStartAt = 6
+
+abbrev pub timesEndOpenAt : ℕ
+timesEndOpenAt = 7
+
+-- where an id is taken from, in two bits
+abbrev pub sourceBits : IdSource → ℕ
+sourceBits Nowhere = 0
+sourceBits Start = 1
+sourceBits End = 2
+sourceBits Written = 3
+
+abbrev pub sourceFrom : ℕ → IdSource
+sourceFrom n = cond (eqb n 0) Nowhere (cond (eqb n 1) Start (cond (eqb n 2) End Written))
+
+abbrev pub unpackHeader : ℕ → Header
+unpackHeader b = record {
+  «subspace_start» = sourceFrom (field subspaceStartAt 2 b);
+  «subspace_end» = sourceFrom (field subspaceEndAt 2 b);
+  «path_start_from_start» = flag pathStartFromStartAt b;
+  «path_end_open» = flag pathEndOpenAt b;
+  «path_end_from_start» = flag pathEndFromStartAt b;
+  «times_end_open» = flag timesEndOpenAt b;
+}
+
+abbrev pub packHeader : Header → ℕ
+packHeader h =
+    placed subspaceStartAt 2 (sourceBits (h .«subspace_start»))
+    + placed subspaceEndAt 2 (sourceBits (h .«subspace_end»))
+    + placed pathStartFromStartAt 1 (bit (h .«path_start_from_start»))
+    + placed pathEndOpenAt 1 (bit (h .«path_end_open»))
+    + placed pathEndFromStartAt 1 (bit (h .«path_end_from_start»))
+    + placed timesEndOpenAt 1 (bit (h .«times_end_open»))
