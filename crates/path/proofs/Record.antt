@@ -110,6 +110,10 @@ pub bytes-long : (cs : List (List ℕ)) → totalOf cs ≤ 600 → length (pathF
 unfolding pathFrom
 bytes-long cs h = simp (length-append, length-replicate, length-joined cs) (omega arith)
 
+pub lengths-long : (cs : List (List ℕ)) → length cs ≤ 20 → length (pathFrom cs .lengths) ≡ 20
+unfolding pathFrom
+lengths-long cs h = simp (length-append, length-replicate, length-map) (omega arith)
+
 pub record Made (cs : List (List ℕ)) : Type 0 where
   pub typed : TypedPath (pathFrom cs)
   pub well : WellFormed (pathFrom cs)
@@ -127,7 +131,7 @@ made cs h =
     record {
       typed = record {
         bytes = bytes-long cs (h .total);
-        lengths = simp (length-append, length-replicate, lm) (omega arith);
+        lengths = lengths-long cs (h .count);
         small = AllBytes·append (joined cs) (replicate (600 - totalOf cs) 0) (AllBytes·joined cs (h .all)) (AllBytes·zeros (600 - totalOf cs));
       };
       well = record {

@@ -1,16 +1,16 @@
 -- A builder that the code holds by its parts, and a component put into them.
 use mathlib.Core.Path.{_≡_, ap, _∙_}
-use mathlib.Core.List.{List, _++_}
+use mathlib.Core.List.{List}
 use Prim.Native.Nat.{ℕ, _+_, _-_, _≤_}
 use native.Mathlib.Omega.{arith}
 use borrow.Rule.Slice.PartMut.{putMid}
 use lib.ListN.{length, take, drop, set, length-drop}
-use lib.Seq.{drop-drop}
 use Rattle.codec.specs.Format.{allowed, putBuffer}
-use Rattle.codec.proofs.Lending.{to-end, put-end, put-over}
+use Rattle.codec.proofs.Lending.{put-over}
 use Rattle.path.specs.declared.PathBuilder.{PathBuilder}
 use Rattle.path.specs.Record.{componentsOf}
 use Rattle.path.specs.Builder.{grown}
+use Rattle.path.proofs.Lists.{rest-part, put-inside}
 use Rattle.path.proofs.Record.{bytes-long}
 use Rattle.path.proofs.Builder.{Fitting, built-count, built-total}
 use Rattle.path_codec.specs.Answers.{builderOf, Room}
@@ -23,8 +23,8 @@ unfolding grown
 put-grown y c n ys long room e put =
     let l = y .path .bytes in
     let at = y .total in
-    let k : length c ≤ length (drop at l) = rw length-drop (omega arith) in
-    let bytes : putMid at (600 - at) l ys ≡ take at l ++ (c ++ drop (at + length c) l) = rw (put, ← long, put-end at l, to-end at l, put-over c (drop at l) k, drop-drop) in
+    let k : length c ≤ length (take (600 - at) (drop at l)) = rw (rest-part at 600 l long, length-drop) (omega arith) in
+    let bytes = put-inside l c ys at 600 long (put ∙ put-over c _ k) in
     rw (bytes, e)
 
 -- what room says of the parts
