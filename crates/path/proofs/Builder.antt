@@ -21,7 +21,7 @@ use Rattle.codec.proofs.Lending.{put-over}
 use Rattle.path.proofs.Lists.{drop-zeros, length-joined, joined-append, fill-more, rest-part, put-inside, cut, take-cut}
 use Rattle.path.proofs.Limits.{total-append, total-snoc}
 use Rattle.path.proofs.Record.{well-formed, formed-well, remade, made, count-of, components-of, sum-of, bytes-long, lengths-long}
-use Rattle.path.proofs.Components.{Formed, prefix-count, start-small, short, start-is}
+use Rattle.path.proofs.Components.{Formed, prefix-count, start-small, start-is}
 
 joined-snoc : (cs : List (List ℕ)) (c : List ℕ) → joined (cs ++ (c ∷ [])) ≡ joined cs ++ c
 joined-snoc [] c = append-nil c

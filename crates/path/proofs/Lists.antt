@@ -46,11 +46,6 @@ at-most-next m s i h = rw (add-one, drop-cons s i 0)
 pub at-most-end : (m : ℕ) (s : List ℕ) (i : ℕ) → length s ≤ i → allAtMost m (drop i s) ≡ true
 at-most-end m s i h = rw drop-of-length-le
 
-pub at-most-at : (m : ℕ) (ls : List ℕ) (i : ℕ) → allAtMost m ls ≡ true → getD ls i 0 ≤ m
-at-most-at m [] i e = omega arith
-at-most-at m (l ∷ ls) zero e = leb-true l m (and-left _ _ e)
-at-most-at m (l ∷ ls) (suc i) e = at-most-at m ls i (and-right (leb l m) _ e)
-
 -- ---- zeros
 at-most-zero : (b : ℕ) → leb b 0 ≡ true → b ≡ 0
 at-most-zero b e = omega (arith, leb-true b 0 e)
