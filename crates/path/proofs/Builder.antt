@@ -1,24 +1,27 @@
 -- Laws of builders.
 use mathlib.Core.Path.{_≡_, refl, sym, ap, _∙_}
-use mathlib.Core.List.{List, [], _∷_, _++_, map, append-assoc, append-nil}
+use mathlib.Core.List.{List, [], _∷_, _++_, map, append-assoc, append-nil, map-append}
 use mathlib.Core.Bool.{Bool, true, false, cond}
 use Prim.Native.Nat.{ℕ, suc, _+_, _-_, _≤_, _<_}
 use native.Mathlib.Omega.{arith}
 use lib.Dec.{leb, ltb}
 use borrow.Author.Tests.{leb-true, leb-false, le-leb, lt-leb, ltb-true, lt-ltb, eq-eqb, eqb-true}
-use lib.ListN.{length, take, drop, set, replicate, length-append, length-map}
-use lib.Seq.{take-at, drop-append-add, set-at}
+use borrow.Rule.Slice.PartMut.{putMid}
+use lib.ListN.{length, take, drop, set, replicate, length-append, length-drop, length-map}
+use lib.Seq.{take-at, take-take, drop-append-add, set-at}
 use Rattle.path.specs.declared.Path.{Path}
 use Rattle.path.specs.declared.PathBuilder.{PathBuilder}
 use Rattle.path.specs.declared.Appended.the-variants as appended
 use Rattle.path.specs.Limits.{totalOf, PathOk}
-use Rattle.path.specs.Record.{sumOf, used, joined, componentsOf, pathFrom, wellFormed, lengthAt}
+use Rattle.path.specs.Record.{sumOf, used, joined, cutUp, componentsOf, pathFrom, wellFormed}
 use Rattle.path.specs.Builder.{builderFrom, isBuilder, fitsAfter, growth, appendComponent, grown, pushComponent, Extendable}
+use Rattle.codec.specs.Format.{allowed, over, putBuffer}
 use Rattle.codec.proofs.Tests.{and-left, and-right}
-use Rattle.path.proofs.Lists.{drop-zeros, length-joined}
-use Rattle.path.proofs.Limits.{total-append, total-snoc, total-grows}
-use Rattle.path.proofs.Record.{well-formed, formed-well, remade, made, count-of, components-of, sum-of}
-use Rattle.path.proofs.Components.{Formed, bytesAt, prefix-count, start-small, next-start, short, component-long, take-component}
+use Rattle.codec.proofs.Lending.{put-over}
+use Rattle.path.proofs.Lists.{drop-zeros, length-joined, joined-append, fill-more, rest-part, put-inside, cut, take-cut}
+use Rattle.path.proofs.Limits.{total-append, total-snoc}
+use Rattle.path.proofs.Record.{well-formed, formed-well, remade, made, count-of, components-of, sum-of, bytes-long, lengths-long}
+use Rattle.path.proofs.Components.{Formed, prefix-count, start-small, start-is}
 
 joined-snoc : (cs : List (List ℕ)) (c : List ℕ) → joined (cs ++ (c ∷ [])) ≡ joined cs ++ c
 joined-snoc [] c = append-nil c
@@ -151,18 +154,81 @@ extendable b cs p k e formed there few fits = record {
 pub extendable-empty : (b : PathBuilder) (p : Path) (k : ℕ) → b ≡ builderFrom [] → Formed p → k ≤ p .count → Extendable b p k
 extendable-empty b p k e f there = extendable b [] p k e (formed-well p (f .well)) there (omega (arith, f .well .count)) (omega (arith, start-small p f k))
 
--- one turn: the i-th component after those before it
-pub extend-turn : (b : PathBuilder) (p : Path) (k : ℕ) → Extendable b p k → Formed p → (i : ℕ) → i < k → (y : PathBuilder)
-    → y ≡ builderFrom (componentsOf (b .path) ++ take i (componentsOf p))
-    → pushComponent y (bytesAt p i) ≡ growth appended.Grown (builderFrom (componentsOf (b .path) ++ take (i + 1) (componentsOf p)))
-extend-turn b p k x f i h y e =
-    let first = componentsOf (b .path) in
-    let before = take i (componentsOf p) in
-    let here : i < p .count = omega (arith, x .there) in
-    let long : length (bytesAt p i) ≡ lengthAt p i = component-long p f i here in
-    let fit : Fitting (totalOf (first ++ before)) (length (first ++ before)) (length (bytesAt p i)) = record {
-      short = omega (arith, short p f i here);
-      few = simp length-append (omega (arith, built-count b first (x .made), prefix-count p f i (omega arith), x .few));
-      fits = omega (arith, total-append first before, next-start p f i here, total-grows (i + 1) k (componentsOf p) (omega arith), built-total b first (x .made), x .fits);
-    } in
-    pushed y (first ++ before) e (bytesAt p i) fit ∙ rw (take-component p f i here, append-assoc first before (bytesAt p i ∷ []))
+-- their bytes and their lengths, put after those that are there
+module _ (cs ds : List (List ℕ)) (few : length cs + length ds ≤ 20) (fits : totalOf cs + totalOf ds ≤ 600) where
+  bytes-joined : take (totalOf cs) (pathFrom cs .bytes) ++ (joined ds ++ drop (totalOf cs + length (joined ds)) (pathFrom cs .bytes)) ≡ pathFrom (cs ++ ds) .bytes
+  unfolding pathFrom
+  bytes-joined =
+      let h : length (joined cs) + length (joined ds) ≤ 600 = omega (arith, length-joined cs, length-joined ds) in
+      rw (joined-append cs ds, total-append cs ds, ← (length-joined cs), ← (length-joined ds)) (fill-more (joined cs) (joined ds) 600 h)
+
+  lengths-joined : take (length cs) (pathFrom cs .lengths) ++ (map length ds ++ drop (length cs + length (map length ds)) (pathFrom cs .lengths)) ≡ pathFrom (cs ++ ds) .lengths
+  unfolding pathFrom
+  lengths-joined =
+      let lc = length-map cs length in
+      let ld = length-map ds length in
+      let h : length (map length cs) + length (map length ds) ≤ 20 = omega (arith, lc, ld) in
+      rw (map-append length cs ds, length-append cs ds, ← lc, ← ld) (fill-more (map length cs) (map length ds) 20 h)
+
+  joined-is : (y : PathBuilder) → y ≡ builderFrom cs → (bytes lengths : List ℕ) (n total : ℕ)
+      → bytes ≡ take (y .total) (y .path .bytes) ++ (joined ds ++ drop (y .total + length (joined ds)) (y .path .bytes))
+      → lengths ≡ take (y .path .count) (y .path .lengths) ++ (map length ds ++ drop (y .path .count + length (map length ds)) (y .path .lengths))
+      → n ≡ y .path .count + length ds → total ≡ y .total + totalOf ds
+      → _≡_ {A = PathBuilder} (record { path = record { bytes = bytes; lengths = lengths; count = n }; total = total }) (builderFrom (cs ++ ds))
+  unfolding pathFrom
+  joined-is y e bytes lengths n total eb el en et =
+      let pb = eb ∙ ap (λ (z : PathBuilder). take (z .total) (z .path .bytes) ++ (joined ds ++ drop (z .total + length (joined ds)) (z .path .bytes))) e ∙ bytes-joined in
+      let pl = el ∙ ap (λ (z : PathBuilder). take (z .path .count) (z .path .lengths) ++ (map length ds ++ drop (z .path .count + length (map length ds)) (z .path .lengths))) e ∙ lengths-joined in
+      let pc = en ∙ ap (λ (z : PathBuilder). z .path .count + length ds) e ∙ sym (length-append cs ds) in
+      let pt = et ∙ ap (λ (z : PathBuilder). z .total + totalOf ds) e ∙ sym (total-append cs ds) in
+      λ i. record { path = record { bytes = pb i; lengths = pl i; count = pc i }; total = pt i }
+
+module _ (b : PathBuilder) (p : Path) (k : ℕ) (x : Extendable b p k) (f : Formed p) where
+  start : totalOf (take k (componentsOf p)) ≡ sumOf (take k (p .lengths))
+  start = start-is p f k (x .there)
+
+  pub extended-fits : b .total + sumOf (take k (p .lengths)) ≤ 600
+  extended-fits = omega (arith, x .fits, start)
+
+  pub extended-bytes : length (b .path .bytes) ≡ 600
+  extended-bytes =
+      let cs = componentsOf (b .path) in
+      ap (λ (y : PathBuilder). length (y .path .bytes)) (x .made) ∙ bytes-long cs (omega (arith, built-total b cs (x .made), x .fits))
+
+  pub extended-lengths : length (b .path .lengths) ≡ 20
+  extended-lengths =
+      let cs = componentsOf (b .path) in
+      ap (λ (y : PathBuilder). length (y .path .lengths)) (x .made) ∙ lengths-long cs (omega (arith, built-count b cs (x .made), x .few))
+
+  -- as the code puts them into the builder's arrays
+  pub extended-is : (more : ℕ) (ys zs : List ℕ) → more ≡ sumOf (take k (p .lengths))
+      → ys ≡ putBuffer allowed (take more (p .bytes)) (take (600 - b .total) (drop (b .total) (b .path .bytes)))
+      → zs ≡ over (take k (p .lengths)) (take (20 - b .path .count) (drop (b .path .count) (b .path .lengths)))
+      → _≡_ {A = PathBuilder} (record {
+        path = record {
+          bytes = putMid (b .total) (600 - b .total) (b .path .bytes) ys;
+          lengths = putMid (b .path .count) (20 - b .path .count) (b .path .lengths) zs;
+          count = b .path .count + k;
+        };
+        total = b .total + more;
+      })
+      (builderFrom (componentsOf (b .path) ++ take k (componentsOf p)))
+  extended-is more ys zs e ye ze =
+      let cs = componentsOf (b .path) in
+      let ds = take k (componentsOf p) in
+      let ls = take k (p .lengths) in
+      let at = b .total in
+      let bytes = b .path .bytes in
+      let is : take k (componentsOf p) ≡ cutUp (take k (p .lengths)) (p .bytes) = take-cut k (used p) (p .bytes) ∙ rw (take-take k (p .count) (p .lengths) (x .there)) in
+      let r = cut ls (p .bytes) (omega (arith, extended-fits, f .bytes)) in
+      let dj : joined (take k (componentsOf p)) ≡ take more (p .bytes) = ap joined is ∙ r .bytes ∙ rw e in
+      let dl : map length (take k (componentsOf p)) ≡ take k (p .lengths) = ap (map length) is ∙ r .lengths in
+      let dc = prefix-count p f k (x .there) in
+      let few : length cs + length ds ≤ 20 = omega (arith, built-count b cs (x .made), x .few, dc) in
+      let fits : totalOf cs + totalOf ds ≤ 600 = omega (arith, built-total b cs (x .made), x .fits) in
+      let room : length (joined ds) ≤ length (take (600 - at) (drop at bytes)) = rw (rest-part at 600 bytes extended-bytes, length-drop) (omega (arith, length-joined ds, x .fits, extended-bytes)) in
+      joined-is cs ds few fits b (x .made) _ _ _ _
+      (put-inside bytes (joined ds) ys at 600 extended-bytes (ye ∙ rw (← dj) (put-over (joined ds) _ room)))
+      (put-inside (b .path .lengths) (map length ds) zs (b .path .count) 20 extended-lengths (rw dl ze))
+      (rw dc)
+      (omega (arith, start))

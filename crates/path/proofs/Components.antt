@@ -1,6 +1,6 @@
 -- The components of a well-formed record, one by one: where each starts, how long it is, and what is left after it.
 use mathlib.Core.Path.{_≡_, sym, _∙_}
-use mathlib.Core.List.{List, [], _∷_, _++_}
+use mathlib.Core.List.{List, _∷_}
 use mathlib.Core.Bool.{true}
 use Prim.Native.Nat.{ℕ, _+_, _-_, _≤_, _<_}
 use native.Mathlib.Numerals.{add-one}
@@ -10,7 +10,7 @@ use lib.Seq.{drop-cons, drop-drop, length-take-le, getD-take, take-suc, take-tak
 use Rattle.path.specs.declared.Path.{Path}
 use Rattle.path.specs.Limits.{totalOf}
 use Rattle.path.specs.Record.{sumOf, used, componentsOf, wellFormed, TypedPath, lengthAt, startAt}
-use Rattle.path.proofs.Lists.{sum-snoc, sum-take, at-most-at, cut, drop-cut, take-more}
+use Rattle.path.proofs.Lists.{sum-snoc, sum-take, cut, drop-cut}
 use Rattle.path.proofs.Limits.{total-split}
 use Rattle.path.proofs.Record.{WellFormed, well-formed}
 
@@ -81,23 +81,14 @@ module _ (p : Path) (f : Formed p) where
     pub next-start : startAt p (i + 1) ≡ startAt p i + lengthAt p i
     next-start = start-sum (i + 1) ∙ rw (add-one, take-suc (used p) i 0 in-use, sum-snoc, length-used, ← (start-sum i))
 
-    pub short : lengthAt p i ≤ 300
-    short = rw length-used at (at-most-at 300 (used p) i (f .well .short))
-
     pub ends : startAt p i + lengthAt p i ≤ 600
     ends = omega (arith, next-start, start-small (i + 1))
-
-    pub component-long : length (bytesAt p i) ≡ lengthAt p i
-    component-long = length-take-le (lengthAt p i) (drop (startAt p i) (p .bytes)) (rw length-drop (omega (arith, ends, f .bytes)))
 
     -- the components from the i-th on begin with it
     pub component : drop i (componentsOf p) ≡ bytesAt p i ∷ drop (i + 1) (componentsOf p)
     component =
         let next : sumOf (take (i + 1) (used p)) ≡ sumOf (take i (used p)) + lengthAt p i = sym (start-sum (i + 1)) ∙ next-start ∙ rw (start-sum i) in
         rw (drop-cut i (used p) (p .bytes), drop-cut (i + 1) (used p) (p .bytes), next, start-sum i, drop-cons (used p) i 0 in-use, length-used, add-one i, drop-drop)
-
-    pub take-component : take (i + 1) (componentsOf p) ≡ take i (componentsOf p) ++ (bytesAt p i ∷ [])
-    take-component = rw add-one (take-more i (componentsOf p) (bytesAt p i) _ component)
 
     -- the part of the record's bytes that the code takes
     pub part-bytes : (at : ℕ) → at ≡ startAt p i → take (at + lengthAt p i - at) (drop at (p .bytes)) ≡ bytesAt p i

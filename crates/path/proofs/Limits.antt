@@ -7,7 +7,6 @@ use native.Mathlib.Omega.{arith}
 use lib.Dec.{leb}
 use borrow.Author.Tests.{leb-true, le-leb}
 use lib.ListN.{length, take, drop, length-take, take-append-drop}
-use lib.Seq.{take-take}
 use Rattle.codec.specs.Writings.{All}
 use Rattle.path.specs.Limits.{totalOf, limits, allShort, pathOk, Component, PathOk, TypedComponents}
 use Rattle.codec.proofs.Tests.{and-left, and-right}
@@ -22,11 +21,6 @@ total-snoc cs c = total-append cs (c ∷ []) ∙ omega arith
 
 pub total-split : (k : ℕ) (cs : List (List ℕ)) → totalOf (take k cs) + totalOf (drop k cs) ≡ totalOf cs
 total-split k cs = sym (total-append (take k cs) (drop k cs)) ∙ ap totalOf (take-append-drop k cs)
-
-pub total-grows : (j k : ℕ) (cs : List (List ℕ)) → j ≤ k → totalOf (take j cs) ≤ totalOf (take k cs)
-total-grows j k cs h =
-    let e : totalOf (take j (take k cs)) ≡ totalOf (take j cs) = ap totalOf (take-take j k cs h) in
-    omega (arith, total-split j (take k cs))
 
 -- ---- a fact of every component
 module _ (P : List ℕ → Type 0) where

@@ -8,11 +8,14 @@ use native.Mathlib.Numerals.{add-one}
 use native.Mathlib.Omega.{arith}
 use lib.Dec.{leb}
 use borrow.Author.Tests.{leb-true}
+use borrow.Rule.Slice.PartMut.{putMid}
 use lib.ListN.{length, take, drop, getD, replicate, length-append, length-drop, drop-of-length-le, take-append-drop}
-use lib.Seq.{take-append-seam, drop-append-seam, length-take-le, take-add, take-all, drop-cons, drop-drop, paste}
+use lib.Seq.{take-append-seam, drop-append-seam, drop-append-add, length-take-le, take-add, take-all, drop-cons, drop-drop, paste}
 use Rattle.path.specs.Limits.{totalOf}
 use Rattle.path.specs.Record.{sumOf, joined, cutUp, allAtMost}
+use Rattle.codec.specs.Format.{over}
 use Rattle.codec.proofs.Tests.{and-left, and-right}
+use Rattle.codec.proofs.Lending.{to-end, put-end}
 
 -- ---- sums
 pub sum-snoc : (ls : List ℕ) (n : ℕ) → sumOf (ls ++ (n ∷ [])) ≡ sumOf ls + n
@@ -42,11 +45,6 @@ at-most-next m s i h = rw (add-one, drop-cons s i 0)
 
 pub at-most-end : (m : ℕ) (s : List ℕ) (i : ℕ) → length s ≤ i → allAtMost m (drop i s) ≡ true
 at-most-end m s i h = rw drop-of-length-le
-
-pub at-most-at : (m : ℕ) (ls : List ℕ) (i : ℕ) → allAtMost m ls ≡ true → getD ls i 0 ≤ m
-at-most-at m [] i e = omega arith
-at-most-at m (l ∷ ls) zero e = leb-true l m (and-left _ _ e)
-at-most-at m (l ∷ ls) (suc i) e = at-most-at m ls i (and-right (leb l m) _ e)
 
 -- ---- zeros
 at-most-zero : (b : ℕ) → leb b 0 ≡ true → b ≡ 0
@@ -102,11 +100,22 @@ drop-cut zero ls bs = refl
 drop-cut (suc i) [] bs = refl
 drop-cut (suc i) (l ∷ ls) bs = drop-cut i ls (drop l bs) ∙ rw drop-drop
 
-pub take-more : (i : ℕ) (cs : List (List ℕ)) (x : List ℕ) (rest : List (List ℕ)) → drop i cs ≡ x ∷ rest → take (suc i) cs ≡ take i cs ++ (x ∷ [])
-take-more zero [] x rest e = let z : _≡_ {A = ℕ} 0 1 = cc in absurd (omega arith)
-take-more zero (c ∷ cs) x rest e = let f : c ≡ x = cc in rw f
-take-more (suc i) [] x rest e = let z : _≡_ {A = ℕ} 0 1 = cc in absurd (omega arith)
-take-more (suc i) (c ∷ cs) x rest e = ap (λ (l : List (List ℕ)). c ∷ l) (take-more i cs x rest e)
+pub take-cut : (i : ℕ) (ls bs : List ℕ) → take i (cutUp ls bs) ≡ cutUp (take i ls) bs
+take-cut zero ls bs = refl
+take-cut (suc i) [] bs = refl
+take-cut (suc i) (l ∷ ls) bs = ap (λ (x : List (List ℕ)). take l bs ∷ x) (take-cut i ls (drop l bs))
+
+pub joined-append : (a b : List (List ℕ)) → joined (a ++ b) ≡ joined a ++ joined b
+joined-append [] b = refl
+joined-append (c ∷ a) b = rw (joined-append a b) (sym (append-assoc c (joined a) (joined b)))
+
+-- elements put after those of a list that zeros fill up to n
+pub fill-more : (a c : List ℕ) (n : ℕ) → length a + length c ≤ n
+    → take (length a) (a ++ replicate (n - length a) 0) ++ (c ++ drop (length a + length c) (a ++ replicate (n - length a) 0)) ≡ (a ++ c) ++ replicate (n - (length a + length c)) 0
+fill-more a c n h =
+    let z = replicate {A = ℕ} (n - length a) 0 in
+    let m : n - length a - length c ≡ n - (length a + length c) = omega arith in
+    rw (take-append-seam, drop-append-add a z (length c), drop-zeros, m) (sym (append-assoc a c _))
 
 -- ---- parts of arrays, as the code takes them
 
@@ -117,3 +126,7 @@ rest-part n k l h = take-all (k - n) (drop n l) (rw length-drop (omega arith))
 -- a copy of the whole of s into d
 pub paste-whole : (d s : List ℕ) (at n : ℕ) → n ≡ length s → paste d at s n ≡ take at d ++ (s ++ drop (at + length s) d)
 paste-whole d s at n e = rw (e, take-all (length s) s (omega arith)) (append-assoc (take at d) s (drop (at + length s) d))
+
+-- a part of an array of n elements that goes to its end, come back with the whole of c put over its start
+pub put-inside : (l c ys : List ℕ) (at n : ℕ) → length l ≡ n → ys ≡ over c (take (n - at) (drop at l)) → putMid at (n - at) l ys ≡ take at l ++ (c ++ drop (at + length c) l)
+put-inside l c ys at n long e = rw (e, ← long, put-end at l, to-end at l, drop-drop)

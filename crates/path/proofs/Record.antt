@@ -106,6 +106,14 @@ components-of cs = rw (take-at (map length cs) (replicate {A = ℕ} (20 - length
 pub sum-of : (cs : List (List ℕ)) → sumOf (used (pathFrom cs)) ≡ totalOf cs
 sum-of cs = ap sumOf (used-of cs) ∙ sum-lengths cs
 
+pub bytes-long : (cs : List (List ℕ)) → totalOf cs ≤ 600 → length (pathFrom cs .bytes) ≡ 600
+unfolding pathFrom
+bytes-long cs h = simp (length-append, length-replicate, length-joined cs) (omega arith)
+
+pub lengths-long : (cs : List (List ℕ)) → length cs ≤ 20 → length (pathFrom cs .lengths) ≡ 20
+unfolding pathFrom
+lengths-long cs h = simp (length-append, length-replicate, length-map) (omega arith)
+
 pub record Made (cs : List (List ℕ)) : Type 0 where
   pub typed : TypedPath (pathFrom cs)
   pub well : WellFormed (pathFrom cs)
@@ -122,8 +130,8 @@ made cs h =
     let db : drop (totalOf cs) (joined cs ++ replicate (600 - totalOf cs) 0) ≡ replicate (600 - totalOf cs) 0 = drop-at (joined cs) (replicate (600 - totalOf cs) 0) (totalOf cs) lj in
     record {
       typed = record {
-        bytes = simp (length-append, length-replicate, lj) (omega arith);
-        lengths = simp (length-append, length-replicate, lm) (omega arith);
+        bytes = bytes-long cs (h .total);
+        lengths = lengths-long cs (h .count);
         small = AllBytes·append (joined cs) (replicate (600 - totalOf cs) 0) (AllBytes·joined cs (h .all)) (AllBytes·zeros (600 - totalOf cs));
       };
       well = record {

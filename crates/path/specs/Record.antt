@@ -1,5 +1,5 @@
 -- docs/FORMAT.md, "Paths": a path as the code holds it, the bytes of its components one after the other, their lengths, and their count, unused parts zero.
--- Definitions and laws above this crate speak of `componentsOf`, `pathFrom`, `wellFormed` and `lengthAt`, so that lengths may be held in another way.
+-- Definitions above this crate speak of `componentsOf`, `pathFrom`, `wellFormed` and `lengthAt`, so that lengths may be held in another way.
 use mathlib.Core.Path.{_≡_}
 use mathlib.Core.List.{List, [], _∷_, _++_, map}
 use mathlib.Core.Bool.{Bool, true, _&&_}

@@ -69,17 +69,19 @@ fn all_at_most(s: &[usize], m: usize) -> bool
     true
 }
 
+// The same with no way out of the loop, so that many bytes are tested at a time.
 fn all_zero(s: &[u8]) -> bool
     ensures { λ r. ⌜ r ≡ allAtMost 0 (now (s .entry)) ⌝ }
 {
+    let mut clear = true;
     let mut i: usize = 0;
     while i < s.len() {
         if 0 < s[i] {
-            return false;
+            clear = false;
         }
         i += 1;
     }
-    true
+    clear
 }
 
 fn sum(s: &[usize]) -> usize

@@ -1,7 +1,9 @@
 // Paths that grow by components: a port of path/builder.rs.
 ghost use mathlib.Core.Path.{_≡_};
 ghost use mathlib.Core.List.{[], _++_};
-ghost use lib.ListN.{take};
+ghost use Prim.Native.Nat.{_≤_};
+ghost use lib.ListN.{length, take};
+ghost use Rattle.codec.specs.Format.{over};
 ghost use Rattle.path.specs.Record.{componentsOf};
 ghost use Rattle.path.specs.Builder.{builderFrom, isBuilder, fitsAfter, Extendable, appendComponent, pushComponent, prefixBuilder, joinedBuilder};
 use crate::Appended;
@@ -23,6 +25,18 @@ fn fits_after(total: usize, count: usize, n: usize) -> bool
         return false;
     }
     n <= Path::MAX_PATH_LENGTH - total
+}
+
+// Copies lengths to the start of others.
+fn put_lengths(lengths: &mut [usize], s: &[usize])
+    requires { ⌜ length (now s) ≤ length (now lengths) ⌝ }
+    ensures { λ r. ⌜ now (lengths .exit) ≡ over (now (s .entry)) (now (lengths .entry)) ⌝ }
+{
+    let mut i: usize = 0;
+    while i < s.len() {
+        lengths[i] = s[i];
+        i += 1;
+    }
 }
 
 impl PathBuilder {
@@ -95,24 +109,30 @@ impl PathBuilder {
         }
     }
 
-    // The first `k` components of a path after those of the builder.
+    // The first `k` components of a path after those of the builder: their bytes and their lengths, each copied at once.
     fn extended(self, path: Path, k: usize) -> PathBuilder
         requires { ⌜ Extendable self path k ⌝ }
         ensures { λ r. ⌜ r ≡ builderFrom (componentsOf (self .path) ++ take k (componentsOf path)) ⌝ }
     {
-        let bytes = path.bytes;
-        let mut b = self;
-        let mut at: usize = 0;
-        let mut i: usize = 0;
-        while i < k {
-            let to = at + path.lengths[i];
-            let g = b.push_component(&bytes[at..to]);
-            let next = g.builder;
-            b = next;
-            at = to;
-            i += 1;
+        let first = self.path;
+        let total = self.total;
+        let n = first.count;
+        let source = path.bytes;
+        let sizes = path.lengths;
+        let more = crate::sum(&sizes[..k]);
+        let mut bytes = first.bytes;
+        codec::put_bytes(&mut bytes[total..], &source[..more]);
+        let mut lengths = first.lengths;
+        put_lengths(&mut lengths[n..], &sizes[..k]);
+        let joined = Path {
+            bytes: bytes,
+            lengths: lengths,
+            count: n + k,
+        };
+        PathBuilder {
+            path: joined,
+            total: total + more,
         }
-        b
     }
 
     // The builder of a path's first `k` components.

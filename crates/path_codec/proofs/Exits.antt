@@ -11,10 +11,12 @@ use denote.Enum.Declared as declared
 use types.Run.{OneOf}
 use lib.Dec.{leb}
 use borrow.Author.Tests.{le-leb, lt-leb, leb-true, leb-false, ne-eqb}
-use lib.ListN.{length, take, drop, getD, drop-of-length-le, length-drop}
+use borrow.Rule.Slice.PartMut.{putMid}
+use lib.ListN.{length, take, drop, getD, set, drop-of-length-le, length-drop}
 use lib.Seq.{drop-cons, drop-drop, length-take-le}
 use Rattle.codec.specs.declared.Decoded.the-variants as decoded
 use Rattle.codec.specs.Answers.{Answer, accepted, refused, answerOf}
+use Rattle.codec.specs.Format.{allowed, putBuffer}
 use Rattle.codec.specs.Reader.{shift, named, guard, mapped}
 use Rattle.codec.specs.Reads.{Bounded}
 use Rattle.codec.proofs.Answers.{gives-accepted}
@@ -26,14 +28,12 @@ use Rattle.compact_u64.specs.Answers.{numberAnswer}
 use Rattle.compact_u64.proofs.Standalone.{standalone-bounded}
 use Rattle.path.specs.declared.Path.{Path}
 use Rattle.path.specs.declared.PathBuilder.{PathBuilder}
-use Rattle.path.specs.declared.Growth.{Growth}
-use Rattle.path.specs.declared.Appended.the-variants as appended
 use Rattle.path.specs.Limits.{limits, totalOf}
 use Rattle.path.specs.Record.{componentsOf, pathFrom}
-use Rattle.path.specs.Builder.{builderFrom, isBuilder, growth, pushComponent}
+use Rattle.path.specs.Builder.{builderFrom, isBuilder}
 use Rattle.path.proofs.Limits.{limits-of}
 use Rattle.path.proofs.Record.{count-of}
-use Rattle.path.proofs.Builder.{Fitting, pushed, built-count, built-total, builder-is, rebuilt}
+use Rattle.path.proofs.Builder.{Fitting, built-count, built-total, built-grown, builder-is, rebuilt}
 use Rattle.path_suffix.specs.Header.{unpackTags}
 use Rattle.path_suffix.specs.Suffix.{Sizes, sizesFrom, readSizes, readSized, readLast, readComponents, readSuffix}
 use Rattle.path_suffix.proofs.Header.{sizes-bounded}
@@ -44,6 +44,7 @@ use Rattle.path_codec.specs.declared.DecodedComponent.{DecodedComponent}
 use Rattle.path_codec.specs.declared.DecodedComponent.the-variants as component
 use Rattle.path_codec.specs.Plain.{readPath, readOnto}
 use Rattle.path_codec.specs.Answers.{GivesPath, sizesAnswer, sizedAnswer, ReadsSized, numberRefusal, lengthRefusal, sizesRefusal, componentRefusal, Room, ahead, lastAhead}
+use Rattle.path_codec.proofs.Parts.{put-grown, room-long}
 
 -- ---- refusals handed on: the same number before and after
 pub record NoNumber (x : DecodedU64) : Type 0 where
@@ -201,12 +202,21 @@ module _ (used total : ℕ) (done : List (List ℕ)) (at : ℕ) (m : List ℕ) w
       unfolding lastAhead readLast
       last-there f = rw (le-leb used total h, le-leb (total - used) 300 short, le-leb (total - used) (length (drop at m)) (rw length-drop f))
 
--- pushed onto the builder
-pub last-pushed : (used total at : ℕ) (m : List ℕ) (onto : PathBuilder) → Room onto 1 (total - used) → used ≤ total → total - used ≤ 300 → total - used ≤ length m - at
-    → (g : Growth) → g ≡ pushComponent onto (take (at + (total - used) - at) (drop at m))
-    → GivesPath (record { answer = decoded.Consumed (at + (total - used)); path = g .builder .path }) (lastAhead used total (componentsOf (onto .path)) at m)
-last-pushed used total at m onto room h short f g e =
+-- put after the builder's own
+pub last-put : (used total at : ℕ) (m : List ℕ) (onto : PathBuilder) → Room onto 1 (total - used) → used ≤ total → total - used ≤ 300 → total - used ≤ length m - at
+    → (ys : List ℕ) → ys ≡ putBuffer allowed (take (at + (total - used) - at) (drop at m)) (take (600 - onto .total) (drop (onto .total) (onto .path .bytes)))
+    → GivesPath (record {
+      answer = decoded.Consumed (at + (total - used));
+      path = record {
+        bytes = putMid (onto .total) (600 - onto .total) (onto .path .bytes) ys;
+        lengths = set (onto .path .lengths) (onto .path .count) (total - used);
+        count = onto .path .count + 1;
+      };
+    })
+    (lastAhead used total (componentsOf (onto .path)) at m)
+last-put used total at m onto room h short f ys e =
     let cs = componentsOf (onto .path) in
+    let c = take (total - used) (drop at m) in
     let part : at + (total - used) - at ≡ total - used = omega arith in
     let long : length (take (total - used) (drop at m)) ≡ total - used = length-take-le (total - used) (drop at m) (rw length-drop f) in
     let fit : Fitting (totalOf cs) (length cs) (length (take (total - used) (drop at m))) = record {
@@ -214,8 +224,8 @@ last-pushed used total at m onto room h short f g e =
       few = omega (arith, room .counts);
       fits = omega (arith, room .totals, built-total onto cs (room .made));
     } in
-    let is : g ≡ growth appended.Grown (builderFrom (cs ++ (take (total - used) (drop at m) ∷ []))) = rw part at e ∙ pushed onto cs (room .made) _ fit in
-    gives-accepted (last-there used total cs at m h short f ∙ ap (λ (y : Growth). accepted (y .builder .path) (at + (total - used))) (sym is))
+    let is = put-grown onto c (total - used) ys (room-long room) (omega (arith, room .totals)) (sym long) (rw part at e) ∙ built-grown onto cs (room .made) c fit in
+    gives-accepted (last-there used total cs at m h short f ∙ ap (λ (y : PathBuilder). accepted (y .path) (at + (total - used))) (sym is))
 
 -- ---- components onto a builder
 module _ (canonic : Bool) (b : PathBuilder) (total count : ℕ) (m : List ℕ) where

@@ -1,4 +1,5 @@
 pub mod Yields
 pub mod Plain
+pub mod Parts
 pub mod Exits
 pub mod Loop

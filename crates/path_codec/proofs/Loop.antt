@@ -6,19 +6,22 @@ use Prim.Native.Nat.{ℕ, _+_, _-_, _*_, _≤_, _<_}
 use native.Mathlib.Omega.{arith}
 use lib.Dec.{leb}
 use borrow.Author.Tests.{leb-true, leb-false}
-use lib.ListN.{length, take, drop, length-drop, length-append}
+use lib.ListN.{length, take, drop, set, length-drop, length-append}
 use lib.Seq.{length-take-le}
+use borrow.Rule.Slice.PartMut.{putMid}
 use Rattle.codec.specs.Answers.{refused}
+use Rattle.codec.specs.Format.{allowed, putBuffer}
 use Rattle.path.specs.declared.PathBuilder.{PathBuilder}
-use Rattle.path.specs.declared.Appended.the-variants as appended
 use Rattle.path.specs.Limits.{totalOf}
 use Rattle.path.specs.Record.{componentsOf}
-use Rattle.path.specs.Builder.{builderFrom, growth, pushComponent}
+use Rattle.path.specs.Builder.{builderFrom}
 use Rattle.path.proofs.Limits.{total-snoc}
-use Rattle.path.proofs.Builder.{Fitting, pushed, built-total, built-components}
+use Rattle.path.proofs.Record.{bytes-long}
+use Rattle.path.proofs.Builder.{Fitting, built-components, built-count, built-total, built-grown}
 use Rattle.path_suffix.specs.Suffix.{readSized}
 use Rattle.path_codec.specs.declared.DecodedComponent.the-variants as component
-use Rattle.path_codec.specs.Answers.{ReadsSized, Room, ahead, lastAhead}
+use Rattle.path_codec.specs.Answers.{builderOf, ReadsSized, Room, ahead, lastAhead}
+use Rattle.path_codec.proofs.Parts.{put-grown}
 use Rattle.path_codec.proofs.Exits.{ahead-refused, ahead-turn, ahead-last, last-over}
 
 -- What was read onto a builder, and what is still to be read. The builder is kept as long as the lengths are within the total.
@@ -60,16 +63,39 @@ module _ {canonic : Bool} {m : List ℕ} {onto : PathBuilder} {count total : ℕ
     part-long : length (take (e - b) (drop b m)) ≡ e - b
     part-long = length-take-le (e - b) (drop b m) (rw length-drop (omega (arith, r .inside .1, r .inside .2)))
 
-    -- a component within the total goes onto the builder
-    pub turn-pushed : 1 < left → used + (e - b) ≤ total → pushComponent builder (take (e - b) (drop b m)) ≡ growth appended.Grown (builderFrom (h .done ++ (take (e - b) (drop b m) ∷ [])))
-    turn-pushed l f =
-        let long = part-long in
-        let fit : Fitting (totalOf (h .done)) (length (h .done)) (length (take (e - b) (drop b m))) = record {
-          short = omega (arith, r .inside .3);
-          few = omega (arith, h .counts, room .counts);
-          fits = omega (arith, h .sums, room .totals, built-total onto (componentsOf (onto .path)) (room .made));
-        } in
-        pushed builder (h .done) (h .kept (omega arith)) _ fit
+    -- a component within the total fits, and goes onto the builder
+    module _ (l : 1 < left) (f : used + (e - b) ≤ total) where
+      fits : Fitting (totalOf (h .done)) (length (h .done)) (length (take (e - b) (drop b m)))
+      fits =
+          let long = part-long in
+          record {
+            short = omega (arith, r .inside .3);
+            few = omega (arith, h .counts, room .counts);
+            fits = omega (arith, h .sums, room .totals, built-total onto (componentsOf (onto .path)) (room .made));
+          }
+
+      pub turn-fits : Fitting (builder .total) (builder .path .count) (e - b)
+      turn-fits =
+          let same = h .kept (omega arith) in
+          let k = fits in
+          let long = part-long in
+          record {
+            short = omega (arith, k .short);
+            few = omega (arith, k .few, built-count builder (h .done) same);
+            fits = omega (arith, k .fits, built-total builder (h .done) same);
+          }
+
+      pub turn-long : length (builder .path .bytes) ≡ 600
+      turn-long = ap (λ (y : PathBuilder). length (y .path .bytes)) (h .kept (omega arith)) ∙ bytes-long (h .done) (omega (arith, fits .fits))
+
+      pub turn-grown : (n : ℕ) (ys : List ℕ) → n ≡ e - b → ys ≡ putBuffer allowed (take (e - b) (drop b m)) (take (600 - builder .total) (drop (builder .total) (builder .path .bytes)))
+          → builderOf (putMid (builder .total) (600 - builder .total) (builder .path .bytes) ys) (set (builder .path .lengths) (builder .path .count) n) (builder .path .count + 1) (builder .total + n)
+          ≡ builderFrom (h .done ++ (take (e - b) (drop b m) ∷ []))
+      turn-grown n ys k put =
+          let c = take (e - b) (drop b m) in
+          let long : n ≡ length c = k ∙ sym part-long in
+          put-grown builder c n ys turn-long (omega (arith, turn-fits .fits, part-long)) long put
+          ∙ built-grown builder (h .done) (h .kept (omega arith)) c fits
 
     pub turn : 1 < left → (q : PathBuilder) → (used + (e - b) ≤ total → q ≡ builderFrom (h .done ++ (take (e - b) (drop b m) ∷ [])))
         → Held canonic m onto count total q (used + (e - b)) e (left - 1)

@@ -72,6 +72,10 @@ componentRefusal component.TheirFault = decoded.TheirFault
 
 -- ---- inside the reader
 
+-- the builder that the code holds by its parts
+abbrev pub builderOf : List ℕ → List ℕ → ℕ → ℕ → PathBuilder
+builderOf bytes lengths count total = record { path = record { bytes = bytes; lengths = lengths; count = count }; total = total }
+
 -- a builder that appends make, with room for count components of total bytes
 pub record Room (b : PathBuilder) (count total : ℕ) : Type 0 where
   pub made : b ≡ builderFrom (componentsOf (b .path))

@@ -5,7 +5,7 @@ ghost use lib.ListN.{length, drop};
 ghost use Rattle.path.specs.Record.{componentsOf};
 ghost use Rattle.path_suffix.specs.Suffix.{readSizes};
 ghost use Rattle.path_codec.specs.Plain.{readOnto};
-ghost use Rattle.path_codec.specs.Answers.{GivesPath, sizesAnswer, ReadsSized, numberRefusal, lengthRefusal, sizesRefusal, componentRefusal, Room, ahead, lastAhead};
+ghost use Rattle.path_codec.specs.Answers.{GivesPath, sizesAnswer, ReadsSized, numberRefusal, lengthRefusal, sizesRefusal, componentRefusal, builderOf, Room, ahead, lastAhead};
 use crate::DecodedComponent;
 use crate::DecodedPath;
 use crate::DecodedSizes;
@@ -123,16 +123,78 @@ fn decode_last(
         return crate::refuse(Decoded::EndOfInput);
     }
     let end = at + len;
-    let grown = onto.push_component(&message[at..end]);
-    let builder = grown.builder;
-    let path = builder.path;
+    let first = onto.path;
+    let mut bytes = first.bytes;
+    let mut lengths = first.lengths;
+    let n = first.count;
+    let filled = onto.total;
+    codec::put_bytes(&mut bytes[filled..], &message[at..end]);
+    lengths[n] = len;
+    let path = Path {
+        bytes: bytes,
+        lengths: lengths,
+        count: n + 1,
+    };
     DecodedPath {
         answer: Decoded::Consumed(end),
         path: path,
     }
 }
 
-// Reads `count` components of `total` bytes in all onto a builder. Lengths that run over the total are read to the end, their bytes not kept.
+fn from_parts(bytes: [u8; 600], lengths: [usize; 20], count: usize, total: usize) -> PathBuilder
+    ensures { λ r. ⌜ r ≡ builderOf bytes lengths count total ⌝ }
+{
+    let path = Path {
+        bytes: bytes,
+        lengths: lengths,
+        count: count,
+    };
+    PathBuilder {
+        path: path,
+        total: total,
+    }
+}
+
+// Reads `count` components, one at least, of `total` bytes in all after those of a builder. Lengths that run over the total are read to the end, their bytes not kept.
+fn decode_some(
+    message: &[u8],
+    canonic: bool,
+    count: usize,
+    total: usize,
+    onto: PathBuilder,
+) -> DecodedPath
+    requires { ⌜ (1 ≤ count) × Room onto count total ⌝ }
+    ensures { λ r. ⌜ GivesPath r (ahead canonic count 0 total (componentsOf (onto .path)) 0 (now (message .entry))) ⌝ }
+{
+    let first = onto.path;
+    let mut bytes = first.bytes;
+    let mut lengths = first.lengths;
+    let mut n = first.count;
+    let mut filled = onto.total;
+    let mut used: usize = 0;
+    let mut at: usize = 0;
+    let mut left = count;
+    while 1 < left {
+        let component = decode_sized(message, at, canonic);
+        let DecodedComponent::Bytes(begin, end) = component else {
+            return crate::refuse(component_refusal(component));
+        };
+        let len = end - begin;
+        used += len;
+        if used <= total {
+            codec::put_bytes(&mut bytes[filled..], &message[begin..end]);
+            lengths[n] = len;
+            n += 1;
+            filled += len;
+        }
+        at = end;
+        left -= 1;
+    }
+    let builder = from_parts(bytes, lengths, n, filled);
+    decode_last(message, at, used, total, builder)
+}
+
+// Reads `count` components of `total` bytes in all onto a builder.
 fn decode_all(
     message: &[u8],
     canonic: bool,
@@ -143,35 +205,17 @@ fn decode_all(
     requires { ⌜ Room onto count total ⌝ }
     ensures { λ r. ⌜ GivesPath r (ahead canonic count 0 total (componentsOf (onto .path)) 0 (now (message .entry))) ⌝ }
 {
-    if count == 0 {
-        if total != 0 {
-            return crate::refuse(Decoded::TheirFault);
-        }
-        let path = onto.path;
-        return DecodedPath {
-            answer: Decoded::Consumed(0),
-            path: path,
-        };
+    if count != 0 {
+        return decode_some(message, canonic, count, total, onto);
     }
-    let mut builder = onto;
-    let mut used: usize = 0;
-    let mut at: usize = 0;
-    let mut left = count;
-    while 1 < left {
-        let component = decode_sized(message, at, canonic);
-        let DecodedComponent::Bytes(begin, end) = component else {
-            return crate::refuse(component_refusal(component));
-        };
-        used += end - begin;
-        if used <= total {
-            let grown = builder.push_component(&message[begin..end]);
-            let next = grown.builder;
-            builder = next;
-        }
-        at = end;
-        left -= 1;
+    if total != 0 {
+        return crate::refuse(Decoded::TheirFault);
     }
-    decode_last(message, at, used, total, builder)
+    let path = onto.path;
+    DecodedPath {
+        answer: Decoded::Consumed(0),
+        path: path,
+    }
 }
 
 // Reads components onto a builder, from the message's first byte on.

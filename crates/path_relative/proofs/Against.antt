@@ -16,7 +16,7 @@ use Rattle.codec.proofs.Bounded.{then-bounded, checked-bounded, mapped-bounded}
 use Rattle.compact_u64.specs.Number.{standaloneBytes, readStandalone}
 use Rattle.compact_u64.specs.Laws.{StandaloneAs}
 use Rattle.compact_u64.proofs.Standalone.{standalone-reads, standalone-relaxes, standalone-bounded, standalone-short}
-use Rattle.path.specs.Limits.{totalOf, limits, Component, PathOk}
+use Rattle.path.specs.Limits.{totalOf, Component, PathOk}
 use Rattle.path.specs.Prefix.{shared}
 use Rattle.codec.proofs.Tests.{and-left, and-right}
 use Rattle.path.proofs.Limits.{total-append, total-split, all-append, all-take, all-drop, limits-total, limits-count, limits-of}

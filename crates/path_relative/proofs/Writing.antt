@@ -1,14 +1,16 @@
 -- What comparing the path with its reference tells the writers.
 use mathlib.Core.Path.{_≡_, refl, sym, ap, _∙_}
-use mathlib.Core.List.{List, _++_}
+use mathlib.Core.List.{List, _++_, append-assoc}
 use mathlib.Core.Bool.{Bool, true, false, cond, _&&_}
-use Prim.Native.Nat.{ℕ, _+_, _≤_}
+use Prim.Native.Nat.{ℕ, _+_, _≤_, _<_}
 use native.Mathlib.Omega.{arith}
-use lib.Dec.{eqb}
-use borrow.Author.Tests.{eqb-true}
-use lib.ListN.{length, take, drop, length-append}
-use Rattle.codec.specs.Format.{allowed, barred, over}
-use Rattle.codec.proofs.Lending.{over-then}
+use lib.Dec.{eqb, leb}
+use borrow.Author.Tests.{eqb-true, leb-false}
+use lib.ListN.{length, take, drop, length-append, length-drop, take-append-drop}
+use lib.Seq.{drop-at, drop-drop, length-take-le}
+use Rattle.codec.specs.Answers.{wrote, denied}
+use Rattle.codec.specs.Format.{allowed, barred, over, putAnswer, putBuffer, writeAnswer, writeBuffer}
+use Rattle.codec.proofs.Lending.{put-full, put-fits, put-denied, put-wrote, put-over, wrote-not-denied}
 use Rattle.compact_u64.specs.Number.{standaloneBytes}
 use Rattle.path.specs.declared.Path.{Path}
 use Rattle.path.specs.declared.Compared.the-variants as compared
@@ -50,6 +52,19 @@ pub common-formed : (r p : Path) → wellFormed r ≡ true → wellFormed p ≡ 
 unfolding commonPrefix
 common-formed r p w v = rw (w, v)
 
+-- ---- a writing that was refused for room, and one that was written after the place of another
+no-room : (bs : List ℕ) (room why : ℕ) → putAnswer allowed bs room ≡ denied why → (why ≡ 4) × (room < length bs)
+unfolding putAnswer
+no-room bs room why e = go (leb (length bs) room) refl e
+  where
+    go : (b : Bool) → leb (length bs) room ≡ b → cond b (wrote (length bs)) (denied 4) ≡ denied why → (why ≡ 4) × (room < length bs)
+    go true f g = absurd (wrote-not-denied (length bs) why g)
+    go false f g = (cc, leb-false (length bs) room f)
+
+over-before : (l a b : List ℕ) → length a ≤ length l → over a (take (length a) l ++ over b (drop (length a) l)) ≡ over (a ++ b) l
+over-before l a b h =
+    rw (drop-at (take (length a) l) (over b (drop (length a) l)) (length a) (length-take-le (length a) l h), drop-drop, length-append) (sym (append-assoc a b (drop (length a + length b) l)))
+
 module _ (r p : Path) (k : ℕ) (t : TypedPath p) (c : Common r p k) where
   path-formed : Formed p
   path-formed = formed t (and-right (wellFormed r) (wellFormed p) (c .both))
@@ -72,10 +87,27 @@ module _ (r p : Path) (k : ℕ) (t : TypedPath p) (c : Common r p k) where
   pub rest-short : length (suffixFrom k .encode p) ≤ 1000
   rest-short = omega (arith, suffix-short (drop k (componentsOf p)), rest-count p path-formed k, rest-small p path-formed k, path-formed .well .count)
 
-  -- the count, then the suffix
-  pub against-put : (l : List ℕ) → take (length (standaloneBytes k)) (over (standaloneBytes k) l) ++ over (suffixFrom k .encode p) (drop (length (standaloneBytes k)) (over (standaloneBytes k) l))
-      ≡ over (againstPath r .encode p) l
-  against-put l = over-then l (standaloneBytes k) (suffixFrom k .encode p) ∙ ap (λ (bs : List ℕ). over bs l) (sym against-bytes)
+  -- the suffix after the place of the count, then the count
+  module _ (l : List ℕ) (a : ℕ) (ea : a ≡ length (standaloneBytes k)) (h : a ≤ length l) where
+    pub against-refused : (why : ℕ) (ys : List ℕ) → writeAnswer (suffixFrom k) p (length (drop a l)) ≡ denied why → ys ≡ writeBuffer (suffixFrom k) p (drop a l)
+        → (denied why ≡ writeAnswer (againstPath r) p (length l)) × (take a l ++ ys ≡ writeBuffer (againstPath r) p l)
+    against-refused why ys e put =
+        let bs = suffixFrom k .encode p in
+        let short = no-room bs (length (drop a l)) why (rw rest-allowed at e) in
+        let full = put-full (againstPath r .check p) (againstPath r .encode p) l against-allowed _ (against-long a (length bs) ea refl) (omega (arith, short .1, length-drop a l)) in
+        let same : ys ≡ drop a l = put ∙ sym (put-denied (suffixFrom k .check p) bs (drop a l) why e) in
+        (ap denied (short .0) ∙ full .0, rw same (take-append-drop a l ∙ full .1))
+
+    pub against-written : (n : ℕ) (ys : List ℕ) → writeAnswer (suffixFrom k) p (length (drop a l)) ≡ wrote n → ys ≡ writeBuffer (suffixFrom k) p (drop a l)
+        → (wrote (a + n) ≡ writeAnswer (againstPath r) p (length l)) × (putBuffer allowed (standaloneBytes k) (take a l ++ ys) ≡ writeBuffer (againstPath r) p l)
+    against-written n ys e put =
+        let bs = suffixFrom k .encode p in
+        let w = put-wrote (suffixFrom k .check p) bs (length (drop a l)) n e in
+        let whole = put-fits (againstPath r .check p) (againstPath r .encode p) l against-allowed (a + n) (against-long a n ea (w .long)) (omega (arith, w .fits, length-drop a l)) in
+        let there : ys ≡ over bs (drop a l) = put ∙ sym (put-fits (suffixFrom k .check p) bs (drop a l) (w .allows) n (w .long) (w .fits) .1) in
+        let room : length (standaloneBytes k) ≤ length (take a l ++ ys) = rw (length-append, length-take-le a l h) (omega arith) in
+        let first = put-over (standaloneBytes k) (take a l ++ ys) room in
+        (whole .0, first ∙ rw (there, ea) (over-before l (standaloneBytes k) bs (omega arith)) ∙ ap (λ (x : List ℕ). over x l) (sym against-bytes) ∙ whole .1)
 
 -- ---- a prefix
 module _ (r p : Path) where

@@ -111,26 +111,25 @@ pub fn relative_len_of_encoding(path: Path, reference: Path) -> Encoded
     Encoded::Length(compact_u64::len_of_encoding(k as u64) + n)
 }
 
-// Writes a path against a reference.
+// Writes a path against a reference: the suffix before the count, since it is what may not fit.
 pub fn relative_encode(buffer: &mut [u8], path: Path, reference: Path) -> Encoded
     ensures { λ r. ⌜ (outcomeOf r ≡ writeAnswer (againstPath reference) path (length (now (buffer .entry)))) × (now (buffer .exit) ≡ writeBuffer (againstPath reference) path (now (buffer .entry))) ⌝ }
 {
-    let whole = relative_len_of_encoding(path, reference);
-    let Encoded::Length(n) = whole else {
-        return whole;
-    };
-    if buffer.len() < n {
-        return Encoded::NoRoom;
-    }
     let common = reference.longest_common_prefix(path);
     let ComponentCount::Components(k) = common else {
         return Encoded::Malformed;
     };
     let shared = k as u64;
     let a = compact_u64::len_of_encoding(shared);
+    if buffer.len() < a {
+        return Encoded::NoRoom;
+    }
+    let suffix = path_suffix::encode_suffix(&mut buffer[a..], path, k);
+    let Encoded::Length(n) = suffix else {
+        return suffix;
+    };
     compact_u64::encode(buffer, shared);
-    path_suffix::encode_suffix(&mut buffer[a..], path, k);
-    Encoded::Length(n)
+    Encoded::Length(a + n)
 }
 
 // Reads an extension of a path.

@@ -3,4 +3,5 @@ pub mod Components
 pub mod Suffix
 pub mod Yields
 pub mod Writing
+pub mod Lengths
 pub mod Orders

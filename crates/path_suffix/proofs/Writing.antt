@@ -1,79 +1,19 @@
 -- Laws of the bytes that writers put: the components of a record one by one, a component after its length, the sizes, and a suffix by its parts.
-use mathlib.Core.Path.{_≡_, refl, ap, _∙_}
-use mathlib.Core.List.{List, [], _∷_, _++_}
+use mathlib.Core.Path.{_≡_, refl}
+use mathlib.Core.List.{List, _∷_, _++_}
 use mathlib.Core.Bool.{true, false}
-use Prim.Native.Nat.{ℕ, suc, _+_, _-_, _≤_, _<_}
+use Prim.Native.Nat.{ℕ, _+_, _-_, _≤_, _<_}
 use native.Mathlib.Omega.{arith}
 use borrow.Author.Tests.{le-leb, lt-leb}
-use lib.ListN.{length, take, drop, set, length-append, length-drop, length-set, drop-of-length-le}
+use lib.ListN.{length, take, drop, set, length-append, length-drop, length-set}
 use lib.Seq.{drop-at}
 use Rattle.codec.specs.Format.{allowed, barred, over, putBuffer}
-use Rattle.codec.proofs.Lending.{put-over, over-then, over-turn, over-cons}
+use Rattle.codec.proofs.Lending.{put-over, over-then, over-cons}
 use Rattle.compact_u64.specs.Number.{numberBytes, standaloneBytes}
 use Rattle.path.specs.declared.Path.{Path}
-use Rattle.path.specs.Limits.{totalOf}
-use Rattle.path.specs.Record.{componentsOf, wellFormed, lengthAt, startAt}
-use Rattle.path.proofs.Limits.{total-split, total-grows}
-use Rattle.path.proofs.Components.{Formed, bytesAt, count-is, whole, rest-count, component, component-long, part-bytes}
+use Rattle.path.specs.Record.{wellFormed}
 use Rattle.path_suffix.specs.Header.{packTags}
 use Rattle.path_suffix.specs.Suffix.{Sizes, sizesFrom, sizesOf, tagsOf, sizesBytes, sizedBytes, componentBytes, suffixBytes, suffixFrom}
-use Rattle.path_suffix.proofs.Components.{bytes-cons}
-
--- what the components of a record from the i-th on are written as
-abbrev pub bytesFrom : Path → ℕ → List ℕ
-bytesFrom p i = componentBytes (drop i (componentsOf p))
-
-module _ (p : Path) (f : Formed p) where
-  pub bytes-none : (k : ℕ) → p .count ≤ k → bytesFrom p k ≡ []
-  unfolding componentBytes
-  bytes-none k h =
-      let e : length (componentsOf p) ≤ k = omega (arith, count-is p f) in
-      rw (drop-of-length-le (componentsOf p) e)
-
-  module _ (i : ℕ) (h : i < p .count) where
-    -- one component of more, and the last
-    bytes-turn : i + 1 < p .count → bytesFrom p i ≡ sizedBytes (bytesAt p i) ++ bytesFrom p (i + 1)
-    bytes-turn more =
-        let rest = drop (i + 1) (componentsOf p) in
-        let left = p .count - (i + 1) - 1 in
-        let n : length rest ≡ suc left = rest-count p f (i + 1) ∙ omega arith in
-        rw (component p f i h) (bytes-cons (bytesAt p i) rest left n)
-
-    pub bytes-last : p .count ≤ i + 1 → bytesFrom p i ≡ bytesAt p i
-    unfolding componentBytes
-    bytes-last last =
-        let e : length (componentsOf p) ≤ i + 1 = omega (arith, count-is p f) in
-        rw (component p f i h, drop-of-length-le (componentsOf p) e)
-
-    -- the part of the record's bytes that the code takes, n being the length it was told
-    pub part-is : (from n : ℕ) → from ≡ startAt p i → n ≡ lengthAt p i → take (from + n - from) (drop from (p .bytes)) ≡ bytesAt p i
-    part-is from n e long = rw long (part-bytes p f i h from e)
-
-    -- how long they are
-    pub room-turn : i + 1 < p .count → length (bytesFrom p i) ≡ length (sizedBytes (bytesAt p i)) + length (bytesFrom p (i + 1))
-    room-turn more = ap length (bytes-turn more) ∙ length-append (sizedBytes (bytesAt p i)) (bytesFrom p (i + 1))
-
-    pub length-turn : i + 1 < p .count → length (bytesFrom p i) ≡ length (standaloneBytes (lengthAt p i)) + lengthAt p i + length (bytesFrom p (i + 1))
-    length-turn more = room-turn more ∙ rw (length-append (standaloneBytes (length (bytesAt p i))), component-long p f i h)
-
-    pub length-last : p .count ≤ i + 1 → length (bytesFrom p i) ≡ lengthAt p i
-    length-last last = ap length (bytes-last last) ∙ component-long p f i h
-
-    -- one component written, from place `at` of a buffer on
-    pub write-turn : (l : List ℕ) (at : ℕ) → at ≤ length l → i + 1 < p .count
-        → take at l ++ over (bytesFrom p i) (drop at l)
-        ≡ take (at + length (sizedBytes (bytesAt p i))) (take at l ++ over (sizedBytes (bytesAt p i)) (drop at l))
-        ++ over (bytesFrom p (i + 1)) (drop (at + length (sizedBytes (bytesAt p i))) (take at l ++ over (sizedBytes (bytesAt p i)) (drop at l)))
-    write-turn l at inside more = rw (bytes-turn more) (over-turn l (sizedBytes (bytesAt p i)) (bytesFrom p (i + 1)) at inside)
-
-  -- the sizes of the suffix from the k-th component on, as the code has them
-  pub start-grows : (k : ℕ) → k ≤ p .count → startAt p k ≤ startAt p (p .count)
-  start-grows k h = total-grows k (p .count) (componentsOf p) h
-
-  pub suffix-sizes : (k a b : ℕ) → a ≡ startAt p (p .count) → b ≡ startAt p k → sizesFrom (a - b) (p .count - k) ≡ sizesOf (drop k (componentsOf p))
-  suffix-sizes k a b ea eb =
-      let total : a - b ≡ totalOf (drop k (componentsOf p)) = omega (arith, total-split k (componentsOf p), ap totalOf (whole p f)) in
-      rw (total, rest-count p f k)
 
 -- ---- bytes put at the start of a buffer
 

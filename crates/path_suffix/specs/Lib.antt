@@ -1,3 +1,4 @@
 pub mod Header
 pub mod Suffix
+pub mod Lengths
 pub mod Relations

@@ -1,12 +1,12 @@
 // Writing a suffix: docs/FORMAT.md, "Paths". Its sizes, then its components, every one but the last after its length.
 ghost use mathlib.Core.Path.{_≡_};
-ghost use mathlib.Core.Bool.{true};
 ghost use Prim.Native.Nat.{_≤_};
-ghost use lib.ListN.{length, drop};
+ghost use lib.ListN.{length};
 ghost use Rattle.codec.specs.Answers.{outcomeOf};
 ghost use Rattle.codec.specs.Format.{over, writeAnswer, writeBuffer, lengthAnswer};
-ghost use Rattle.path.specs.Record.{componentsOf, wellFormed, startAt};
+ghost use Rattle.path.specs.Record.{sumOf, cutUp};
 ghost use Rattle.path_suffix.specs.Suffix.{sizesFrom, sizedBytes, componentBytes, sizesBytes, suffixBytes, suffixFrom};
+ghost use Rattle.path_suffix.specs.Lengths.{Lengths, CutFrom, componentsLength, suffixLength};
 use codec::Encoded;
 use compact_u64::TagWidth;
 use path::Path;
@@ -39,59 +39,58 @@ fn put_sized(buffer: &mut [u8], s: &[u8]) -> usize
     n + put(&mut buffer[n..], s)
 }
 
-// How many bytes the components before the k-th have in all.
-fn start_of(path: Path, k: usize) -> usize
-    requires { ⌜ (wellFormed path ≡ true) × (k ≤ path .count) ⌝ }
-    ensures { λ r. ⌜ (r ≡ startAt path k) × (r ≤ 600) ⌝ }
+// How many bytes components of these lengths have in all.
+fn total_of(lengths: &[usize]) -> usize
+    requires { ⌜ sumOf (now lengths) ≤ 600 ⌝ }
+    ensures { λ r. ⌜ r ≡ sumOf (now (lengths .entry)) ⌝ }
 {
-    let mut at: usize = 0;
+    let mut total: usize = 0;
     let mut i: usize = 0;
-    while i < k {
-        at += path.component_len(i);
+    while i < lengths.len() {
+        total += lengths[i];
         i += 1;
     }
-    at
+    total
 }
 
-// How many bytes the components from the k-th on are written as.
-fn components_len(path: Path, k: usize) -> usize
-    requires { ⌜ wellFormed path ≡ true ⌝ }
-    ensures { λ r. ⌜ (r ≡ length (componentBytes (drop k (componentsOf path)))) × (r ≤ 7000) ⌝ }
+// How many bytes components of these lengths are written as.
+fn components_len(lengths: &[usize]) -> usize
+    requires { ⌜ Lengths (now lengths) ⌝ }
+    ensures { λ r. ⌜ r ≡ componentsLength (now (lengths .entry)) ⌝ }
 {
-    let n = path.count;
-    if n <= k {
+    let n = lengths.len();
+    if n == 0 {
         return 0;
     }
     let mut t: usize = 0;
-    let mut i = k;
+    let mut i: usize = 0;
     while i + 1 < n {
-        let len = path.component_len(i);
+        let len = lengths[i];
         t += compact_u64::len_of_encoding(len as u64) + len;
         i += 1;
     }
-    t + path.component_len(i)
+    t + lengths[i]
 }
 
-// Writes the components from the k-th on.
-fn put_components(buffer: &mut [u8], path: Path, k: usize) -> usize
-    requires { ⌜ (wellFormed path ≡ true) × (length (componentBytes (drop k (componentsOf path))) ≤ length (now buffer)) ⌝ }
-    ensures { λ r. ⌜ (r ≡ length (componentBytes (drop k (componentsOf path)))) × (now (buffer .exit) ≡ over (componentBytes (drop k (componentsOf path))) (now (buffer .entry))) ⌝ }
+// Writes components of these lengths that stand one after the other.
+fn put_components(buffer: &mut [u8], bytes: &[u8], lengths: &[usize]) -> usize
+    requires { ⌜ CutFrom (now lengths) (now bytes) × (length (componentBytes (cutUp (now lengths) (now bytes))) ≤ length (now buffer)) ⌝ }
+    ensures { λ r. ⌜ (r ≡ length (componentBytes (cutUp (now (lengths .entry)) (now (bytes .entry))))) × (now (buffer .exit) ≡ over (componentBytes (cutUp (now (lengths .entry)) (now (bytes .entry)))) (now (buffer .entry))) ⌝ }
 {
-    let n = path.count;
-    if n <= k {
+    let n = lengths.len();
+    if n == 0 {
         return 0;
     }
-    let bytes = path.bytes;
-    let mut from = start_of(path, k);
+    let mut from: usize = 0;
     let mut at: usize = 0;
-    let mut i = k;
+    let mut i: usize = 0;
     while i + 1 < n {
-        let to = from + path.component_len(i);
+        let to = from + lengths[i];
         at += put_sized(&mut buffer[at..], &bytes[from..to]);
         from = to;
         i += 1;
     }
-    let to = from + path.component_len(i);
+    let to = from + lengths[i];
     at + put(&mut buffer[at..], &bytes[from..to])
 }
 
@@ -112,29 +111,27 @@ fn put_sizes(buffer: &mut [u8], total: u64, count: u64) -> usize
     b
 }
 
-// How many bytes the suffix from the k-th component on is written as.
-fn len_from(path: Path, k: usize) -> usize
-    requires { ⌜ (wellFormed path ≡ true) × (k ≤ path .count) ⌝ }
-    ensures { λ r. ⌜ (r ≡ length (suffixBytes (drop k (componentsOf path)))) × (r ≤ 8000) ⌝ }
+// How many bytes a suffix of components of these lengths is written as.
+fn len_of(lengths: &[usize]) -> usize
+    requires { ⌜ Lengths (now lengths) ⌝ }
+    ensures { λ r. ⌜ (r ≡ suffixLength (now (lengths .entry))) × (r ≤ 8000) ⌝ }
 {
-    let n = path.count;
-    let total = (start_of(path, n) - start_of(path, k)) as u64;
-    let count = (n - k) as u64;
+    let total = total_of(lengths) as u64;
+    let count = lengths.len() as u64;
     let a = compact_u64::relative_len_of_encoding(TagWidth::Four, total);
     let b = compact_u64::relative_len_of_encoding(TagWidth::Four, count);
-    1 + (a + b) + components_len(path, k)
+    1 + (a + b) + components_len(lengths)
 }
 
-// Writes the suffix from the k-th component on.
-fn put_suffix(buffer: &mut [u8], path: Path, k: usize) -> usize
-    requires { ⌜ (wellFormed path ≡ true) × (k ≤ path .count) × (length (suffixBytes (drop k (componentsOf path))) ≤ length (now buffer)) ⌝ }
-    ensures { λ r. ⌜ (r ≡ length (suffixBytes (drop k (componentsOf path)))) × (now (buffer .exit) ≡ over (suffixBytes (drop k (componentsOf path))) (now (buffer .entry))) ⌝ }
+// Writes a suffix of components of these lengths that stand one after the other.
+fn put_suffix(buffer: &mut [u8], bytes: &[u8], lengths: &[usize]) -> usize
+    requires { ⌜ CutFrom (now lengths) (now bytes) × (length (suffixBytes (cutUp (now lengths) (now bytes))) ≤ length (now buffer)) ⌝ }
+    ensures { λ r. ⌜ (r ≡ length (suffixBytes (cutUp (now (lengths .entry)) (now (bytes .entry))))) × (now (buffer .exit) ≡ over (suffixBytes (cutUp (now (lengths .entry)) (now (bytes .entry)))) (now (buffer .entry))) ⌝ }
 {
-    let n = path.count;
-    let total = (start_of(path, n) - start_of(path, k)) as u64;
-    let count = (n - k) as u64;
+    let total = total_of(lengths) as u64;
+    let count = lengths.len() as u64;
     let a = put_sizes(buffer, total, count);
-    a + put_components(&mut buffer[a..], path, k)
+    a + put_components(&mut buffer[a..], bytes, lengths)
 }
 
 // How many bytes the suffix of a path from its k-th component on takes.
@@ -149,7 +146,8 @@ pub fn suffix_len(path: Path, k: usize) -> Encoded
     if n < k {
         return Encoded::Outside;
     }
-    Encoded::Length(len_from(path, k))
+    let lengths = path.lengths;
+    Encoded::Length(len_of(&lengths[k..n]))
 }
 
 // Writes the suffix of a path from its k-th component on.
@@ -164,10 +162,13 @@ pub fn encode_suffix(buffer: &mut [u8], path: Path, k: usize) -> Encoded
     if n < k {
         return Encoded::Outside;
     }
-    let len = len_from(path, k);
+    let lengths = path.lengths;
+    let len = len_of(&lengths[k..n]);
     if buffer.len() < len {
         return Encoded::NoRoom;
     }
-    put_suffix(buffer, path, k);
+    let bytes = path.bytes;
+    let at = total_of(&lengths[..k]);
+    put_suffix(buffer, &bytes[at..], &lengths[k..n]);
     Encoded::Length(len)
 }

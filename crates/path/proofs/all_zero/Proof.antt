@@ -1,5 +1,7 @@
 use Prim.Native.Nat.{_≤_, _-_}
 use mathlib.Core.Path.{_≡_, refl, _∙_, sym}
+use mathlib.Core.Bool.{_&&_, and-true, and-false}
+use mathlib.Core.Logic.{⊎-elim}
 use denote.Ref.{now}
 use native.Mathlib.Omega.{arith}
 use borrow.Author.Tests.{lt-leb, le-leb}
@@ -10,22 +12,16 @@ use Rattle.path.proofs.all_zero.Statement.{statement}
 use Rattle.path.proofs.all_zero.Tie as tie
 
 abbrev Inv-loop : tie.InvT-loop
-Inv-loop s i₀ i = (i ≤ length s) × (allAtMost 0 s ≡ allAtMost 0 (drop i s))
+Inv-loop s clear₀ i₀ clear i = (i ≤ length s) × (allAtMost 0 s ≡ (allAtMost 0 (drop i s) && clear))
 
 abbrev μ-loop : tie.MeasureT-loop
-μ-loop s i₀ i = length s - i
+μ-loop s clear₀ i₀ clear i = length s - i
 
 loop-holds : tie.Need-loop-holds Inv-loop μ-loop
-loop-holds c = (omega arith, refl)
+loop-holds c = (omega arith, sym (and-true _))
 
 shared-slice-read-if1 : tie.Need-shared-slice-read-if1 Inv-loop μ-loop
 shared-slice-read-if1 c = omega arith
-
-returns : tie.Need-returns Inv-loop μ-loop
-returns c =
-    let l = c .before .before .before .loop in
-    let a = c .before .before .before .before .args in
-    sym (l .inv .1 ∙ at-most-next 0 (now (a .s)) (l .i) (omega arith) ∙ rw (lt-leb _ _ (c .if1 .taken)))
 
 add-i : tie.Need-add-i Inv-loop μ-loop
 add-i c = omega arith
@@ -37,23 +33,20 @@ loop-again : tie.Need-loop-again Inv-loop μ-loop
 loop-again c =
     let l = c .before .before .before .loop in
     let a = c .before .before .before .before .args in
-    (omega arith, l .inv .1 ∙ at-most-next 0 (now (a .s)) (l .i) (omega arith) ∙ rw (le-leb _ _ (c .if1 .left)))
+    let e = at-most-next 0 (now (a .s)) (l .i) (omega arith) in (
+      omega arith,
+      l .inv .1 ∙ ⊎-elim
+          (λ w. rw (e, lt-leb _ _ (w .0 .taken), w .1, and-false))
+          (λ w. rw (e, le-leb _ _ (w .0 .left), w .1))
+          (c .if1 .came),
+    )
 
-returns-2 : tie.Need-returns-2 Inv-loop μ-loop
-returns-2 c =
+returns : tie.Need-returns Inv-loop μ-loop
+returns c =
     let a = c .before .before .args in
-    sym (c .before .loop .inv .1 ∙ at-most-end 0 (now (a .s)) (c .before .loop .i) (omega arith))
+    sym (c .before .loop .inv .1 ∙ rw (at-most-end 0 (now (a .s)) (c .before .loop .i) (omega arith)))
 
 pub all-zero-spec : {M : Type 1} → statement M
 all-zero-spec =
     tie.close
-    (tie.spec
-    Inv-loop
-    μ-loop
-    loop-holds
-    shared-slice-read-if1
-    returns
-    add-i
-    loop-less
-    loop-again
-    returns-2)
+    (tie.spec Inv-loop μ-loop loop-holds shared-slice-read-if1 add-i loop-less loop-again returns)

@@ -1,77 +1,76 @@
-use Prim.Native.Nat.{_+_, _≤_, _<_, _*_, _-_}
-use mathlib.Core.Path.{_≡_, ap, sym}
+use Rattle.compact_u64.specs.Number.{standaloneBytes}
+use lib.ListN.{length, drop, getD}
+use Prim.Native.Nat.{_+_, _≤_, _<_, _-_}
+use mathlib.Core.Path.{_≡_, sym}
+use denote.Ref.{now}
 use native.Mathlib.Omega.{arith}
 use borrow.Author.Needs.{needs}
-use lib.ListN.{length}
-use Rattle.path.specs.Record.{lengthAt}
-use Rattle.path.proofs.Typed.{typed}
-use Rattle.path.proofs.Components.{Formed, formed, short}
-use Rattle.path_suffix.proofs.Writing.{bytesFrom, bytes-none, length-turn, length-last}
+use Rattle.path_suffix.specs.Lengths.{componentsLength}
+use Rattle.path_suffix.proofs.Lengths.{length-none, length-turn, length-last, lengths-short}
 use Rattle.path_suffix.proofs.components_len.Statement.{statement}
 use Rattle.path_suffix.proofs.components_len.Tie as tie
 
 abbrev Inv-loop : tie.InvT-loop
-Inv-loop path k n t₀ i₀ t i = (k ≤ i) × (i < n) × (t ≤ 309 * i) × (t + length (bytesFrom path i) ≡ length (bytesFrom path k))
+Inv-loop lengths n t₀ i₀ t i = (i < n) × (t + componentsLength (drop i lengths) ≡ componentsLength lengths)
 
 abbrev μ-loop : tie.MeasureT-loop
-μ-loop path k n t₀ i₀ t i = n - i
+μ-loop lengths n t₀ i₀ t i = n - i
 
-here : (c : tie.Start Inv-loop μ-loop) → Formed (c .args .path)
-here c = formed (typed (c .args .path) (c .good .0)) (c .pre)
+small : (c : tie.Start Inv-loop μ-loop) → componentsLength (now (c .args .lengths)) ≤ 780
+small c = omega (arith, lengths-short (now (c .args .lengths)), c .pre .few, c .pre .total)
+
+-- one component of more, and the last
+turn : (c : tie.In-loop Inv-loop μ-loop) → let ls = now (c .before .before .before .before .args .lengths) in let i = c .before .loop .i in
+    componentsLength (drop i ls) ≡ length (standaloneBytes (getD ls i 0)) + getD ls i 0 + componentsLength (drop (i + 1) ls)
+turn c = length-turn (now (c .before .before .before .before .args .lengths)) (c .before .loop .i) (omega arith) (c .loop-test .taken)
+
+last : (c : tie.After-loop Inv-loop μ-loop) → componentsLength (drop (c .before .loop .i) (now (c .before .before .before .before .args .lengths))) ≡ getD (now (c .before .before .before .before .args .lengths)) (c .before .loop .i) 0
+last c = length-last (now (c .before .before .before .before .args .lengths)) (c .before .loop .i) (omega arith) (c .loop-test .left)
 
 returns : tie.Need-returns Inv-loop μ-loop
-returns c = (ap length (sym (bytes-none _ (here (c .before)) _ (c .if1 .taken))), omega arith)
+returns c = sym (length-none _ (c .if1 .taken))
 
 loop-holds : tie.Need-loop-holds Inv-loop μ-loop
-loop-holds c = (omega arith, omega arith, omega arith, omega arith)
+loop-holds c = (omega arith, omega arith)
 
 add-loop : tie.Need-add-loop Inv-loop μ-loop
-add-loop c = omega (arith, here (c .before .before) .well .count)
+add-loop c = omega (arith, c .before .before .before .pre .few)
 
-component-len-requires : tie.Need-component-len-requires Inv-loop μ-loop
-component-len-requires c κs = search needs
+mul-len : tie.Need-mul-len Inv-loop μ-loop
+mul-len c = omega (arith, c .before .before .before .before .pre .few)
+
+shared-slice-read-len : tie.Need-shared-slice-read-len Inv-loop μ-loop
+shared-slice-read-len c = search needs
 
 len-of-encoding-requires : tie.Need-len-of-encoding-requires Inv-loop μ-loop
 len-of-encoding-requires c κs = search needs
 
 add-t : tie.Need-add-t Inv-loop μ-loop
-add-t c = omega (arith, short _ (here (c .before .before .before .before .before)) (c .before .before .before .loop .i) (omega arith), c .before .component-len .ensures)
+add-t c = omega (arith, turn (c .before .before), small (c .before .before .before .before .before .before), c .len-of-encoding .ensures .0)
 
 add-t-2 : tie.Need-add-t-2 Inv-loop μ-loop
-add-t-2 c = omega (arith, here (c .before .before .before .before .before) .well .count, short _ (here (c .before .before .before .before .before)) (c .before .before .before .loop .i) (omega arith), c .before .component-len .ensures)
+add-t-2 c = omega (arith, turn (c .before .before), small (c .before .before .before .before .before .before), c .len-of-encoding .ensures .0)
 
 add-i : tie.Need-add-i Inv-loop μ-loop
-add-i c = omega (arith, here (c .before .before .before .before .before) .well .count)
+add-i c = omega (arith, c .before .before .before .before .before .before .pre .few)
 
 loop-less : tie.Need-loop-less Inv-loop μ-loop
 loop-less c = search needs
 
 loop-again : tie.Need-loop-again Inv-loop μ-loop
-loop-again c =
-    let l = c .before .before .before .loop in
-    let f = here (c .before .before .before .before .before) in
-    let h : l .i < c .before .before .before .before .before .args .path .count = omega arith in
-    let len : c .before .component-len .result ≡ lengthAt (c .before .before .before .before .before .args .path) (l .i) = c .before .component-len .ensures in
-    let n = rw len at (c .len-of-encoding .ensures .0) in (
-      omega arith,
-      omega arith,
-      omega (arith, short _ f (l .i) h, len),
-      omega (arith, length-turn _ f (l .i) h (c .before .before .loop-test .taken), len, n),
-    )
+loop-again c = (omega arith, omega (arith, turn (c .before .before), c .len-of-encoding .ensures .0))
 
-component-len-requires-2 : tie.Need-component-len-requires-2 Inv-loop μ-loop
-component-len-requires-2 c κs = search needs
+mul-result : tie.Need-mul-result Inv-loop μ-loop
+mul-result c = omega (arith, c .before .before .before .before .pre .few)
+
+shared-slice-read-result : tie.Need-shared-slice-read-result Inv-loop μ-loop
+shared-slice-read-result c = search needs
 
 add-result : tie.Need-add-result Inv-loop μ-loop
-add-result c = omega (arith, here (c .before .before .before .before) .well .count, short _ (here (c .before .before .before .before)) (c .before .before .loop .i) (omega arith), c .component-len2 .ensures)
+add-result c = omega (arith, last (c .before), small (c .before .before .before .before .before))
 
 returns-2 : tie.Need-returns-2 Inv-loop μ-loop
-returns-2 c =
-    let l = c .before .before .loop in
-    let f = here (c .before .before .before .before) in
-    let h : l .i < c .before .before .before .before .args .path .count = omega arith in
-    let len = c .component-len2 .ensures in
-    (omega (arith, length-last _ f (l .i) h (c .before .loop-test .left), len), omega (arith, f .well .count, short _ f (l .i) h, len))
+returns-2 c = omega (arith, last (c .before))
 
 pub components-len-spec : {M : Type 1} → statement M
 components-len-spec =
@@ -82,13 +81,15 @@ components-len-spec =
     returns
     loop-holds
     add-loop
-    component-len-requires
+    mul-len
+    shared-slice-read-len
     len-of-encoding-requires
     add-t
     add-t-2
     add-i
     loop-less
     loop-again
-    component-len-requires-2
+    mul-result
+    shared-slice-read-result
     add-result
     returns-2)

@@ -1,18 +1,35 @@
+use Prim.Native.Nat.{_-_, _≤_}
 use mathlib.Core.Path.{_≡_, _∙_, sym}
 use mathlib.Core.Bool.{true}
 use denote.Ref.{now}
 use native.Mathlib.Omega.{arith}
 use borrow.Author.Tests.{not-true, not-false}
+use lib.ListN.{length, take}
+use lib.Seq.{length-take-le}
 use Rattle.codec.proofs.Lending.{put-barred, put-full, put-fits}
-use Rattle.path.specs.Record.{wellFormed}
+use Rattle.path.specs.Record.{sumOf, wellFormed}
+use Rattle.path.proofs.Lists.{rest-part}
+use Rattle.path.proofs.Typed.{typed}
+use Rattle.path.proofs.Components.{Formed, formed}
 use Rattle.path_suffix.specs.Suffix.{suffixFrom}
 use Rattle.path_suffix.proofs.Writing.{suffix-malformed, suffix-outside, suffix-allowed}
+use Rattle.path_suffix.proofs.Lengths.{suffix-cut, suffix-sum, suffix-lengths, suffix-there, suffix-is-long}
 use borrow.Author.Needs.{needs}
 use Rattle.path_suffix.proofs.encode_suffix.Statement.{statement}
 use Rattle.path_suffix.proofs.encode_suffix.Tie as tie
 
 well : (c : tie.Else1) → wellFormed (c .before .before .before .args .path) ≡ true
 well c = sym (c .before .well-formed .ensures) ∙ not-false _ (c .if1 .left)
+
+here : (c : tie.Else1) → Formed (c .before .before .before .args .path)
+here c = formed (typed (c .before .before .before .args .path) (c .before .before .before .good .1 .0)) (well c)
+
+-- past both tests
+sums : (c : tie.Else2) → sumOf (take (c .before .before .before .before .args .k) (c .before .before .before .before .args .path .lengths)) ≤ 600
+sums c = omega (arith, suffix-sum (c .before .before .before .before .args .path) (here (c .before)) (c .before .before .before .before .args .k) (c .if2 .left))
+
+long : (c : tie.After-len-of) → c .len-of .result ≡ length (suffixFrom (c .before .before .before .before .before .before .before .before .args .k) .encode (c .before .before .before .before .before .before .before .before .args .path))
+long c = c .len-of .ensures .0 ∙ suffix-is-long (c .before .before .before .before .before .before .before .before .args .path) (here (c .before .before .before .before .before)) (c .before .before .before .before .before .before .before .before .args .k) (c .before .before .before .before .if2 .left)
 
 well-formed-requires : tie.Need-well-formed-requires
 well-formed-requires c κs = search needs
@@ -23,24 +40,69 @@ returns c = put-barred _ _ (now (c .before .before .before .args .buffer)) 5 (su
 returns-2 : tie.Need-returns-2
 returns-2 c = put-barred _ _ (now (c .before .before .before .before .args .buffer)) 3 (suffix-outside _ _ (well (c .before)) (c .if2 .taken))
 
-len-from-requires : tie.Need-len-from-requires
-len-from-requires c κs = (well (c .before), c .if2 .left)
+mul-len-of : tie.Need-mul-len-of
+mul-len-of c = omega (arith, here (c .before .before) .well .count)
+
+part-len-of-start : tie.Need-part-len-of-start
+part-len-of-start c = search needs
+
+part-len-of-end : tie.Need-part-len-of-end
+part-len-of-end c = omega (arith, here (c .before .before .before) .well .count, here (c .before .before .before) .lengths)
+
+len-of-requires : tie.Need-len-of-requires
+len-of-requires c κs = suffix-lengths _ (here (c .before .before .before .before)) _ (c .before .before .before .if2 .left)
 
 returns-3 : tie.Need-returns-3
-returns-3 c = put-full _ _ (now (c .before .before .before .before .before .before .args .buffer)) (suffix-allowed _ _ (well (c .before .before .before)) (c .before .before .if2 .left)) _ (c .before .len-from .ensures .0) (c .if3 .taken)
+returns-3 c = put-full _ _ (now (c .before .before .before .before .before .before .before .before .before .args .buffer)) (suffix-allowed _ _ (well (c .before .before .before .before .before .before)) (c .before .before .before .before .before .if2 .left)) _ (long (c .before)) (c .if3 .taken)
+
+array-share-prefix-lengths : tie.Need-array-share-prefix-lengths
+array-share-prefix-lengths c = let f = here (c .before .before .before .before .before .before .before) in omega (arith, f .lengths, f .well .count)
+
+slice-aggregate-total-of : tie.Need-slice-aggregate-total-of
+slice-aggregate-total-of c = let f = here (c .before .before .before .before .before .before .before .before) in let a = c .before .before .before .before .before .before .before .before .before .before .before .args in sym (length-take-le (a .k) (a .path .lengths) (omega (arith, f .lengths, f .well .count)))
+
+total-of-requires : tie.Need-total-of-requires
+total-of-requires c κs = omega (arith, sums (c .before .before .before .before .before .before .before))
+
+sub-put-suffix : tie.Need-sub-put-suffix
+sub-put-suffix c = omega (arith, sums (c .before .before .before .before .before .before .before .before .before), c .before .total-of .ensures)
+
+part-put-suffix-start : tie.Need-part-put-suffix-start
+part-put-suffix-start c = omega (arith, sums (c .before .before .before .before .before .before .before .before .before .before), c .before .before .total-of .ensures)
+
+part-put-suffix-end : tie.Need-part-put-suffix-end
+part-put-suffix-end c = omega (arith, here (c .before .before .before .before .before .before .before .before .before .before .before) .bytes)
+
+mul-put-suffix : tie.Need-mul-put-suffix
+mul-put-suffix c = omega (arith, here (c .before .before .before .before .before .before .before .before .before .before .before .before) .well .count)
+
+part-put-suffix-start-2 : tie.Need-part-put-suffix-start-2
+part-put-suffix-start-2 c = search needs
+
+part-put-suffix-end-2 : tie.Need-part-put-suffix-end-2
+part-put-suffix-end-2 c = omega (arith, here (c .before .before .before .before .before .before .before .before .before .before .before .before .before) .well .count, here (c .before .before .before .before .before .before .before .before .before .before .before .before .before) .lengths)
 
 put-suffix-requires : tie.Need-put-suffix-requires
-put-suffix-requires c κs = (well (c .before .before .before .before), c .before .before .before .if2 .left, omega (arith, c .before .before .len-from .ensures .0))
+put-suffix-requires c κs =
+    let f = here (c .before .before .before .before .before .before .before .before .before .before .before .before .before .before) in
+    let a = c .before .before .before .before .before .before .before .before .before .before .before .before .before .before .before .before .before .args in
+    let at = c .before .before .before .before .before .total-of in
+    let tail = rest-part (at .result) 600 (a .path .bytes) (f .bytes) in
+    rw (tail, at .ensures) (suffix-there (a .path) f (a .k) (c .before .before .before .before .before .before .before .before .before .before .before .before .before .if2 .left), rw (← (suffix-cut (a .path) f (a .k) (c .before .before .before .before .before .before .before .before .before .before .before .before .before .if2 .left))) (omega (arith, long (c .before .before .before .before .before .before .before .before .before), c .before .before .before .before .before .before .before .before .if3 .left)))
 
 same-length : tie.Need-same-length
 same-length c = search needs
 
 returns-4 : tie.Need-returns-4
 returns-4 c =
-    let a = c .before .before .before .before .before .before .before .before .before .before .args in
-    let allows = suffix-allowed (a .path) (a .k) (well (c .before .before .before .before .before .before .before)) (c .before .before .before .before .before .before .if2 .left) in
-    let f = put-fits _ (suffixFrom (a .k) .encode (a .path)) (now (a .buffer)) allows _ (c .before .before .before .before .before .len-from .ensures .0) (c .before .before .before .before .if3 .left) in
-    (f .0, c .before .before .put-suffix .ensures .1 ∙ f .1)
+    let s = c .before .before .before .before .before .before .before .before .before .before .before .before .before .before .before .before .before .before .before .before in
+    let a = s .args in
+    let h = c .before .before .before .before .before .before .before .before .before .before .before .before .before .before .before .before .if2 .left in
+    let f = here (c .before .before .before .before .before .before .before .before .before .before .before .before .before .before .before .before .before) in
+    let at = c .before .before .before .before .before .before .before .before .total-of in
+    let tail = rest-part (at .result) 600 (a .path .bytes) (f .bytes) in
+    let put = put-fits _ (suffixFrom (a .k) .encode (a .path)) (now (a .buffer)) (suffix-allowed (a .path) (a .k) (well (c .before .before .before .before .before .before .before .before .before .before .before .before .before .before .before .before .before)) h) _ (long (c .before .before .before .before .before .before .before .before .before .before .before .before)) (c .before .before .before .before .before .before .before .before .before .before .before .if3 .left) in
+    (put .0, rw (tail, at .ensures, ← (suffix-cut (a .path) f (a .k) h)) at (c .before .before .put-suffix .ensures .1) ∙ put .1)
 
 pub encode-suffix-spec : {M : Type 1} → statement M
 encode-suffix-spec =
@@ -49,8 +111,20 @@ encode-suffix-spec =
     well-formed-requires
     returns
     returns-2
-    len-from-requires
+    mul-len-of
+    part-len-of-start
+    part-len-of-end
+    len-of-requires
     returns-3
+    array-share-prefix-lengths
+    slice-aggregate-total-of
+    total-of-requires
+    sub-put-suffix
+    part-put-suffix-start
+    part-put-suffix-end
+    mul-put-suffix
+    part-put-suffix-start-2
+    part-put-suffix-end-2
     put-suffix-requires
     same-length
     returns-4)

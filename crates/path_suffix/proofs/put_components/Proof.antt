@@ -1,75 +1,66 @@
 use Prim.Native.Nat.{_+_, _≤_, _<_, _-_}
 use mathlib.Core.Path.{_≡_, refl, ap, _∙_, sym}
 use mathlib.Core.List.{_++_}
+use denote.Ref.{now}
 use native.Mathlib.Omega.{arith}
 use borrow.Author.Needs.{needs}
-use lib.ListN.{length, take, drop, length-drop}
+use lib.ListN.{length, take, drop, getD, length-drop}
 use Rattle.codec.specs.Format.{over}
 use Rattle.codec.proofs.Lending.{to-end, put-end, put-end-long}
-use Rattle.path.specs.Record.{startAt}
-use Rattle.path.proofs.Typed.{typed}
-use Rattle.path.proofs.Components.{Formed, formed, bytesAt, next-start, ends}
+use Rattle.path.specs.Record.{sumOf}
+use Rattle.path.proofs.Lists.{sum-next}
 use Rattle.path_suffix.specs.Suffix.{sizedBytes}
-use Rattle.path_suffix.proofs.Writing.{bytesFrom, bytes-none, bytes-last, part-is, room-turn, write-turn}
+use Rattle.path_suffix.proofs.Lengths.{bytesFrom, bytes-none, bytes-last, room-turn, write-turn}
 use Rattle.path_suffix.proofs.put_components.Statement.{statement}
 use Rattle.path_suffix.proofs.put_components.Tie as tie
 
 abbrev Inv-loop : tie.InvT-loop
-Inv-loop buffer₀ path k n bytes from₀ at₀ i₀ buffer from at i =
-    (k ≤ i)
-    × (i < n)
-    × (from ≡ startAt path i)
+Inv-loop buffer₀ bytes lengths n from₀ at₀ i₀ buffer from at i =
+    (i < n)
+    × (from + sumOf (drop i lengths) ≡ sumOf lengths)
     × (length buffer ≡ length buffer₀)
-    × (at + length (bytesFrom path i) ≡ length (bytesFrom path k))
-    × (over (bytesFrom path k) buffer₀ ≡ take at buffer ++ over (bytesFrom path i) (drop at buffer))
+    × (at + length (bytesFrom lengths bytes i from) ≡ length (bytesFrom lengths bytes 0 0))
+    × (over (bytesFrom lengths bytes 0 0) buffer₀ ≡ take at buffer ++ over (bytesFrom lengths bytes i from) (drop at buffer))
 
 abbrev μ-loop : tie.MeasureT-loop
-μ-loop buffer₀ path k n bytes from₀ at₀ i₀ buffer from at i = n - i
+μ-loop buffer₀ bytes lengths n from₀ at₀ i₀ buffer from at i = n - i
 
-here : (c : tie.Start Inv-loop μ-loop) → Formed (c .args .path)
-here c = formed (typed (c .args .path) (c .good .1 .0)) (c .pre .0)
+-- what is left fits, and the next component stands in the bytes
+fits : (c : tie.At-loop Inv-loop μ-loop) → c .loop .at + length (bytesFrom (now (c .before .before .before .before .before .args .lengths)) (now (c .before .before .before .before .before .args .bytes)) (c .loop .i) (c .loop .from)) ≤ length (c .loop .buffer)
+fits c = omega (arith, c .loop .inv .2, c .loop .inv .3, c .before .before .before .before .before .pre .1)
 
-below : (c : tie.At-loop Inv-loop μ-loop) → c .loop .i < c .before .before .before .before .before .args .path .count
-below c = omega arith
+ends : (c : tie.At-loop Inv-loop μ-loop) → c .loop .from + getD (now (c .before .before .before .before .before .args .lengths)) (c .loop .i) 0 ≤ length (now (c .before .before .before .before .before .args .bytes))
+ends c = omega (arith, sum-next (now (c .before .before .before .before .before .args .lengths)) (c .loop .i) (omega arith), c .loop .inv .1, c .before .before .before .before .before .pre .0 .there)
 
--- what is left fits
-fits : (c : tie.At-loop Inv-loop μ-loop) → c .loop .at + length (bytesFrom (c .before .before .before .before .before .args .path) (c .loop .i)) ≤ length (c .loop .buffer)
-fits c = omega (arith, c .loop .inv .3, c .loop .inv .4, c .before .before .before .before .before .pre .1)
+part : (c : tie.At-loop Inv-loop μ-loop) → let n = getD (now (c .before .before .before .before .before .args .lengths)) (c .loop .i) 0 in c .loop .from + n - c .loop .from ≡ n
+part c = omega arith
 
--- one component of more
-room : (c : tie.In-loop Inv-loop μ-loop)
-    → length (bytesFrom (c .before .before .before .before .before .before .args .path) (c .before .loop .i)) ≡ length (sizedBytes (bytesAt (c .before .before .before .before .before .before .args .path) (c .before .loop .i))) + length (bytesFrom (c .before .before .before .before .before .before .args .path) (c .before .loop .i + 1))
-room c = room-turn _ (here (c .before .before .before .before .before .before)) _ (below (c .before)) (c .loop-test .taken)
+-- one component of more, and the last
+room : (c : tie.In-loop Inv-loop μ-loop) → let ls = now (c .before .before .before .before .before .before .args .lengths) in let bs = now (c .before .before .before .before .before .before .args .bytes) in let l = c .before .loop in
+    length (bytesFrom ls bs (l .i) (l .from)) ≡ length (sizedBytes (take (getD ls (l .i) 0) (drop (l .from) bs))) + length (bytesFrom ls bs (l .i + 1) (l .from + getD ls (l .i) 0))
+room c = room-turn (now (c .before .before .before .before .before .before .args .lengths)) (now (c .before .before .before .before .before .before .args .bytes)) (c .before .loop .i) (c .before .loop .from) (omega arith) (c .loop-test .taken)
 
-part : (c : tie.After-component-len Inv-loop μ-loop)
-    → take (c .before .before .loop .from + c .component-len .result - c .before .before .loop .from) (drop (c .before .before .loop .from) (c .before .before .before .before .before .before .before .args .path .bytes)) ≡ bytesAt (c .before .before .before .before .before .before .before .args .path) (c .before .before .loop .i)
-part c = part-is _ (here (c .before .before .before .before .before .before .before)) _ (below (c .before .before)) (c .before .before .loop .from) (c .component-len .result) (c .before .before .loop .inv .2) (c .component-len .ensures)
-
--- the last component
-last : (c : tie.After-loop Inv-loop μ-loop) → bytesFrom (c .before .before .before .before .before .before .args .path) (c .before .loop .i) ≡ bytesAt (c .before .before .before .before .before .before .args .path) (c .before .loop .i)
-last c = bytes-last _ (here (c .before .before .before .before .before .before)) _ (below (c .before)) (c .loop-test .left)
-
-last-part : (c : tie.After-component-len2 Inv-loop μ-loop)
-    → take (c .before .before .loop .from + c .component-len2 .result - c .before .before .loop .from) (drop (c .before .before .loop .from) (c .before .before .before .before .before .before .before .args .path .bytes)) ≡ bytesAt (c .before .before .before .before .before .before .before .args .path) (c .before .before .loop .i)
-last-part c = part-is _ (here (c .before .before .before .before .before .before .before)) _ (below (c .before .before)) (c .before .before .loop .from) (c .component-len2 .result) (c .before .before .loop .inv .2) (c .component-len2 .ensures)
+last : (c : tie.After-loop Inv-loop μ-loop) → let ls = now (c .before .before .before .before .before .before .args .lengths) in let bs = now (c .before .before .before .before .before .before .args .bytes) in let l = c .before .loop in
+    bytesFrom ls bs (l .i) (l .from) ≡ take (getD ls (l .i) 0) (drop (l .from) bs)
+last c = bytes-last (now (c .before .before .before .before .before .before .args .lengths)) (now (c .before .before .before .before .before .before .args .bytes)) (c .before .loop .i) (c .before .loop .from) (omega arith) (c .loop-test .left)
 
 returns : tie.Need-returns Inv-loop μ-loop
-returns c = rw (bytes-none _ (here (c .before .before)) _ (c .if1 .taken)) (refl, refl)
-
-start-of-requires : tie.Need-start-of-requires Inv-loop μ-loop
-start-of-requires c κs = (c .before .before .before .pre .0, omega arith)
+returns c = let e = bytes-none (now (c .before .before .before .before .args .lengths)) (now (c .before .before .before .before .args .bytes)) (c .if1 .taken) in (ap length (sym e), rw e)
 
 loop-holds : tie.Need-loop-holds Inv-loop μ-loop
-loop-holds c = (omega arith, omega arith, c .start-of .ensures .0, refl, omega arith, refl)
+loop-holds c = (omega arith, omega arith, refl, omega arith, refl)
 
 add-loop : tie.Need-add-loop Inv-loop μ-loop
-add-loop c = search needs
+add-loop c = omega (arith, c .before .before .before .before .before .pre .0 .lengths .few)
 
-component-len-requires : tie.Need-component-len-requires Inv-loop μ-loop
-component-len-requires c κs = search needs
+mul-to : tie.Need-mul-to Inv-loop μ-loop
+mul-to c = omega (arith, c .before .before .before .before .before .before .pre .0 .lengths .few)
+
+shared-slice-read-to : tie.Need-shared-slice-read-to Inv-loop μ-loop
+shared-slice-read-to c = search needs
 
 add-to : tie.Need-add-to Inv-loop μ-loop
-add-to c = omega (arith, ends _ (here (c .before .before .before .before .before .before .before)) _ (below (c .before .before)), c .before .before .loop .inv .2, c .component-len .ensures)
+add-to c = omega (arith, ends (c .before .before), c .before .before .before .before .before .before .before .pre .0 .lengths .total)
 
 sub-put-sized : tie.Need-sub-put-sized Inv-loop μ-loop
 sub-put-sized c = omega (arith, fits (c .before .before))
@@ -87,17 +78,15 @@ part-put-sized-start-2 : tie.Need-part-put-sized-start-2 Inv-loop μ-loop
 part-put-sized-start-2 c = search needs
 
 part-put-sized-end-2 : tie.Need-part-put-sized-end-2 Inv-loop μ-loop
-part-put-sized-end-2 c =
-    let f = here (c .before .before .before .before .before .before .before .before .before) in
-    omega (arith, ends _ f _ (below (c .before .before .before .before)), f .bytes, c .before .before .before .before .loop .inv .2, c .before .before .component-len .ensures)
+part-put-sized-end-2 c = omega (arith, ends (c .before .before .before))
 
 put-sized-requires : tie.Need-put-sized-requires Inv-loop μ-loop
 put-sized-requires c κs =
-    let l = c .before .before .before .before .before .loop in
-    rw (part (c .before .before .before), to-end (l .at) (l .buffer), length-drop) (omega (arith, fits (c .before .before .before .before .before), room (c .before .before .before .before)))
+    let l = c .before .before .before .before .loop in
+    rw (part (c .before .before .before .before), to-end (l .at) (l .buffer), length-drop) (omega (arith, fits (c .before .before .before .before), room (c .before .before .before)))
 
 add-at : tie.Need-add-at Inv-loop μ-loop
-add-at c = omega (arith, rw (part (c .before .before .before .before .before .before)) at (c .before .before .put-sized .ensures .0), fits (c .before .before .before .before .before .before .before .before), room (c .before .before .before .before .before .before .before))
+add-at c = omega (arith, rw (part (c .before .before .before .before .before .before .before)) at (c .before .before .put-sized .ensures .0), fits (c .before .before .before .before .before .before .before), room (c .before .before .before .before .before .before))
 
 add-i : tie.Need-add-i Inv-loop μ-loop
 add-i c = search needs
@@ -107,27 +96,27 @@ loop-less c = search needs
 
 loop-again : tie.Need-loop-again Inv-loop μ-loop
 loop-again c =
-    let l = c .before .before .before .before .before .before .before .before .loop in
-    let p = c .before .before .before .before .before .before .before .before .before .before .before .before .before .args .path in
-    let f = here (c .before .before .before .before .before .before .before .before .before .before .before .before .before) in
-    let h = below (c .before .before .before .before .before .before .before .before) in
+    let l = c .before .before .before .before .before .before .before .loop in
+    let a = c .before .before .before .before .before .before .before .before .before .before .before .before .args in
     let w = c .before .before .put-sized in
-    let n = rw (part (c .before .before .before .before .before .before)) at (w .ensures .0) in
-    let bytes = rw (part (c .before .before .before .before .before .before), to-end (l .at) (l .buffer)) at (w .ensures .1) in
-    let inside : l .at ≤ length (l .buffer) = omega (arith, fits (c .before .before .before .before .before .before .before .before)) in (
+    let n = rw (part (c .before .before .before .before .before .before .before)) at (w .ensures .0) in
+    let bytes = rw (part (c .before .before .before .before .before .before .before), to-end (l .at) (l .buffer)) at (w .ensures .1) in
+    let inside : l .at ≤ length (l .buffer) = omega (arith, fits (c .before .before .before .before .before .before .before)) in (
       omega arith,
-      omega arith,
-      omega (arith, next-start p f (l .i) h, l .inv .2, c .before .before .before .before .before .before .component-len .ensures),
-      put-end-long (l .at) (l .buffer) (w .last .0) inside (w .kept .0) ∙ l .inv .3,
-      omega (arith, n, room (c .before .before .before .before .before .before .before), l .inv .4),
-      l .inv .5 ∙ rw (put-end (l .at) (l .buffer) (w .last .0), bytes, n) (write-turn p f (l .i) h (l .buffer) (l .at) inside (c .before .before .before .before .before .before .before .loop-test .taken)),
+      omega (arith, sum-next (now (a .lengths)) (l .i) (omega arith), l .inv .1),
+      put-end-long (l .at) (l .buffer) (w .last .0) inside (w .kept .0) ∙ l .inv .2,
+      omega (arith, n, room (c .before .before .before .before .before .before), l .inv .3),
+      l .inv .4 ∙ rw (put-end (l .at) (l .buffer) (w .last .0), bytes, n) (write-turn (now (a .lengths)) (now (a .bytes)) (l .i) (l .from) (omega arith) (l .buffer) (l .at) inside (c .before .before .before .before .before .before .loop-test .taken)),
     )
 
-component-len-requires-2 : tie.Need-component-len-requires-2 Inv-loop μ-loop
-component-len-requires-2 c κs = search needs
+mul-to-2 : tie.Need-mul-to-2 Inv-loop μ-loop
+mul-to-2 c = omega (arith, c .before .before .before .before .before .before .pre .0 .lengths .few)
+
+shared-slice-read-to-2 : tie.Need-shared-slice-read-to-2 Inv-loop μ-loop
+shared-slice-read-to-2 c = search needs
 
 add-to-2 : tie.Need-add-to-2 Inv-loop μ-loop
-add-to-2 c = omega (arith, ends _ (here (c .before .before .before .before .before .before .before)) _ (below (c .before .before)), c .before .before .loop .inv .2, c .component-len2 .ensures)
+add-to-2 c = omega (arith, ends (c .before .before), c .before .before .before .before .before .before .before .pre .0 .lengths .total)
 
 sub-put : tie.Need-sub-put Inv-loop μ-loop
 sub-put c = omega (arith, fits (c .before .before))
@@ -145,29 +134,27 @@ part-put-start-2 : tie.Need-part-put-start-2 Inv-loop μ-loop
 part-put-start-2 c = search needs
 
 part-put-end-2 : tie.Need-part-put-end-2 Inv-loop μ-loop
-part-put-end-2 c =
-    let f = here (c .before .before .before .before .before .before .before .before .before) in
-    omega (arith, ends _ f _ (below (c .before .before .before .before)), f .bytes, c .before .before .before .before .loop .inv .2, c .before .before .component-len2 .ensures)
+part-put-end-2 c = omega (arith, ends (c .before .before .before))
 
 put-requires : tie.Need-put-requires Inv-loop μ-loop
 put-requires c κs =
-    let l = c .before .before .before .before .before .loop in
-    rw (last-part (c .before .before .before), to-end (l .at) (l .buffer), length-drop) (omega (arith, fits (c .before .before .before .before .before), ap length (last (c .before .before .before .before))))
+    let l = c .before .before .before .before .loop in
+    rw (part (c .before .before .before .before), to-end (l .at) (l .buffer), length-drop) (omega (arith, fits (c .before .before .before .before), ap length (last (c .before .before .before))))
 
 add-result : tie.Need-add-result Inv-loop μ-loop
-add-result c = omega (arith, rw (last-part (c .before .before .before .before .before .before)) at (c .before .before .put .ensures .0), fits (c .before .before .before .before .before .before .before .before), ap length (last (c .before .before .before .before .before .before .before)))
+add-result c = omega (arith, rw (part (c .before .before .before .before .before .before .before)) at (c .before .before .put .ensures .0), fits (c .before .before .before .before .before .before .before), ap length (last (c .before .before .before .before .before .before)))
 
 same-length : tie.Need-same-length Inv-loop μ-loop
 same-length c = search needs
 
 returns-2 : tie.Need-returns-2 Inv-loop μ-loop
 returns-2 c =
-    let l = c .before .before .before .before .before .before .before .before .loop in
+    let l = c .before .before .before .before .before .before .before .loop in
     let w = c .before .before .put in
-    let n = rw (last-part (c .before .before .before .before .before .before)) at (w .ensures .0) in
-    let bytes = rw (last-part (c .before .before .before .before .before .before), to-end (l .at) (l .buffer)) at (w .ensures .1) in (
-      omega (arith, n, ap length (last (c .before .before .before .before .before .before .before)), l .inv .4),
-      put-end (l .at) (l .buffer) (w .last .0) ∙ rw bytes (sym (l .inv .5 ∙ rw (last (c .before .before .before .before .before .before .before)))),
+    let n = rw (part (c .before .before .before .before .before .before .before)) at (w .ensures .0) in
+    let bytes = rw (part (c .before .before .before .before .before .before .before), to-end (l .at) (l .buffer)) at (w .ensures .1) in (
+      omega (arith, n, ap length (last (c .before .before .before .before .before .before)), l .inv .3),
+      put-end (l .at) (l .buffer) (w .last .0) ∙ rw bytes (sym (l .inv .4 ∙ rw (last (c .before .before .before .before .before .before)))),
     )
 
 pub put-components-spec : {M : Type 1} → statement M
@@ -177,10 +164,10 @@ put-components-spec =
     Inv-loop
     μ-loop
     returns
-    start-of-requires
     loop-holds
     add-loop
-    component-len-requires
+    mul-to
+    shared-slice-read-to
     add-to
     sub-put-sized
     part-put-sized-start
@@ -193,7 +180,8 @@ put-components-spec =
     add-i
     loop-less
     loop-again
-    component-len-requires-2
+    mul-to-2
+    shared-slice-read-to-2
     add-to-2
     sub-put
     part-put-start

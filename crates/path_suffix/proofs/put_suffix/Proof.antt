@@ -1,57 +1,44 @@
-use Prim.Native.Nat.{ℕ, _+_, _≤_, _-_}
+use Prim.Native.Nat.{ℕ, _+_, _≤_}
 use mathlib.Core.Path.{_≡_, ap, _∙_}
 use mathlib.Core.List.{List}
 use denote.Ref.{now}
 use native.Mathlib.Omega.{arith}
-use lib.ListN.{length, drop, length-drop}
+use lib.ListN.{length, length-drop}
 use Rattle.codec.specs.Format.{over}
 use Rattle.codec.proofs.Lending.{to-end, put-end}
-use Rattle.path.specs.Record.{componentsOf}
-use Rattle.path.proofs.Typed.{typed}
-use Rattle.path.proofs.Components.{Formed, formed}
+use Rattle.path.specs.Record.{cutUp}
 use Rattle.path_suffix.specs.Suffix.{Sizes, sizesFrom, sizesOf, sizesBytes, componentBytes}
-use Rattle.path_suffix.proofs.Writing.{start-grows, suffix-sizes, suffix-parts, suffix-put}
+use Rattle.path_suffix.proofs.Writing.{suffix-parts, suffix-put}
+use Rattle.path_suffix.proofs.Lengths.{sizes-cut}
 use borrow.Author.Needs.{needs}
 use Rattle.path_suffix.proofs.put_suffix.Statement.{statement}
 use Rattle.path_suffix.proofs.put_suffix.Tie as tie
 
-here : (c : tie.Start) → Formed (c .args .path)
-here c = formed (typed (c .args .path) (c .good .1 .0)) (c .pre .0)
-
 abbrev suffix : tie.Start → List (List ℕ)
-suffix c = drop (c .args .k) (componentsOf (c .args .path))
+suffix c = cutUp (now (c .args .lengths)) (now (c .args .bytes))
 
 -- the sizes are those of the components
-sizes : (c : tie.After-start-of2) → sizesFrom (c .before .start-of .result - c .start-of2 .result) (c .before .before .before .args .path .count - c .before .before .before .args .k) ≡ sizesOf (suffix (c .before .before .before))
-sizes c = suffix-sizes _ (here (c .before .before .before)) _ _ _ (c .before .start-of .ensures .0) (c .start-of2 .ensures .0)
+sizes : (c : tie.After-total-of) → sizesFrom (c .total-of .result) (length (now (c .before .before .before .before .args .lengths))) ≡ sizesOf (suffix (c .before .before .before .before))
+sizes c = rw (c .total-of .ensures) (sizes-cut (now (c .before .before .before .before .args .lengths)) (now (c .before .before .before .before .args .bytes)) (c .before .before .before .before .pre .0 .there))
 
-first : (c : tie.After-put-sizes) → c .put-sizes .result ≡ length (sizesBytes (sizesOf (suffix (c .before .before .before .before .before))))
+first : (c : tie.After-put-sizes) → c .put-sizes .result ≡ length (sizesBytes (sizesOf (suffix (c .before .before .before .before .before .before))))
 first c = c .put-sizes .ensures .0 ∙ ap (λ (h : Sizes). length (sizesBytes h)) (sizes (c .before .before))
 
 -- the parts fit
 parts : (c : tie.Start) → length (sizesBytes (sizesOf (suffix c))) + length (componentBytes (suffix c)) ≤ length (now (c .args .buffer))
-parts c = omega (arith, suffix-parts (suffix c), c .pre .2)
+parts c = omega (arith, suffix-parts (suffix c), c .pre .1)
 
-start-of-requires : tie.Need-start-of-requires
-start-of-requires c κs = search needs
-
-start-of-requires-2 : tie.Need-start-of-requires-2
-start-of-requires-2 c κs = search needs
-
-sub-total : tie.Need-sub-total
-sub-total c = omega (arith, start-grows _ (here (c .before .before .before)) _ (c .before .before .before .pre .1), c .before .start-of .ensures .0, c .start-of2 .ensures .0)
-
-sub-count : tie.Need-sub-count
-sub-count c = search needs
+total-of-requires : tie.Need-total-of-requires
+total-of-requires c κs = search needs
 
 put-sizes-requires : tie.Need-put-sizes-requires
-put-sizes-requires c κs = omega (arith, ap (λ (h : Sizes). length (sizesBytes h)) (sizes (c .before)), parts (c .before .before .before .before))
+put-sizes-requires c κs = omega (arith, ap (λ (h : Sizes). length (sizesBytes h)) (sizes (c .before)), parts (c .before .before .before .before .before))
 
 sub-put-components : tie.Need-sub-put-components
-sub-put-components c = omega (arith, c .before .before .put-sizes .kept .0, first (c .before .before), parts (c .before .before .before .before .before .before .before))
+sub-put-components c = omega (arith, c .before .before .put-sizes .kept .0, first (c .before .before), parts (c .before .before .before .before .before .before .before .before))
 
 part-put-components-start : tie.Need-part-put-components-start
-part-put-components-start c = omega (arith, c .before .before .put-sizes .kept .0, first (c .before .before), parts (c .before .before .before .before .before .before .before))
+part-put-components-start c = omega (arith, c .before .before .put-sizes .kept .0, first (c .before .before), parts (c .before .before .before .before .before .before .before .before))
 
 part-put-components-end : tie.Need-part-put-components-end
 part-put-components-end c = search needs
@@ -59,18 +46,18 @@ part-put-components-end c = search needs
 put-components-requires : tie.Need-put-components-requires
 put-components-requires c κs =
     let h = c .before .before .before .put-sizes in
-    (c .before .before .before .before .before .before .before .before .pre .0, rw (to-end (h .result) (h .last .0), length-drop) (omega (arith, h .kept .0, first (c .before .before .before), parts (c .before .before .before .before .before .before .before .before))))
+    (c .before .before .before .before .before .before .before .before .before .pre .0, rw (to-end (h .result) (h .last .0), length-drop) (omega (arith, h .kept .0, first (c .before .before .before), parts (c .before .before .before .before .before .before .before .before .before))))
 
 add-result : tie.Need-add-result
-add-result c = omega (arith, c .before .before .put-components .ensures .0, first (c .before .before .before .before .before .before), parts (c .before .before .before .before .before .before .before .before .before .before .before))
+add-result c = omega (arith, c .before .before .put-components .ensures .0, first (c .before .before .before .before .before .before), parts (c .before .before .before .before .before .before .before .before .before .before .before .before))
 
 same-length : tie.Need-same-length
 same-length c = search needs
 
 returns : tie.Need-returns
 returns c =
-    let l = now (c .before .before .before .before .before .before .before .before .before .before .before .args .buffer) in
-    let cs = suffix (c .before .before .before .before .before .before .before .before .before .before .before) in
+    let l = now (c .before .before .before .before .before .before .before .before .before .before .before .before .args .buffer) in
+    let cs = suffix (c .before .before .before .before .before .before .before .before .before .before .before .before) in
     let h = c .before .before .before .before .before .before .put-sizes in
     let w = c .before .before .put-components in
     let rest = rw (to-end (h .result) (h .last .0)) at (w .ensures .1) in
@@ -83,10 +70,7 @@ pub put-suffix-spec : {M : Type 1} → statement M
 put-suffix-spec =
     tie.close
     (tie.spec
-    start-of-requires
-    start-of-requires-2
-    sub-total
-    sub-count
+    total-of-requires
     put-sizes-requires
     sub-put-components
     part-put-components-start

@@ -1,111 +1,118 @@
-use mathlib.Core.Path.{_≡_, refl, ap, _∙_}
-use mathlib.Core.List.{_++_, append-nil}
-use Prim.Native.Nat.{ℕ, _≤_, _<_, _-_}
+use lib.ListN.{length, take, length-drop}
+use Rattle.path.proofs.Lists.{rest-part}
+use Prim.Native.Nat.{ℕ, _+_, _≤_}
+use mathlib.Core.Path.{_≡_, sym}
 use native.Mathlib.Omega.{arith}
 use borrow.Author.Needs.{needs, length-unmapped}
-use lib.ListN.{take}
-use Rattle.path.specs.declared.Growth.{Growth}
-use Rattle.path.specs.Record.{componentsOf, lengthAt, startAt}
-use Rattle.path.specs.Builder.{builderFrom}
+use lib.Seq.{length-take-le}
+use Rattle.path.specs.Record.{sumOf}
 use Rattle.path.proofs.Record.{well-formed}
-use Rattle.path.proofs.Components.{Formed, next-start, ends, part-bytes}
-use Rattle.path.proofs.Builder.{extend-turn}
+use Rattle.path.proofs.Components.{Formed}
+use Rattle.path.proofs.Builder.{extended-fits, extended-bytes, extended-lengths, extended-is}
+use borrow.Author.Needs.{needs}
 use Rattle.path.proofs.PathBuilder.extended.Statement.{statement}
 use Rattle.path.proofs.PathBuilder.extended.Tie as tie
 
-abbrev Inv-loop : tie.InvT-loop
-Inv-loop k path bytes b₀ at₀ i₀ b at i = (i ≤ k) × (at ≡ startAt path i) × (b ≡ builderFrom (componentsOf (b₀ .path) ++ take i (componentsOf path)))
-
-abbrev μ-loop : tie.MeasureT-loop
-μ-loop k path bytes b₀ at₀ i₀ b at i = k - i
-
 -- what owning the path tells of its arrays, and what it tells to be well formed
-formed : (c : tie.Start Inv-loop μ-loop) → Formed (c .args .t2)
+formed : (c : tie.Start) → Formed (c .args .path)
 formed c = record {
-  bytes = length-unmapped ℕ (c .args .t2 .bytes) 600 (c .good .1 .0 .1 .1 .0 .1 .0 .1);
-  lengths = length-unmapped ℕ (c .args .t2 .lengths) 20 (c .good .1 .0 .1 .1 .1 .0 .1 .0 .1);
-  well = well-formed (c .args .t2) (c .pre .formed);
+  bytes = length-unmapped ℕ (c .args .path .bytes) 600 (c .good .1 .0 .1 .1 .0 .1 .0 .1);
+  lengths = length-unmapped ℕ (c .args .path .lengths) 20 (c .good .1 .0 .1 .1 .1 .0 .1 .0 .1);
+  well = well-formed (c .args .path) (c .pre .formed);
 }
 
-loop-holds : tie.Need-loop-holds Inv-loop μ-loop
-loop-holds c = (omega arith, refl, c .before .pre .made ∙ rw append-nil)
+there : (c : tie.Start) → c .args .k ≤ length (c .args .path .lengths)
+there c = omega (arith, formed c .lengths, formed c .well .count, c .pre .there)
 
-mul-to : tie.Need-mul-to Inv-loop μ-loop
-mul-to c =
-    let s = c .before .before .before in
-    omega (arith, formed s .well .count, s .pre .there)
+taken : (c : tie.Start) → length (take (c .args .k) (c .args .path .lengths)) ≡ c .args .k
+taken c = length-take-le (c .args .k) (c .args .path .lengths) (there c)
 
-element-copy-out-to : tie.Need-element-copy-out-to Inv-loop μ-loop
-element-copy-out-to c =
-    let s = c .before .before .before in
-    omega (arith, formed s .well .count, s .pre .there)
+fits : (c : tie.Start) → c .args .self .total + sumOf (take (c .args .k) (c .args .path .lengths)) ≤ 600
+fits c = extended-fits (c .args .self) (c .args .path) (c .args .k) (c .pre) (formed c)
 
-add-to : tie.Need-add-to Inv-loop μ-loop
-unfolding lengthAt
-add-to c =
-    let s = c .before .before .before .before in
-    let l = c .before .before .loop in
-    let p = s .args .t2 in
-    let here : l .i < p .count = omega (arith, s .pre .there) in
-    omega (arith, ends p (formed s) (l .i) here, l .inv .1)
+array-share-prefix-sizes : tie.Need-array-share-prefix-sizes
+array-share-prefix-sizes c = there (c .before .before .before)
 
-sub-push-component : tie.Need-sub-push-component Inv-loop μ-loop
-sub-push-component c = search needs
+slice-aggregate-sum : tie.Need-slice-aggregate-sum
+slice-aggregate-sum c = sym (taken (c .before .before .before .before))
 
-part-push-component-start : tie.Need-part-push-component-start Inv-loop μ-loop
-part-push-component-start c = search needs
+sum-requires : tie.Need-sum-requires
+sum-requires c κs = omega (arith, fits (c .before .before .before .before))
 
-part-push-component-end : tie.Need-part-push-component-end Inv-loop μ-loop
-unfolding lengthAt
-part-push-component-end c =
-    let s = c .before .before .before .before .before in
-    let l = c .before .before .before .loop in
-    let p = s .args .t2 in
-    let here : l .i < p .count = omega (arith, s .pre .there) in
-    omega (arith, ends p (formed s) (l .i) here, formed s .bytes, l .inv .1)
+sub-put-bytes : tie.Need-sub-put-bytes
+sub-put-bytes c = search needs
 
-push-component-requires : tie.Need-push-component-requires Inv-loop μ-loop
-push-component-requires c κs = search needs
+part-bytes-start : tie.Need-part-bytes-start
+part-bytes-start c = search needs
 
-add-i : tie.Need-add-i Inv-loop μ-loop
-add-i c = omega arith
+part-bytes-end : tie.Need-part-bytes-end
+part-bytes-end c = let s = c .before .before .before .before .before .before in omega (arith, extended-bytes (s .args .self) (s .args .path) (s .args .k) (s .pre) (formed s))
 
-loop-less : tie.Need-loop-less Inv-loop μ-loop
-loop-less c = omega arith
+array-share-prefix-source : tie.Need-array-share-prefix-source
+array-share-prefix-source c = omega (arith, fits (c .before .before .before .before .before .before .before), formed (c .before .before .before .before .before .before .before) .bytes, c .before .before .sum .ensures)
 
-loop-again : tie.Need-loop-again Inv-loop μ-loop
-unfolding lengthAt
-loop-again c =
-    let s = c .before .before .before .before .before .before .before .before in
-    let l = c .before .before .before .before .before .before .loop in
-    let p = s .args .t2 in
-    let f = formed s in
-    let here : l .i < p .count = omega (arith, s .pre .there) in
-    let part = part-bytes p f (l .i) here (l .at) (l .inv .1) in
-    let turn = extend-turn (s .args .self) p (s .args .k) (s .pre) f (l .i) (omega arith) (l .b) (l .inv .2) in (
-      omega arith,
-      omega (arith, next-start p f (l .i) here, l .inv .1),
-      ap (λ (g : Growth). g .builder) (rw part at (c .before .push-component .ensures) ∙ turn),
-    )
+slice-aggregate-put-bytes : tie.Need-slice-aggregate-put-bytes
+slice-aggregate-put-bytes c = let s = c .before .before .before .before .before .before .before .before in sym (length-take-le (c .before .before .before .sum .result) (s .args .path .bytes) (omega (arith, fits s, formed s .bytes, c .before .before .before .sum .ensures)))
 
-returns : tie.Need-returns Inv-loop μ-loop
-returns c = let e : c .before .loop .i ≡ c .before .before .before .args .k = omega arith in rw (← e) (c .before .loop .inv .2)
+put-bytes-requires : tie.Need-put-bytes-requires
+put-bytes-requires c κs = search needs
+
+mul-lengths : tie.Need-mul-lengths
+mul-lengths c = search needs
+
+sub-put-lengths : tie.Need-sub-put-lengths
+sub-put-lengths c = search needs
+
+part-lengths-start : tie.Need-part-lengths-start
+part-lengths-start c = search needs
+
+part-lengths-end : tie.Need-part-lengths-end
+part-lengths-end c = let s = c .before .before .before .before .before .before .before .before .before .before .before in omega (arith, extended-lengths (s .args .self) (s .args .path) (s .args .k) (s .pre) (formed s))
+
+array-share-prefix-sizes-2 : tie.Need-array-share-prefix-sizes-2
+array-share-prefix-sizes-2 c = there (c .before .before .before .before .before .before .before .before .before .before .before .before)
+
+slice-aggregate-put-lengths : tie.Need-slice-aggregate-put-lengths
+slice-aggregate-put-lengths c = sym (taken (c .before .before .before .before .before .before .before .before .before .before .before .before .before))
+
+put-lengths-requires : tie.Need-put-lengths-requires
+put-lengths-requires c κs =
+    let s = c .before .before .before .before .before .before .before .before .before .before .before .before .before in
+    let a = s .args in
+    let long = extended-lengths (a .self) (a .path) (a .k) (s .pre) (formed s) in
+    rw (taken s, rest-part (a .self .path .count) 20 (a .self .path .lengths) long, length-drop) (omega (arith, s .pre .few, long))
+
+add-t18 : tie.Need-add-t18
+add-t18 c = search needs
+
+add-t26 : tie.Need-add-t26
+add-t26 c = omega (arith, fits (c .before .before .before .before .before .before .before .before .before .before .before .before .before .before .before), c .before .before .before .before .before .before .before .before .before .before .sum .ensures)
+
+returns : tie.Need-returns
+returns c =
+    let s = c .before .before .before .before .before .before .before .before .before .before .before .before .before .before .before in
+    extended-is (s .args .self) (s .args .path) (s .args .k) (s .pre) (formed s) (c .before .before .before .before .before .before .before .before .before .before .sum .result) (c .before .before .before .before .before .before .put-bytes .last .0) (c .before .put-lengths .last .0) (c .before .before .before .before .before .before .before .before .before .before .sum .ensures) (c .before .before .before .before .before .before .put-bytes .ensures .1) (c .before .put-lengths .ensures)
 
 pub extended-spec : {M : Type 1} → statement M
 extended-spec =
     tie.close
     (tie.spec
-    Inv-loop
-    μ-loop
-    loop-holds
-    mul-to
-    element-copy-out-to
-    add-to
-    sub-push-component
-    part-push-component-start
-    part-push-component-end
-    push-component-requires
-    add-i
-    loop-less
-    loop-again
+    array-share-prefix-sizes
+    slice-aggregate-sum
+    sum-requires
+    sub-put-bytes
+    part-bytes-start
+    part-bytes-end
+    array-share-prefix-source
+    slice-aggregate-put-bytes
+    put-bytes-requires
+    mul-lengths
+    sub-put-lengths
+    part-lengths-start
+    part-lengths-end
+    array-share-prefix-sizes-2
+    slice-aggregate-put-lengths
+    put-lengths-requires
+    add-t18
+    add-t26
     returns)

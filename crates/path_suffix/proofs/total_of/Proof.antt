@@ -1,0 +1,55 @@
+use Prim.Native.Nat.{_+_, _≤_, _-_}
+use mathlib.Core.Path.{_≡_}
+use denote.Ref.{now}
+use native.Mathlib.Omega.{arith}
+use borrow.Author.Needs.{needs}
+use lib.ListN.{length, drop}
+use Rattle.path.specs.Record.{sumOf}
+use Rattle.path.proofs.Lists.{sum-next, sum-end}
+use Rattle.path_suffix.proofs.total_of.Statement.{statement}
+use Rattle.path_suffix.proofs.total_of.Tie as tie
+
+abbrev Inv-loop : tie.InvT-loop
+Inv-loop lengths total₀ i₀ total i = (i ≤ length lengths) × (total + sumOf (drop i lengths) ≡ sumOf lengths)
+
+abbrev μ-loop : tie.MeasureT-loop
+μ-loop lengths total₀ i₀ total i = length lengths - i
+
+loop-holds : tie.Need-loop-holds Inv-loop μ-loop
+loop-holds c = (omega arith, omega arith)
+
+mul-total : tie.Need-mul-total Inv-loop μ-loop
+mul-total c = search needs
+
+shared-slice-read-total : tie.Need-shared-slice-read-total Inv-loop μ-loop
+shared-slice-read-total c = search needs
+
+add-total : tie.Need-add-total Inv-loop μ-loop
+add-total c = omega (arith, sum-next (now (c .before .before .before .args .lengths)) (c .before .before .loop .i) (omega arith))
+
+add-i : tie.Need-add-i Inv-loop μ-loop
+add-i c = search needs
+
+loop-less : tie.Need-loop-less Inv-loop μ-loop
+loop-less c = search needs
+
+loop-again : tie.Need-loop-again Inv-loop μ-loop
+loop-again c = omega (arith, sum-next (now (c .before .before .before .args .lengths)) (c .before .before .loop .i) (omega arith))
+
+returns : tie.Need-returns Inv-loop μ-loop
+returns c = omega (arith, sum-end (now (c .before .before .args .lengths)) (c .before .loop .i) (omega arith))
+
+pub total-of-spec : {M : Type 1} → statement M
+total-of-spec =
+    tie.close
+    (tie.spec
+    Inv-loop
+    μ-loop
+    loop-holds
+    mul-total
+    shared-slice-read-total
+    add-total
+    add-i
+    loop-less
+    loop-again
+    returns)
