@@ -62,11 +62,11 @@ pub fn reading<P: Pair>(
         put_hex(out, message);
     });
     let theirs = match &original {
-        Outcome::Done(Ok(v)) => format!("ok {} {:?}", from.pos, P::flat(v)),
+        Outcome::Done(Ok(v)) => format!("ok {} {:02x?}", from.pos, P::flat(v)),
         Outcome::Done(Err(e)) => format!("{e:?}"),
         Outcome::Panicked => "panicked".into(),
     };
-    let ours = format!("{answer} {consumed} {record:?}");
+    let ours = format!("{answer} {consumed} {record:02x?}");
     *record = P::Flat::UNTOUCHED;
     Err(difference(case, &theirs, &ours))
 }

@@ -133,12 +133,12 @@ fn written<P: Pair>(v: &P::Flat, r: &P::FlatRef, lent: &mut Lent<P>) -> Agreed {
     let (mut tag, mut written) = (FILL, NO_COUNT);
     let answer = P::encode(lent.work, v, r, &mut tag, &mut written);
     let unchanged = *lent.work == lent.buffer && tag == FILL;
-    refused_with(5, (answer, written), unchanged, || format!("{} w\n{r:?}\n{v:?}", P::NAME))
+    refused_with(5, (answer, written), unchanged, || format!("{} w\n{r:02x?}\n{v:02x?}", P::NAME))
 }
 fn measured<P: Pair>(v: &P::Flat, r: &P::FlatRef) -> Agreed {
     let mut length = NO_COUNT;
     let answer = P::len_of_encoding(v, r, &mut length);
-    refused_with(5, (answer, length), true, || format!("{} n\n{r:?}\n{v:?}", P::NAME))
+    refused_with(5, (answer, length), true, || format!("{} n\n{r:02x?}\n{v:02x?}", P::NAME))
 }
 fn read<P: Pair>(strict: bool, r: &P::FlatRef, lent: &mut Lent<P>) -> Agreed {
     let mut consumed = NO_COUNT;
@@ -147,7 +147,7 @@ fn read<P: Pair>(strict: bool, r: &P::FlatRef, lent: &mut Lent<P>) -> Agreed {
     *lent.record = P::Flat::UNTOUCHED;
     let (message, start) = (lent.message, lent.start);
     refused_with(5, (answer, consumed), unchanged, || {
-        format!("{} strict: {strict}\n{r:?}\n{start} {message:02x?}", P::NAME)
+        format!("{} strict: {strict}\n{r:02x?}\n{start} {message:02x?}", P::NAME)
     })
 }
 

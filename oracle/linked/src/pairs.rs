@@ -1,7 +1,6 @@
 //! For each kind the original's reader, writer and length, and the archive's.
 use crate::flat::{self, Record};
 use crate::ill_formed::Spoil;
-use crate::numbers::Number;
 use jakepuro::raw;
 use oracle::kinds::*;
 use oracle::random::{messages, Random, Rng};
@@ -192,35 +191,28 @@ mod all {
     );
 }
 
-/// Something to be done with one kind or all.
-pub trait EachPair {
-    fn of<P: Pair>(&mut self);
+/// Hands all pairs to a macro.
+#[macro_export]
+macro_rules! with_all_pairs {
+    ($do:ident) => {
+        $do!(
+            $crate::numbers::Number<2>,
+            $crate::numbers::Number<3>,
+            $crate::numbers::Number<4>,
+            $crate::numbers::Number<8>,
+            oracle::kinds::Standalone,
+            oracle::kinds::PlainPath,
+            oracle::kinds::PathPath,
+            oracle::kinds::PathExtends,
+            oracle::kinds::AreaArea,
+            oracle::kinds::EntryArea,
+            oracle::kinds::EntryEntry,
+            oracle::kinds::Range3dRange3d
+        )
+    };
 }
 
-/// Does it with the kinds that are asked for; answers whether there are any.
-pub fn each(only: Option<&str>, to: &mut impl EachPair) -> bool {
-    let mut any = false;
-    macro_rules! each {
-        ($($pair:ty),*) => { $(
-            if only.is_none_or(|name| name == <$pair as Pair>::NAME || name == <$pair as Pair>::KIND) {
-                to.of::<$pair>();
-                any = true;
-            }
-        )* };
-    }
-    each!(
-        Number<2>,
-        Number<3>,
-        Number<4>,
-        Number<8>,
-        Standalone,
-        PlainPath,
-        PathPath,
-        PathExtends,
-        AreaArea,
-        EntryArea,
-        EntryEntry,
-        Range3dRange3d
-    );
-    any
+/// Whether a kind is meant by a name: its own, or that of its case lines.
+pub fn is_named<P: Pair>(name: &str) -> bool {
+    name == P::NAME || name == P::KIND
 }

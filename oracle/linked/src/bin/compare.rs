@@ -1,8 +1,8 @@
 //! Compares the proved archive with the original, in one process. Exit status 1 if there is a difference that
 //! docs/DIFFERENCES.md does not list; each is printed as a case line.
-use linked::pairs::{each, EachPair, Pair};
+use linked::pairs::{is_named, Pair};
 use linked::tally::Tally;
-use linked::{random, short};
+use linked::{random, short, with_all_pairs};
 use std::time::Instant;
 
 const USAGE: &str =
@@ -24,8 +24,8 @@ struct Compare {
     differing: u64,
 }
 
-impl EachPair for Compare {
-    fn of<P: Pair>(&mut self) {
+impl Compare {
+    fn pair<P: Pair>(&mut self) {
         let mut tally = Tally::new(P::NAME);
         random::run::<P>(self.seed, self.cases, &mut tally);
         if let Some(longest) = self.short {
@@ -34,6 +34,20 @@ impl EachPair for Compare {
         let (cases, differences) = tally.print();
         self.compared += cases;
         self.differing += differences;
+    }
+    /// Compares the kinds that are asked for; false if there is none.
+    fn all(&mut self) -> bool {
+        let mut any = false;
+        macro_rules! each {
+            ($($pair:ty),*) => { $(
+                if self.kind.as_deref().is_none_or(is_named::<$pair>) {
+                    self.pair::<$pair>();
+                    any = true;
+                }
+            )* };
+        }
+        with_all_pairs!(each);
+        any
     }
 }
 
@@ -73,8 +87,7 @@ fn main() {
     };
     let begun = Instant::now();
     Tally::print_head();
-    let kind = compare.kind.clone();
-    if !each(kind.as_deref(), &mut compare) {
+    if !compare.all() {
         eprintln!("{USAGE}");
         std::process::exit(2);
     }
