@@ -56,6 +56,10 @@ impl<const W: u8> Pair for Number<W> {
     fn any_ref(g: &mut Rng) -> u8 {
         g.below(1 << W) as u8
     }
+    /// The highest tags, after which bytes follow, and those before them.
+    fn references(_: &mut Rng, n: usize) -> Vec<u8> {
+        (0..=u8::MAX >> (8 - W)).rev().take(n).collect()
+    }
     fn value(g: &mut Rng, _: &u8) -> u64 {
         number_value(g)
     }

@@ -49,6 +49,8 @@ pub trait Pair {
     fn len_of_encoding(v: &Self::Flat, r: &Self::FlatRef, length: &mut usize) -> u8;
 
     fn any_ref(g: &mut Rng) -> Self::Ref;
+    /// Up to so many references, that all short messages are read against.
+    fn references(g: &mut Rng, n: usize) -> Vec<Self::Ref>;
     fn value(g: &mut Rng, r: &Self::Ref) -> Self::Val;
     /// A message that may have to do with the value. The tag of a number stands in the reference.
     fn message(g: &mut Rng, v: &Self::Val, r: &mut Self::Ref) -> Vec<u8>;
@@ -116,6 +118,10 @@ macro_rules! pair {
             }
             fn any_ref(g: &mut Rng) -> Self::Ref {
                 <$kind as Random>::any_ref(g)
+            }
+            fn references(g: &mut Rng, n: usize) -> Vec<Self::Ref> {
+                let n = if std::mem::size_of::<Self::Ref>() > 0 { n } else { 1 };
+                (0..n).map(|_| <$kind as Random>::any_ref(g)).collect()
             }
             fn value(g: &mut Rng, r: &Self::Ref) -> Self::Val {
                 <$kind as Random>::value(g, r)

@@ -7,9 +7,7 @@ use oracle::random::Rng;
 
 /// Reads all messages of up to `longest` bytes, each followed by the tail, against so many references.
 pub fn run<P: Pair>(seed: u64, longest: usize, tail: &[u8], references: usize, tally: &mut Tally) {
-    let mut g = Rng::of_seed(seed);
-    for _ in 0..if std::mem::size_of::<P::Ref>() == 0 { 1 } else { references } {
-        let r = P::any_ref(&mut g);
+    for r in P::references(&mut Rng::of_seed(seed), references) {
         let flat_ref = P::flat_ref(&r);
         let mut record = P::Flat::UNTOUCHED;
         for length in 0..=longest {
