@@ -15,12 +15,14 @@ pub const MAX_PATH_LENGTH: usize = 600;
 pub const ID_LENGTH: usize = 32;
 
 macro_rules! records {
-    ($($(#[$doc:meta])* $name:ident: $size:literal { $($field:ident: $type:ty),* $(,)? })*) => { $(
+    ($(
+        $(#[$doc:meta])*
+        $name:ident: $size:literal { $($(#[$of_field:meta])* $field:ident: $type:ty,)* }
+    )*) => { $(
         $(#[$doc])*
         #[repr(C)]
         #[derive(Clone, Copy, Debug, PartialEq, Eq, Hash)]
-        #[allow(missing_docs)]
-        pub struct $name { $(pub $field: $type),* }
+        pub struct $name { $($(#[$of_field])* pub $field: $type,)* }
         impl $name {
             /// The record of zeros, which is well formed.
             // SAFETY: it is bytes.
@@ -31,33 +33,65 @@ macro_rules! records {
 }
 
 records! {
-    /// The bytes of the components one after the other; what is not used of bytes and lengths is zero.
+    /// A path. What is not used of bytes and lengths is zero.
     Path: 641 {
+        /// How many components there are.
         count: u8,
+        /// Their lengths, the highest byte first.
         lengths: [[u8; 2]; MAX_COMPONENT_COUNT],
+        /// Their bytes, one component after the other.
         bytes: [u8; MAX_PATH_LENGTH],
     }
-    /// From start on, before end. end_open is 0 or 1; beside 1 the end is zero.
-    TimeRange: 17 { start: [u8; 8], end_open: u8, end: [u8; 8] }
-    /// any is 0 or 1; beside 1 the id is zero.
-    Area: 691 { any: u8, id: [u8; ID_LENGTH], path: Path, times: TimeRange }
+    /// A range of times; they have the highest byte first.
+    TimeRange: 17 {
+        /// From here on.
+        start: [u8; 8],
+        /// 1 if the end is open, else 0.
+        end_open: u8,
+        /// Before here; zero if it is open.
+        end: [u8; 8],
+    }
+    /// An area.
+    Area: 691 {
+        /// 1 for any subspace, else 0.
+        any: u8,
+        /// The subspace; zero beside any.
+        id: [u8; ID_LENGTH],
+        /// The path that its paths begin with.
+        path: Path,
+        /// Its times.
+        times: TimeRange,
+    }
     /// An entry; numbers have the highest byte first.
     Entry: 753 {
+        /// Its namespace.
         namespace_id: [u8; ID_LENGTH],
+        /// Its subspace.
         subspace_id: [u8; ID_LENGTH],
+        /// Its path.
         path: Path,
+        /// Its time.
         timestamp: [u8; 8],
+        /// How many bytes its payload has.
         payload_length: [u8; 8],
+        /// The digest of its payload.
         payload_digest: [u8; ID_LENGTH],
     }
-    /// Each end_open is 0 or 1; beside 1 that end is zero.
+    /// A 3d range.
     Range3d: 1365 {
+        /// The first subspace.
         subspace_start: [u8; ID_LENGTH],
+        /// 1 if the subspaces' end is open, else 0.
         subspace_end_open: u8,
+        /// The subspaces' end; zero if it is open.
         subspace_end: [u8; ID_LENGTH],
+        /// The first path.
         path_start: Path,
+        /// 1 if the paths' end is open, else 0.
         path_end_open: u8,
+        /// The paths' end; zero if it is open.
         path_end: Path,
+        /// Its times.
         times: TimeRange,
     }
 }
