@@ -71,6 +71,23 @@ pub fn reading<P: Pair>(
     Err(difference(case, &theirs, &ours))
 }
 
+/// A copy of a buffer to be lent, with bytes behind it that nobody may change.
+#[derive(Default)]
+pub struct Fenced(Vec<u8>);
+impl Fenced {
+    const BEHIND: [u8; 16] = [FILL; 16];
+    pub fn lend(&mut self, buffer: &[u8]) -> &mut [u8] {
+        self.0.clear();
+        self.0.extend_from_slice(buffer);
+        self.0.extend_from_slice(&Self::BEHIND);
+        &mut self.0[..buffer.len()]
+    }
+    /// What was lent; with what stands behind it, if that was changed.
+    pub fn back(&self) -> &[u8] {
+        self.0.strip_suffix(&Self::BEHIND).unwrap_or(&self.0)
+    }
+}
+
 /// A value to be written against a reference, with what the original writes.
 pub struct Writing<'a, P: Pair> {
     v: &'a P::Val,
@@ -99,16 +116,16 @@ impl<'a, P: Pair> Writing<'a, P> {
         self.original.as_ref().map(|o| o.1.len())
     }
 
-    /// Writing into a lent buffer, which is left as lent.
-    pub fn into_buffer(&self, buffer: &[u8], work: &mut Vec<u8>) -> Agreed {
-        work.clear();
-        work.extend_from_slice(buffer);
+    /// Writing into a copy of the buffer.
+    pub fn into_buffer(&self, buffer: &[u8], work: &mut Fenced) -> Agreed {
         let (mut tag, mut written) = (FILL, NO_COUNT);
-        let answer = P::encode(work, &self.flat, self.flat_ref, &mut tag, &mut written);
+        let answer =
+            P::encode(work.lend(buffer), &self.flat, self.flat_ref, &mut tag, &mut written);
+        let work = work.back();
         let (expected, same) = match &self.original {
-            None => (3, written == 0 && tag == FILL && *work == buffer),
+            None => (3, written == 0 && tag == FILL && work == buffer),
             Some((_, bytes)) if bytes.len() > buffer.len() => {
-                (4, written == 0 && tag == FILL && *work == buffer)
+                (4, written == 0 && tag == FILL && work == buffer)
             }
             Some((their_tag, bytes)) => (
                 0,

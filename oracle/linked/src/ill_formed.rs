@@ -1,5 +1,5 @@
 //! Records that are not well formed, which the original cannot hold: the archive must answer 5 and change nothing.
-use crate::check::{refused_with, Agreed, NO_COUNT};
+use crate::check::{refused_with, Agreed, Fenced, NO_COUNT};
 use crate::flat::{Record, FILL};
 use crate::pairs::Pair;
 use jakepuro::raw;
@@ -98,7 +98,7 @@ pub struct Lent<'a, P: Pair> {
     pub message: &'a [u8],
     pub start: usize,
     pub buffer: &'a [u8],
-    pub work: &'a mut Vec<u8>,
+    pub work: &'a mut Fenced,
     pub record: &'a mut P::Flat,
 }
 
@@ -128,11 +128,9 @@ pub fn spoilt<P: Pair>(
 }
 
 fn written<P: Pair>(v: &P::Flat, r: &P::FlatRef, lent: &mut Lent<P>) -> Agreed {
-    lent.work.clear();
-    lent.work.extend_from_slice(lent.buffer);
     let (mut tag, mut written) = (FILL, NO_COUNT);
-    let answer = P::encode(lent.work, v, r, &mut tag, &mut written);
-    let unchanged = *lent.work == lent.buffer && tag == FILL;
+    let answer = P::encode(lent.work.lend(lent.buffer), v, r, &mut tag, &mut written);
+    let unchanged = lent.work.back() == lent.buffer && tag == FILL;
     refused_with(5, (answer, written), unchanged, || format!("{} w\n{r:02x?}\n{v:02x?}", P::NAME))
 }
 fn measured<P: Pair>(v: &P::Flat, r: &P::FlatRef) -> Agreed {

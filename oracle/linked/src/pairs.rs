@@ -148,6 +148,7 @@ macro_rules! pair {
 fn nothing(_: &()) {}
 type NamespaceAndArea = ([u8; 32], raw::Area);
 
+/// The kinds, laid out as a table.
 #[rustfmt::skip]
 mod all {
     use super::*;

@@ -1,5 +1,5 @@
 //! Random cases of a kind, as the generator of case lines makes them.
-use crate::check::{reading, Writing};
+use crate::check::{reading, Fenced, Writing};
 use crate::flat::Record;
 use crate::ill_formed::{self, Lent};
 use crate::pairs::Pair;
@@ -14,7 +14,7 @@ const MORE_ROOM: usize = 3;
 pub fn run<P: Pair>(seed: u64, cases: u64, tally: &mut Tally) {
     let mut g = Rng::of_seed(seed);
     let mut record = P::Flat::UNTOUCHED;
-    let mut work = Vec::new();
+    let mut work = Fenced::default();
     for i in 0..cases {
         let mut r = P::any_ref(&mut g);
         let v = P::value(&mut g, &r);
