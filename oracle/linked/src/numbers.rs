@@ -18,6 +18,7 @@ impl<const W: u8> Pair for Number<W> {
     };
     const KIND: &'static str = "number";
     const STRICT: bool = true;
+    const TAGGED: bool = true;
     type Ref = u8;
     type Val = u64;
     type FlatRef = u8;

@@ -13,6 +13,8 @@ pub trait Pair {
     const KIND: &'static str;
     /// Whether there is a strict reading.
     const STRICT: bool;
+    /// Whether it follows a tag that stands elsewhere.
+    const TAGGED: bool = false;
     type Ref;
     type Val;
     type FlatRef: Spoil;

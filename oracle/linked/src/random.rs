@@ -44,7 +44,7 @@ pub fn run<P: Pair>(seed: u64, cases: u64, tally: &mut Tally) {
         }
 
         let count = |agreed| tally.count(Asked::IllFormed, agreed);
-        if P::KIND == "number" {
+        if P::TAGGED {
             ill_formed::tags_and_widths(&mut g, &message, start, count);
         } else {
             let lent = &mut Lent::<P> {
