@@ -140,9 +140,7 @@ fn check_reading<K: Kind>(part: &[u8], r: &K::Ref, report: &mut dyn FnMut(&str))
             }
         }
         (Ok(_), _) => report("strict accepts, lenient refuses"),
-        (Err(_), Outcome::Done(Ok(_))) if same_bytes => {
-            report("strict refuses what writing gives")
-        }
+        (Err(_), Outcome::Done(Ok(_))) if same_bytes => report("strict refuses what writing gives"),
         _ => {}
     }
 }

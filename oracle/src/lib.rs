@@ -2,6 +2,7 @@
 pub mod answer;
 pub mod ids;
 pub mod kinds;
+pub mod random;
 pub mod text;
 
 pub use ids::{Id, Refusal};

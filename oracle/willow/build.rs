@@ -20,12 +20,8 @@ const GIVEN: [&str; 13] = [
     "relative_encodings/entry_entry.rs",
     "relative_encodings/range3d_range3d.rs",
 ];
-const OWN: [&str; 4] = [
-    "root.rs",
-    "grouping/mod.rs",
-    "relative_encodings/mod.rs",
-    "path/representation.rs",
-];
+const OWN: [&str; 4] =
+    ["root.rs", "grouping/mod.rs", "relative_encodings/mod.rs", "path/representation.rs"];
 
 fn main() {
     let here = env::var("CARGO_MANIFEST_DIR").unwrap();

@@ -129,17 +129,37 @@ fn parts(line: &[u8], out: &mut Vec<u8>) -> Option<()> {
     match k {
         b"number" => number(op, f, out),
         b"standalone" => kind(
-            op, f, out, true, Some(()), |f| f.number(), |o, n| put_number(o, *n),
-            |m, _| m.standalone(), |v, _| Ok(w_standalone(*v)),
+            op,
+            f,
+            out,
+            true,
+            Some(()),
+            |f| f.number(),
+            |o, n| put_number(o, *n),
+            |m, _| m.standalone(),
+            |v, _| Ok(w_standalone(*v)),
         ),
         b"path" => kind(
-            op, f, out, true, Some(()), |f| f.path(), put_path, |m, _| Ok(path(&m.path()?)),
+            op,
+            f,
+            out,
+            true,
+            Some(()),
+            |f| f.path(),
+            put_path,
+            |m, _| Ok(path(&m.path()?)),
             |v, _| Ok(w_path(&comps(v))),
         ),
         b"path_path" => {
             let r = f.path();
             kind(
-                op, f, out, true, r, |f| f.path(), put_path,
+                op,
+                f,
+                out,
+                true,
+                r,
+                |f| f.path(),
+                put_path,
                 |m, r| Ok(path(&m.path_path(&comps(r))?)),
                 |v, r| Ok(w_path_path(&comps(v), &comps(r))),
             )
@@ -147,7 +167,13 @@ fn parts(line: &[u8], out: &mut Vec<u8>) -> Option<()> {
         b"path_extends" => {
             let r = f.path();
             kind(
-                op, f, out, true, r, |f| f.path(), put_path,
+                op,
+                f,
+                out,
+                true,
+                r,
+                |f| f.path(),
+                put_path,
                 |m, r| Ok(path(&m.path_extends(&comps(r))?)),
                 |v, r| w_path_extends(&comps(v), &comps(r)),
             )
@@ -158,19 +184,43 @@ fn parts(line: &[u8], out: &mut Vec<u8>) -> Option<()> {
         }
         b"entry_area" => {
             let r = (|| Some((f.id()?, f.area()?)))();
-            kind(op, f, out, true, r, |f| f.entry(), put_entry, |m, r| m.entry_area(r), w_entry_area)
+            kind(
+                op,
+                f,
+                out,
+                true,
+                r,
+                |f| f.entry(),
+                put_entry,
+                |m, r| m.entry_area(r),
+                w_entry_area,
+            )
         }
         b"entry_entry" => {
             let r = f.entry();
             kind(
-                op, f, out, false, r, |f| f.entry(), put_entry, |m, r| m.entry_entry(r),
+                op,
+                f,
+                out,
+                false,
+                r,
+                |f| f.entry(),
+                put_entry,
+                |m, r| m.entry_entry(r),
                 |v, r| Ok(w_entry_entry(v, r)),
             )
         }
         b"range3d_range3d" => {
             let r = f.range3d();
             kind(
-                op, f, out, false, r, |f| f.range3d(), put_range3d, |m, r| m.range3d(r),
+                op,
+                f,
+                out,
+                false,
+                r,
+                |f| f.range3d(),
+                put_range3d,
+                |m, r| m.range3d(r),
                 |v, r| Ok(w_range3d(v, r)),
             )
         }

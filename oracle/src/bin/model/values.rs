@@ -22,7 +22,11 @@ pub fn as_top(e: &RangeEnd<u64>) -> u64 {
     }
 }
 pub fn need(b: bool, n: u64) -> Res<()> {
-    if b { Ok(()) } else { Err(n) }
+    if b {
+        Ok(())
+    } else {
+        Err(n)
+    }
 }
 
 pub fn time_in(t: u64, r: &Range<u64>) -> bool {

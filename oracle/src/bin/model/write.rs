@@ -40,7 +40,11 @@ pub fn w_path_extends(c: &Comps, r: &Comps) -> Res<Vec<u8>> {
 }
 /// Added, and the difference; a tie adds.
 fn smaller(t: u64, s: u64, e: u64) -> (bool, u64) {
-    if t - s <= e - t { (true, t - s) } else { (false, e - t) }
+    if t - s <= e - t {
+        (true, t - s)
+    } else {
+        (false, e - t)
+    }
 }
 pub fn w_area(v: &Area, r: &Area) -> Res<Vec<u8>> {
     let mut id = vec![];

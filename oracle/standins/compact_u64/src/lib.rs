@@ -175,9 +175,7 @@ impl RelativeDecodableCanonic<Tag, Infallible, NotMinimal> for CompactU64 {
     where
         P: BulkProducer<Item = u8>,
     {
-        let n = Self::relative_decode(producer, tag)
-            .await
-            .map_err(DecodeError::map_other_from)?;
+        let n = Self::relative_decode(producer, tag).await.map_err(DecodeError::map_other_from)?;
         if Tag::min_tag(n.0, tag.width) != *tag {
             return Err(DecodeError::Other(NotMinimal));
         }

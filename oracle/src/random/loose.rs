@@ -1,6 +1,8 @@
 //! Non-canonical and wrong encodings: any width that holds a number, any flag that might do.
-use crate::values::*;
-use oracle::{Area, Entry, Id, Path, Range3d};
+use super::paths::*;
+use super::values::*;
+use super::Rng;
+use crate::{Area, Entry, Id, Path, Range3d};
 use willow_data_model::grouping::{AreaSubspace, Range, RangeEnd};
 
 /// How far the loose writer strays, in percent, at each choice.

@@ -1,0 +1,59 @@
+//! The types: their parts come back, and paths keep their limits.
+use jakepuro::*;
+
+#[test]
+fn limits_of_paths() {
+    let at_most = [&[0x61; 300][..], &[0x62; 300]];
+    assert_eq!(Path::from_components(&at_most).unwrap().path_length(), 600);
+    let too_long = [&at_most[..], &[b"c"]].concat();
+    assert_eq!(Path::from_components(&too_long), Err(InvalidPathError::PathTooLong));
+    let error = Path::from_components(&[&[0; 301]]).unwrap_err();
+    assert_eq!(error, InvalidPathError::ComponentTooLong);
+    let empty: [&[u8]; 21] = [b""; 21];
+    assert_eq!(Path::from_components(&empty[..20]).unwrap().component_count(), 20);
+    assert_eq!(Path::from_components(&empty), Err(InvalidPathError::TooManyComponents));
+}
+
+#[test]
+fn parts_come_back() {
+    let components: [&[u8]; 3] = [b"a", b"", &[0xff; 300]];
+    let path = Path::from_components(&components).unwrap();
+    assert_eq!(path.components().collect::<Vec<_>>(), components);
+    assert_eq!(path.components().len(), 3);
+    assert_ne!(path, Path::from_components(&components[..2]).unwrap());
+    assert!(Path::default().is_empty() && !path.is_empty());
+
+    let times = TimeRange::new_closed(1, u64::MAX);
+    let area = Area::new(AreaSubspace::Id([2; 32]), path.clone(), times);
+    assert_eq!(area.subspace(), AreaSubspace::Id([2; 32]));
+    assert_eq!((area.path(), area.times()), (&path, times));
+    assert_eq!(Area::new_full().subspace(), AreaSubspace::Any);
+    assert_eq!(Area::new_full().times(), TimeRange::new_open(0));
+
+    let entry = Entry::new([1; 32], [2; 32], path.clone(), 3, u64::MAX, [4; 32]);
+    assert_eq!((entry.namespace_id(), entry.subspace_id()), (&[1; 32], &[2; 32]));
+    assert_eq!((entry.path(), entry.timestamp()), (&path, 3));
+    assert_eq!((entry.payload_length(), entry.payload_digest()), (u64::MAX, &[4; 32]));
+
+    let subspaces = Range::new_closed([5; 32], [6; 32]);
+    let range = Range3d::new(subspaces, Range::new_open(path.clone()), times);
+    assert_eq!((range.subspaces(), range.times()), (subspaces, times));
+    assert_eq!(range.paths(), Range::new_open(&path));
+    let range = Range3d::new(subspaces, Range::new_closed(Path::default(), path.clone()), times);
+    assert_eq!(range.paths().end, RangeEnd::Closed(&path));
+}
+
+#[test]
+fn how_they_are_shown() {
+    let path = Path::from_components(&[b"a", b"\x00\""]).unwrap();
+    assert_eq!(format!("{path:?}"), r#"Path["a", "\x00\""]"#);
+    let shown = format!("{:?}", Area::new_full());
+    assert_eq!(shown, "Area { subspace: Any, path: Path[], times: Range { start: 0, end: Open } }");
+}
+
+#[test]
+fn tags_fit_their_width() {
+    assert_eq!(Tag::new(TagWidth::Two, 4), None);
+    assert_eq!(Tag::new(TagWidth::Two, 3).map(|t| t.data()), Some(3));
+    assert_eq!(Tag::new(TagWidth::Eight, 255).map(|t| t.width()), Some(TagWidth::Eight));
+}
