@@ -21,6 +21,7 @@ use Rattle.path.specs.Answers.{commonPrefix, prefixOf, verdict}
 use Rattle.codec.proofs.Tests.{and-left, and-right}
 use Rattle.path.proofs.Components.{Formed, formed, count-is, rest-count, rest-small}
 use Rattle.path.proofs.Prefix.{shares}
+use Rattle.path.proofs.Verdicts.{yes-allowed}
 use Rattle.path_suffix.specs.Suffix.{suffixBytes, suffixFrom}
 use Rattle.path_suffix.proofs.Suffix.{suffix-short}
 use Rattle.path_suffix.proofs.Writing.{suffix-allowed}
@@ -145,19 +146,20 @@ module _ (r p : Path) where
       go false i f h g = let z : _≡_ {A = ℕ} 0 1 = cc in absurd (omega arith)
 
   module _ (t : TypedPath r) (u : TypedPath p) where
-    -- a path that the reference is a prefix of is written as the suffix after it
-    pub extends-suffix : prefixOf r p ≡ compared.Yes → (suffixFrom (r .count) .check p ≡ extendsPath r .check p) × (suffixFrom (r .count) .encode p ≡ extendsPath r .encode p)
+    -- a path that the reference is a prefix of shares its components
+    pub extends-common : prefixOf r p ≡ compared.Yes → Common r p (r .count)
     unfolding prefixOf isPrefix
-    extends-suffix e = go (wellFormed r && wellFormed p) (eqb (shared (componentsOf r) (componentsOf p)) (length (componentsOf r))) refl refl e
+    extends-common e = go (wellFormed r && wellFormed p) (eqb (shared (componentsOf r) (componentsOf p)) (length (componentsOf r))) refl refl e
       where
-        go : (b i : Bool) → (wellFormed r && wellFormed p) ≡ b → eqb (shared (componentsOf r) (componentsOf p)) (length (componentsOf r)) ≡ i → cond b (verdict i) compared.Malformed ≡ compared.Yes
-            → (suffixFrom (r .count) .check p ≡ extendsPath r .check p) × (suffixFrom (r .count) .encode p ≡ extendsPath r .encode p)
-        go true true f h g =
-            let wr = and-left (wellFormed r) (wellFormed p) f in
-            let wp = and-right (wellFormed r) (wellFormed p) f in
-            let cr : length (componentsOf r) ≡ r .count = count-is r (formed t wr) in
-            let cp : length (componentsOf p) ≡ p .count = count-is p (formed u wp) in
-            let n : r .count ≤ p .count = omega (arith, eqb-true (shared (componentsOf r) (componentsOf p)) (length (componentsOf r)) h, shares (componentsOf r) (componentsOf p) .in-p) in
-            (suffix-allowed p (r .count) wp n ∙ rw (f, h), ap (λ (k : ℕ). suffixBytes (drop k (componentsOf p))) (sym cr))
+        go : (b i : Bool) → (wellFormed r && wellFormed p) ≡ b → eqb (shared (componentsOf r) (componentsOf p)) (length (componentsOf r)) ≡ i → cond b (verdict i) compared.Malformed ≡ compared.Yes → Common r p (r .count)
+        go true true f h g = record { both = f; is = eqb-true (shared (componentsOf r) (componentsOf p)) (length (componentsOf r)) h ∙ count-is r (formed t (and-left (wellFormed r) (wellFormed p) f)) }
         go true false f h g = let z : _≡_ {A = ℕ} 0 1 = cc in absurd (omega arith)
         go false i f h g = let z : _≡_ {A = ℕ} 0 1 = cc in absurd (omega arith)
+
+    -- and is written as the suffix after it
+    pub extends-suffix : prefixOf r p ≡ compared.Yes → (suffixFrom (r .count) .check p ≡ extendsPath r .check p) × (suffixFrom (r .count) .encode p ≡ extendsPath r .encode p)
+    unfolding prefixOf
+    extends-suffix e =
+        let c = extends-common e in
+        let cr : length (componentsOf r) ≡ r .count = count-is r (formed t (and-left (wellFormed r) (wellFormed p) (c .both))) in
+        (rest-allowed r p (r .count) u c ∙ sym (yes-allowed (wellFormed r && wellFormed p) (isPrefix (componentsOf r) (componentsOf p)) e), ap (λ (k : ℕ). suffixBytes (drop k (componentsOf p))) (sym cr))
