@@ -36,6 +36,13 @@ restBytes r a = timesBytes (r .times) (a .times) ++ extensionBytes (r .path) (a 
 unfoldable pub areaBytes : AreaValue → AreaValue → List ℕ
 areaBytes r a = startBytes r a ++ restBytes r a
 
+-- the same by parts: the header and the id; what stands before the path
+abbrev pub startOf : Option (List ℕ) → TimeRange → Option (List ℕ) → TimeRange → List ℕ
+startOf r within s times = packHeader (headerOf (idWritten r s) within times) ∷ subspaceBytes r s
+
+abbrev pub headBytes : Option (List ℕ) → TimeRange → Option (List ℕ) → TimeRange → List ℕ
+headBytes r within s times = startOf r within s times ++ timesBytes within times
+
 -- ---- reading
 abbrev pub sameId : Option (List ℕ) → List ℕ → Bool
 sameId none id = false

@@ -1,13 +1,12 @@
-// Writing an area that lies inside.
+// Writing what stands before the path.
 ghost use mathlib.Core.Path.{_≡_};
 ghost use Prim.Native.Nat.{_≤_};
 ghost use lib.ListN.{length};
-ghost use Rattle.codec.specs.Format.{allowed, over};
-ghost use Rattle.grouping.specs.Record.{subspaceOf, areaOf};
-ghost use Rattle.area_area.specs.Area.{idWritten, subspaceBytes, startBytes, restBytes};
-ghost use Rattle.area_area.specs.Records.{againstArea};
-use grouping::Area;
+ghost use Rattle.codec.specs.Format.{over};
+ghost use Rattle.grouping.specs.Record.{subspaceOf};
+ghost use Rattle.area_area.specs.Area.{idWritten, subspaceBytes, startOf, headBytes};
 use grouping::AreaSubspace;
+use grouping::TimeRange;
 
 fn id_written(subspace: AreaSubspace, reference: AreaSubspace) -> bool
     ensures { λ r. ⌜ r ≡ idWritten (subspaceOf reference) (subspaceOf subspace) ⌝ }
@@ -42,30 +41,45 @@ fn put_subspace(buffer: &mut [u8], subspace: AreaSubspace, reference: AreaSubspa
 }
 
 // The header and the id.
-fn put_start(buffer: &mut [u8], area: Area, reference: Area) -> usize
-    requires { ⌜ length (startBytes (areaOf reference) (areaOf area)) ≤ length (now buffer) ⌝ }
-    ensures { λ r. ⌜ (r ≡ length (startBytes (areaOf reference) (areaOf area))) × (now (buffer .exit) ≡ over (startBytes (areaOf reference) (areaOf area)) (now (buffer .entry))) ⌝ }
+fn put_start(
+    buffer: &mut [u8],
+    subspace: AreaSubspace,
+    reference: AreaSubspace,
+    times: TimeRange,
+    within: TimeRange,
+) -> usize
+    requires { ⌜ length (startOf (subspaceOf reference) within (subspaceOf subspace) times) ≤ length (now buffer) ⌝ }
+    ensures { λ r. ⌜ (r ≡ length (startOf (subspaceOf reference) within (subspaceOf subspace) times)) × (now (buffer .exit) ≡ over (startOf (subspaceOf reference) within (subspaceOf subspace) times) (now (buffer .entry))) ⌝ }
 {
-    let written = id_written(area.subspace, reference.subspace);
-    buffer[0] = area_times::header_byte(written, area.times, reference.times);
-    1 + put_subspace(&mut buffer[1..], area.subspace, reference.subspace)
+    let written = id_written(subspace, reference);
+    buffer[0] = area_times::header_byte(written, times, within);
+    1 + put_subspace(&mut buffer[1..], subspace, reference)
 }
 
-// The times and the path.
-fn put_rest(buffer: &mut [u8], area: Area, reference: Area)
-    requires { ⌜ (againstArea reference .check area ≡ allowed) × (length (restBytes (areaOf reference) (areaOf area)) ≤ length (now buffer)) ⌝ }
-    ensures { λ _. ⌜ now (buffer .exit) ≡ over (restBytes (areaOf reference) (areaOf area)) (now (buffer .entry)) ⌝ }
+// How many bytes the header, the id and the times take.
+pub(crate) fn head_len(
+    subspace: AreaSubspace,
+    reference: AreaSubspace,
+    times: TimeRange,
+    within: TimeRange,
+) -> usize
+    ensures { λ r. ⌜ (r ≡ length (headBytes (subspaceOf reference) within (subspaceOf subspace) times)) × (r ≤ 49) ⌝ }
 {
-    let n = area_times::relative_len_of_encoding(area.times, reference.times);
-    area_times::relative_encode(buffer, area.times, reference.times);
-    path_relative::encode_path_extends_path(&mut buffer[n..], area.path, reference.path);
+    let a = subspace_len(subspace, reference);
+    1 + a + area_times::relative_len_of_encoding(times, within)
 }
 
-// Writes an area that lies inside.
-pub(crate) fn put_area(buffer: &mut [u8], area: Area, reference: Area)
-    requires { ⌜ (againstArea reference .check area ≡ allowed) × (length (againstArea reference .encode area) ≤ length (now buffer)) ⌝ }
-    ensures { λ _. ⌜ now (buffer .exit) ≡ over (againstArea reference .encode area) (now (buffer .entry)) ⌝ }
+// The header, the id and the times.
+pub(crate) fn put_head(
+    buffer: &mut [u8],
+    subspace: AreaSubspace,
+    reference: AreaSubspace,
+    times: TimeRange,
+    within: TimeRange,
+)
+    requires { ⌜ length (headBytes (subspaceOf reference) within (subspaceOf subspace) times) ≤ length (now buffer) ⌝ }
+    ensures { λ _. ⌜ now (buffer .exit) ≡ over (headBytes (subspaceOf reference) within (subspaceOf subspace) times) (now (buffer .entry)) ⌝ }
 {
-    let n = put_start(buffer, area, reference);
-    put_rest(&mut buffer[n..], area, reference);
+    let n = put_start(buffer, subspace, reference, times, within);
+    area_times::relative_encode(&mut buffer[n..], times, within);
 }

@@ -56,41 +56,52 @@ pub fn relative_decode(message: &[u8], start: usize, canonic: bool, reference: A
     }
 }
 
-// The length of an area that lies inside.
-fn len_inside(area: Area, reference: Area) -> Encoded
-    requires { ⌜ againstArea reference .check area ≡ allowed ⌝ }
-    ensures { λ r. ⌜ outcomeOf r ≡ lengthAnswer (againstArea reference) area ⌝ }
-{
-    let path = path_relative::path_extends_path_encoding_len(area.path, reference.path);
-    let Encoded::Length(n) = path else {
-        return path;
-    };
-    let a = area_encode::subspace_len(area.subspace, reference.subspace);
-    let b = area_times::relative_len_of_encoding(area.times, reference.times);
-    Encoded::Length(1 + (a + (b + n)))
-}
-
 // How many bytes an area against a reference takes.
 pub fn relative_len_of_encoding(area: Area, reference: Area) -> Encoded
     ensures { λ r. ⌜ outcomeOf r ≡ lengthAnswer (againstArea reference) area ⌝ }
 {
     let inside = reference.contains(area);
     match inside {
-        Compared::Yes => len_inside(area, reference),
+        Compared::Yes => {
+            let suffix = path_suffix::suffix_len(area.path, reference.path.count);
+            let Encoded::Length(n) = suffix else {
+                return suffix;
+            };
+            let a = area_encode::head_len(
+                area.subspace,
+                reference.subspace,
+                area.times,
+                reference.times,
+            );
+            Encoded::Length(a + n)
+        }
         Compared::No => Encoded::Outside,
         Compared::Malformed => Encoded::Malformed,
     }
 }
 
-// Writes an area against a reference.
+// Writes an area against a reference: the path before what comes first, since it is what may not fit.
 pub fn relative_encode(buffer: &mut [u8], area: Area, reference: Area) -> Encoded
     ensures { λ r. ⌜ (outcomeOf r ≡ writeAnswer (againstArea reference) area (length (now (buffer .entry)))) × (now (buffer .exit) ≡ writeBuffer (againstArea reference) area (now (buffer .entry))) ⌝ }
 {
-    let whole = relative_len_of_encoding(area, reference);
-    let answer = codec::in_room(whole, buffer.len());
-    let Encoded::Length(_) = answer else {
-        return answer;
-    };
-    area_encode::put_area(buffer, area, reference);
-    answer
+    let inside = reference.contains(area);
+    match inside {
+        Compared::Yes => {
+            let subspace = area.subspace;
+            let within = reference.subspace;
+            let a = area_encode::head_len(subspace, within, area.times, reference.times);
+            if buffer.len() < a {
+                return Encoded::NoRoom;
+            }
+            let k = reference.path.count;
+            let suffix = path_suffix::encode_suffix(&mut buffer[a..], area.path, k);
+            let Encoded::Length(n) = suffix else {
+                return suffix;
+            };
+            area_encode::put_head(buffer, subspace, within, area.times, reference.times);
+            Encoded::Length(a + n)
+        }
+        Compared::No => Encoded::Outside,
+        Compared::Malformed => Encoded::Malformed,
+    }
 }

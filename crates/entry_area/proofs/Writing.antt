@@ -1,6 +1,6 @@
 -- What the writers' definitions say at each step of the code.
 use mathlib.Core.Path.{_≡_, refl, sym, ap, _∙_}
-use mathlib.Core.List.{List, [], _∷_}
+use mathlib.Core.List.{List, [], _∷_, _++_, append-assoc}
 use mathlib.Core.Bool.{Bool, true, false, cond, _&&_}
 use mathlib.Core.Option.{none, some}
 use Prim.Native.Nat.{ℕ, _+_, _≤_}
@@ -10,22 +10,25 @@ use Rattle.path.proofs.Verdicts.{yes-allowed, no-barred, malformed-barred}
 use Rattle.codec.specs.Format.{allowed, barred}
 use Rattle.codec.proofs.Tests.{and-left, and-right}
 use Rattle.codec.proofs.Lawful.{verdict-allowed}
-use Rattle.path.specs.Record.{componentsOf, wellFormed}
+use Rattle.compact_u64.specs.Number.{standaloneBytes}
+use Rattle.path.specs.Record.{wellFormed}
 use Rattle.path.specs.declared.Compared.the-variants as compared
-use Rattle.path.specs.Answers.{verdict}
-use Rattle.path_relative.specs.Against.{againstBytes}
-use Rattle.path_relative.specs.Records.{againstPath}
-use Rattle.path_relative.proofs.Against.{against-short}
+use Rattle.path.specs.Answers.{verdict, prefixOf}
+use Rattle.path_suffix.specs.Suffix.{suffixFrom}
+use Rattle.path_relative.proofs.Writing.{Common, rest-allowed, rest-short, extends-common}
+use Rattle.grouping.specs.declared.TimeRange.{TimeRange}
 use Rattle.grouping.specs.declared.AreaSubspace.{AreaSubspace}
 use Rattle.grouping.specs.declared.Area.{Area}
-use Rattle.grouping.specs.Record.{subspaceOf, areaOf, wellFormedSubspace, wellFormedArea}
+use Rattle.grouping.specs.Record.{subspaceOf, areaOf, wellFormedSubspace, wellFormedArea, TypedArea}
 use Rattle.entry.specs.declared.Entry.{Entry}
 use Rattle.entry.specs.Entry.{liesInsideArea}
 use Rattle.entry.specs.Record.{entryOf, wellFormedEntry, entryInside, TypedEntry}
-use Rattle.entry.proofs.Record.{apart-entry}
+use Rattle.entry_end.specs.declared.End.{End}
 use Rattle.entry_end.specs.Header.{packHeader}
-use Rattle.entry_area.specs.Entry.{isAny, entryHeader, idBytes, startBytes, restBytes, endBytes, entryBytes}
+use Rattle.entry_end.specs.End.{headerOf}
+use Rattle.entry_area.specs.Entry.{isAny, idBytes, entryBytes, startOf, headBytes, endOf}
 use Rattle.entry_area.specs.Records.{againstNamespaceArea}
+use Rattle.entry_area.proofs.Entry.{inside}
 
 -- ---- the id
 pub any-is : (s : AreaSubspace) → isAny (subspaceOf s) ≡ s .any
@@ -41,12 +44,19 @@ id-any s id e = rw e
 id-one : (s : AreaSubspace) (id : List ℕ) → s .any ≡ false → idBytes (subspaceOf s) id ≡ []
 id-one s id e = rw e
 
-module _ (r : Area) (e : Entry) {b : ℕ} (head : b ≡ packHeader (entryHeader (areaOf r) (entryOf e))) where
-  pub start-any : r .subspace .any ≡ true → startBytes (areaOf r) (entryOf e) ≡ b ∷ e .«subspace_id»
-  start-any f = ap (λ (l : List ℕ). packHeader (entryHeader (areaOf r) (entryOf e)) ∷ l) (id-any (r .subspace) (e .«subspace_id») f) ∙ ap (λ (h : ℕ). h ∷ e .«subspace_id») (sym head)
+module _ (s : AreaSubspace) (t : TimeRange) (id : List ℕ) (e : End) {b : ℕ} (head : b ≡ packHeader (headerOf (isAny (subspaceOf s)) t (e .timestamp) (e .«payload_length»))) where
+  pub start-any : s .any ≡ true → startOf t (subspaceOf s) id e ≡ b ∷ id
+  start-any f = ap (λ (l : List ℕ). packHeader (headerOf (isAny (subspaceOf s)) t (e .timestamp) (e .«payload_length»)) ∷ l) (id-any s id f) ∙ ap (λ (h : ℕ). h ∷ id) (sym head)
 
-  pub start-one : r .subspace .any ≡ false → startBytes (areaOf r) (entryOf e) ≡ b ∷ []
-  start-one f = ap (λ (l : List ℕ). packHeader (entryHeader (areaOf r) (entryOf e)) ∷ l) (id-one (r .subspace) (e .«subspace_id») f) ∙ ap (λ (h : ℕ). h ∷ []) (sym head)
+  pub start-one : s .any ≡ false → startOf t (subspaceOf s) id e ≡ b ∷ []
+  start-one f = ap (λ (l : List ℕ). packHeader (headerOf (isAny (subspaceOf s)) t (e .timestamp) (e .«payload_length»)) ∷ l) (id-one s id f) ∙ ap (λ (h : ℕ). h ∷ []) (sym head)
+
+-- the fields after the path
+abbrev pub endIn : Entry → End
+endIn e = record { timestamp = e .timestamp; «payload_length» = e .«payload_length»; «payload_digest» = e .«payload_digest» }
+
+pub head-long : (s : AreaSubspace) (t : TimeRange) (id : List ℕ) (e : End) (k : ℕ) → 1 + (length (idBytes (subspaceOf s) id) + length (standaloneBytes k)) ≡ length (headBytes t (subspaceOf s) id e k)
+head-long s t id e k = omega (arith, length-append (startOf t (subspaceOf s) id e) (standaloneBytes k))
 
 -- ---- the verdict
 module _ (n : List ℕ) (r : Area) (e : Entry) where
@@ -63,24 +73,41 @@ module _ (n : List ℕ) (r : Area) (e : Entry) where
   unformed f = malformed-barred (wellFormedArea r && wellFormedEntry e) (liesInsideArea n (areaOf r) (entryOf e)) f
 
   module _ (ok : againstNamespaceArea n r .check e ≡ allowed) where
-    formed : (wellFormedArea r && wellFormedEntry e) ≡ true
-    formed = verdict-allowed (wellFormedArea r && wellFormedEntry e) (liesInsideArea n (areaOf r) (entryOf e)) ok .0
+    verdicts : ((wellFormedArea r && wellFormedEntry e) ≡ true) × (liesInsideArea n (areaOf r) (entryOf e) ≡ true)
+    verdicts = verdict-allowed (wellFormedArea r && wellFormedEntry e) (liesInsideArea n (areaOf r) (entryOf e)) ok
 
-    pub path-allowed : againstPath (r .path) .check (e .path) ≡ allowed
-    unfolding wellFormedArea wellFormedEntry
-    path-allowed =
-        let wr : wellFormed (r .path) ≡ true = and-right (wellFormedSubspace (r .subspace)) _ (and-left _ _ formed) in
-        let we : wellFormed (e .path) ≡ true = and-right (wellFormedArea r) _ formed in
-        rw (wr, we)
+    prefixed : prefixOf (r .path) (e .path) ≡ compared.Yes
+    unfolding wellFormedArea wellFormedEntry prefixOf
+    prefixed =
+        let v = verdicts in
+        let wr : wellFormed (r .path) ≡ true = and-right (wellFormedSubspace (r .subspace)) _ (and-left _ _ (v .0)) in
+        let we : wellFormed (e .path) ≡ true = and-right (wellFormedArea r) _ (v .0) in
+        rw (wr, we, inside n (areaOf r) (entryOf e) (v .1) .prefix)
 
-    pub path-short : TypedEntry e → length (againstPath (r .path) .encode (e .path)) ≤ 900
-    path-short t =
-        let p = apart-entry e t (and-right (wellFormedArea r) _ formed) .ok in
-        omega (arith, against-short (componentsOf (r .path)) (componentsOf (e .path)), p .total, p .count)
+    module _ (t : TypedArea r) (u : TypedEntry e) where
+      -- the area's components are those that the path shares with it
+      shares : Common (r .path) (e .path) (r .path .count)
+      shares = extends-common (r .path) (e .path) (t .path) (u .path) prefixed
 
-  -- ---- the bytes
-  pub entry-long : (i p m : ℕ) → i ≡ length (idBytes (subspaceOf (r .subspace)) (e .«subspace_id»)) → p ≡ length (againstPath (r .path) .encode (e .path)) → m ≡ length (endBytes (r .times) (entryOf e))
-      → 1 + (i + (p + m)) ≡ length (againstNamespaceArea n r .encode e)
-  unfolding entryBytes
-  entry-long i p m ei ep em =
-      omega (arith, ei, ep, em, length-append (startBytes (areaOf r) (entryOf e)) (restBytes (areaOf r) (entryOf e)), length-append (againstBytes (componentsOf (r .path)) (componentsOf (e .path))) (endBytes (r .times) (entryOf e)))
+      pub suffix-allowed : suffixFrom (r .path .count) .check (e .path) ≡ allowed
+      suffix-allowed = rest-allowed (r .path) (e .path) (r .path .count) (u .path) shares
+
+      pub suffix-short : length (suffixFrom (r .path .count) .encode (e .path)) ≤ 1000
+      suffix-short = rest-short (r .path) (e .path) (r .path .count) (u .path) shares
+
+      -- ---- the bytes
+      pub entry-bytes : againstNamespaceArea n r .encode e
+          ≡ (headBytes (r .times) (subspaceOf (r .subspace)) (e .«subspace_id») (endIn e) (r .path .count) ++ suffixFrom (r .path .count) .encode (e .path)) ++ endOf (r .times) (endIn e)
+      unfolding entryBytes
+      entry-bytes =
+          let s = startOf (r .times) (subspaceOf (r .subspace)) (e .«subspace_id») (endIn e) in
+          let k = standaloneBytes (r .path .count) in
+          let x = suffixFrom (r .path .count) .encode (e .path) in
+          let y = endOf (r .times) (endIn e) in
+          rw (shares .is) (ap (λ (l : List ℕ). s ++ l) (append-assoc k x y) ∙ sym (append-assoc s k (x ++ y)) ∙ sym (append-assoc (s ++ k) x y))
+
+      pub parts-long : length (headBytes (r .times) (subspaceOf (r .subspace)) (e .«subspace_id») (endIn e) (r .path .count)) + length (suffixFrom (r .path .count) .encode (e .path)) + length (endOf (r .times) (endIn e)) ≡ length (againstNamespaceArea n r .encode e)
+      parts-long =
+          let h = headBytes (r .times) (subspaceOf (r .subspace)) (e .«subspace_id») (endIn e) (r .path .count) in
+          let x = suffixFrom (r .path .count) .encode (e .path) in
+          omega (arith, ap length entry-bytes, length-append (h ++ x) (endOf (r .times) (endIn e)), length-append h x)

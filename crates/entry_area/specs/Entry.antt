@@ -6,7 +6,7 @@ use Prim.Native.Nat.{ℕ}
 use lib.Dec.{eqb}
 use Rattle.codec.specs.Header.{readHeader}
 use Rattle.codec.specs.Reader.{Reader, give, someBytes, andThen, guard, checked, mapped}
-use Rattle.compact_u64.specs.Number.{numberBytes}
+use Rattle.compact_u64.specs.Number.{numberBytes, standaloneBytes}
 use Rattle.path.specs.Prefix.{isPrefix}
 use Rattle.path_relative.specs.Against.{againstBytes, readAgainst}
 use Rattle.grouping.specs.declared.TimeRange.{TimeRange}
@@ -44,6 +44,19 @@ restBytes r v = againstBytes (r .path) (v .path) ++ endBytes (r .times) v
 
 unfoldable pub entryBytes : AreaValue → EntryValue → List ℕ
 entryBytes r v = startBytes r v ++ restBytes r v
+
+-- the same by parts: the header and the id; what stands before the suffix of the path; what stands after it
+abbrev pub startOf : TimeRange → Option (List ℕ) → List ℕ → End → List ℕ
+startOf r s id e = packHeader (headerOf (isAny s) r (e .timestamp) (e .«payload_length»)) ∷ idBytes s id
+
+abbrev pub headBytes : TimeRange → Option (List ℕ) → List ℕ → End → ℕ → List ℕ
+headBytes r s id e k = startOf r s id e ++ standaloneBytes k
+
+abbrev pub payloadOf : End → List ℕ
+payloadOf e = numberBytes 2 (e .«payload_length») ++ e .«payload_digest»
+
+abbrev pub endOf : TimeRange → End → List ℕ
+endOf r e = numberBytes 2 (differenceOf r (e .timestamp) .difference) ++ payloadOf e
 
 -- ---- reading
 

@@ -2,13 +2,14 @@
 ghost use mathlib.Core.Path.{_≡_};
 ghost use lib.ListN.{length, drop};
 ghost use Rattle.codec.specs.Answers.{outcomeOf};
-ghost use Rattle.codec.specs.Format.{allowed, writeAnswer, writeBuffer, lengthAnswer};
+ghost use Rattle.codec.specs.Format.{writeAnswer, writeBuffer, lengthAnswer};
 ghost use Rattle.entry.specs.Answers.{GivesEntry};
 ghost use Rattle.entry_area.specs.Records.{againstNamespaceArea, readAgainstNamespaceArea};
 use codec::Decoded;
 use codec::Encoded;
 use entry::DecodedEntry;
 use entry::Entry;
+use entry_end::End;
 use grouping::Area;
 use path::Compared;
 
@@ -49,27 +50,27 @@ pub fn relative_decode(
     }
 }
 
-// The length of an entry that lies inside.
-fn len_inside(entry: Entry, namespace: [u8; 32], area: Area) -> Encoded
-    requires { ⌜ againstNamespaceArea namespace area .check entry ≡ allowed ⌝ }
-    ensures { λ r. ⌜ outcomeOf r ≡ lengthAnswer (againstNamespaceArea namespace area) entry ⌝ }
-{
-    let path = path_relative::relative_len_of_encoding(entry.path, area.path);
-    let Encoded::Length(n) = path else {
-        return path;
-    };
-    let a = entry_encode::id_len(area.subspace);
-    let b = entry_encode::end_len(entry, area.times);
-    Encoded::Length(1 + (a + (n + b)))
-}
-
 // How many bytes an entry against a namespace and an area takes.
 pub fn relative_len_of_encoding(entry: Entry, namespace: [u8; 32], area: Area) -> Encoded
     ensures { λ r. ⌜ outcomeOf r ≡ lengthAnswer (againstNamespaceArea namespace area) entry ⌝ }
 {
     let inside = entry.lies_inside(namespace, area);
     match inside {
-        Compared::Yes => len_inside(entry, namespace, area),
+        Compared::Yes => {
+            let k = area.path.count;
+            let suffix = path_suffix::suffix_len(entry.path, k);
+            let Encoded::Length(n) = suffix else {
+                return suffix;
+            };
+            let digest = entry.payload_digest;
+            let end = End {
+                timestamp: entry.timestamp,
+                payload_length: entry.payload_length,
+                payload_digest: digest,
+            };
+            let a = entry_encode::head_len(area.subspace, k as u64);
+            Encoded::Length(a + n + entry_encode::end_len(end, area.times))
+        }
         Compared::No => Encoded::Outside,
         Compared::Malformed => Encoded::Malformed,
     }
@@ -84,6 +85,21 @@ pub fn relative_encode(buffer: &mut [u8], entry: Entry, namespace: [u8; 32], are
     let Encoded::Length(_) = answer else {
         return answer;
     };
-    entry_encode::put_entry(buffer, entry, namespace, area);
+    let k = area.path.count;
+    let digest = entry.payload_digest;
+    let end = End {
+        timestamp: entry.timestamp,
+        payload_length: entry.payload_length,
+        payload_digest: digest,
+    };
+    let a = entry_encode::head_len(area.subspace, k as u64);
+    let id = entry.subspace_id;
+    entry_encode::put_head(buffer, area.times, area.subspace, id, end, k as u64);
+    let path = path_suffix::encode_suffix(&mut buffer[a..], entry.path, k);
+    let Encoded::Length(n) = path else {
+        return path;
+    };
+    let at = a + n;
+    entry_encode::put_end(&mut buffer[at..], end, area.times);
     answer
 }

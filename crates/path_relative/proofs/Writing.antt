@@ -21,6 +21,7 @@ use Rattle.path.specs.Answers.{commonPrefix, prefixOf, verdict}
 use Rattle.codec.proofs.Tests.{and-left, and-right}
 use Rattle.path.proofs.Components.{Formed, formed, count-is, rest-count, rest-small}
 use Rattle.path.proofs.Prefix.{shares}
+use Rattle.path.proofs.Verdicts.{yes-allowed}
 use Rattle.path_suffix.specs.Suffix.{suffixBytes, suffixFrom}
 use Rattle.path_suffix.proofs.Suffix.{suffix-short}
 use Rattle.path_suffix.proofs.Writing.{suffix-allowed}
@@ -65,6 +66,27 @@ over-before : (l a b : List ℕ) → length a ≤ length l → over a (take (len
 over-before l a b h =
     rw (drop-at (take (length a) l) (over b (drop (length a) l)) (length a) (length-take-le (length a) l h), drop-drop, length-append) (sym (append-assoc a b (drop (length a + length b) l)))
 
+-- bytes written after the place of those that come first, then those
+module _ (first bs l : List ℕ) (a : ℕ) (ea : a ≡ length first) (h : a ≤ length l) where
+  both-long : (n : ℕ) → n ≡ length bs → a + n ≡ length (first ++ bs)
+  both-long n en = omega (arith, ea, en, length-append first bs)
+
+  pub rest-refused : (why : ℕ) (ys : List ℕ) → putAnswer allowed bs (length (drop a l)) ≡ denied why → ys ≡ putBuffer allowed bs (drop a l)
+      → (denied why ≡ putAnswer allowed (first ++ bs) (length l)) × (take a l ++ ys ≡ putBuffer allowed (first ++ bs) l)
+  rest-refused why ys e put =
+      let short = no-room bs (length (drop a l)) why e in
+      let full = put-full allowed (first ++ bs) l refl _ (both-long (length bs) refl) (omega (arith, short .1, length-drop a l)) in
+      let same : ys ≡ drop a l = put ∙ sym (put-denied allowed bs (drop a l) why e) in
+      (ap denied (short .0) ∙ full .0, rw same (take-append-drop a l ∙ full .1))
+
+  pub rest-written : (n : ℕ) (ys : List ℕ) → putAnswer allowed bs (length (drop a l)) ≡ wrote n → ys ≡ putBuffer allowed bs (drop a l)
+      → (wrote (a + n) ≡ putAnswer allowed (first ++ bs) (length l)) × (over first (take a l ++ ys) ≡ putBuffer allowed (first ++ bs) l)
+  rest-written n ys e put =
+      let w = put-wrote allowed bs (length (drop a l)) n e in
+      let whole = put-fits allowed (first ++ bs) l refl (a + n) (both-long n (w .long)) (omega (arith, w .fits, length-drop a l)) in
+      let there : ys ≡ over bs (drop a l) = put ∙ put-over bs (drop a l) (omega (arith, w .long, w .fits)) in
+      (whole .0, rw (there, ea) (over-before l first bs (omega arith)) ∙ whole .1)
+
 module _ (r p : Path) (k : ℕ) (t : TypedPath p) (c : Common r p k) where
   path-formed : Formed p
   path-formed = formed t (and-right (wellFormed r) (wellFormed p) (c .both))
@@ -92,22 +114,16 @@ module _ (r p : Path) (k : ℕ) (t : TypedPath p) (c : Common r p k) where
     pub against-refused : (why : ℕ) (ys : List ℕ) → writeAnswer (suffixFrom k) p (length (drop a l)) ≡ denied why → ys ≡ writeBuffer (suffixFrom k) p (drop a l)
         → (denied why ≡ writeAnswer (againstPath r) p (length l)) × (take a l ++ ys ≡ writeBuffer (againstPath r) p l)
     against-refused why ys e put =
-        let bs = suffixFrom k .encode p in
-        let short = no-room bs (length (drop a l)) why (rw rest-allowed at e) in
-        let full = put-full (againstPath r .check p) (againstPath r .encode p) l against-allowed _ (against-long a (length bs) ea refl) (omega (arith, short .1, length-drop a l)) in
-        let same : ys ≡ drop a l = put ∙ sym (put-denied (suffixFrom k .check p) bs (drop a l) why e) in
-        (ap denied (short .0) ∙ full .0, rw same (take-append-drop a l ∙ full .1))
+        let done = rest-refused (standaloneBytes k) (suffixFrom k .encode p) l a ea h why ys (rw rest-allowed at e) (rw rest-allowed at put) in
+        rw (against-allowed, against-bytes) done
 
     pub against-written : (n : ℕ) (ys : List ℕ) → writeAnswer (suffixFrom k) p (length (drop a l)) ≡ wrote n → ys ≡ writeBuffer (suffixFrom k) p (drop a l)
         → (wrote (a + n) ≡ writeAnswer (againstPath r) p (length l)) × (putBuffer allowed (standaloneBytes k) (take a l ++ ys) ≡ writeBuffer (againstPath r) p l)
     against-written n ys e put =
-        let bs = suffixFrom k .encode p in
-        let w = put-wrote (suffixFrom k .check p) bs (length (drop a l)) n e in
-        let whole = put-fits (againstPath r .check p) (againstPath r .encode p) l against-allowed (a + n) (against-long a n ea (w .long)) (omega (arith, w .fits, length-drop a l)) in
-        let there : ys ≡ over bs (drop a l) = put ∙ sym (put-fits (suffixFrom k .check p) bs (drop a l) (w .allows) n (w .long) (w .fits) .1) in
+        let done = rest-written (standaloneBytes k) (suffixFrom k .encode p) l a ea h n ys (rw rest-allowed at e) (rw rest-allowed at put) in
         let room : length (standaloneBytes k) ≤ length (take a l ++ ys) = rw (length-append, length-take-le a l h) (omega arith) in
         let first = put-over (standaloneBytes k) (take a l ++ ys) room in
-        (whole .0, first ∙ rw (there, ea) (over-before l (standaloneBytes k) bs (omega arith)) ∙ ap (λ (x : List ℕ). over x l) (sym against-bytes) ∙ whole .1)
+        rw (against-allowed, against-bytes) (done .0, first ∙ done .1)
 
 -- ---- a prefix
 module _ (r p : Path) where
@@ -130,19 +146,20 @@ module _ (r p : Path) where
       go false i f h g = let z : _≡_ {A = ℕ} 0 1 = cc in absurd (omega arith)
 
   module _ (t : TypedPath r) (u : TypedPath p) where
-    -- a path that the reference is a prefix of is written as the suffix after it
-    pub extends-suffix : prefixOf r p ≡ compared.Yes → (suffixFrom (r .count) .check p ≡ extendsPath r .check p) × (suffixFrom (r .count) .encode p ≡ extendsPath r .encode p)
+    -- a path that the reference is a prefix of shares its components
+    pub extends-common : prefixOf r p ≡ compared.Yes → Common r p (r .count)
     unfolding prefixOf isPrefix
-    extends-suffix e = go (wellFormed r && wellFormed p) (eqb (shared (componentsOf r) (componentsOf p)) (length (componentsOf r))) refl refl e
+    extends-common e = go (wellFormed r && wellFormed p) (eqb (shared (componentsOf r) (componentsOf p)) (length (componentsOf r))) refl refl e
       where
-        go : (b i : Bool) → (wellFormed r && wellFormed p) ≡ b → eqb (shared (componentsOf r) (componentsOf p)) (length (componentsOf r)) ≡ i → cond b (verdict i) compared.Malformed ≡ compared.Yes
-            → (suffixFrom (r .count) .check p ≡ extendsPath r .check p) × (suffixFrom (r .count) .encode p ≡ extendsPath r .encode p)
-        go true true f h g =
-            let wr = and-left (wellFormed r) (wellFormed p) f in
-            let wp = and-right (wellFormed r) (wellFormed p) f in
-            let cr : length (componentsOf r) ≡ r .count = count-is r (formed t wr) in
-            let cp : length (componentsOf p) ≡ p .count = count-is p (formed u wp) in
-            let n : r .count ≤ p .count = omega (arith, eqb-true (shared (componentsOf r) (componentsOf p)) (length (componentsOf r)) h, shares (componentsOf r) (componentsOf p) .in-p) in
-            (suffix-allowed p (r .count) wp n ∙ rw (f, h), ap (λ (k : ℕ). suffixBytes (drop k (componentsOf p))) (sym cr))
+        go : (b i : Bool) → (wellFormed r && wellFormed p) ≡ b → eqb (shared (componentsOf r) (componentsOf p)) (length (componentsOf r)) ≡ i → cond b (verdict i) compared.Malformed ≡ compared.Yes → Common r p (r .count)
+        go true true f h g = record { both = f; is = eqb-true (shared (componentsOf r) (componentsOf p)) (length (componentsOf r)) h ∙ count-is r (formed t (and-left (wellFormed r) (wellFormed p) f)) }
         go true false f h g = let z : _≡_ {A = ℕ} 0 1 = cc in absurd (omega arith)
         go false i f h g = let z : _≡_ {A = ℕ} 0 1 = cc in absurd (omega arith)
+
+    -- and is written as the suffix after it
+    pub extends-suffix : prefixOf r p ≡ compared.Yes → (suffixFrom (r .count) .check p ≡ extendsPath r .check p) × (suffixFrom (r .count) .encode p ≡ extendsPath r .encode p)
+    unfolding prefixOf
+    extends-suffix e =
+        let c = extends-common e in
+        let cr : length (componentsOf r) ≡ r .count = count-is r (formed t (and-left (wellFormed r) (wellFormed p) (c .both))) in
+        (rest-allowed r p (r .count) u c ∙ sym (yes-allowed (wellFormed r && wellFormed p) (isPrefix (componentsOf r) (componentsOf p)) e), ap (λ (k : ℕ). suffixBytes (drop k (componentsOf p))) (sym cr))

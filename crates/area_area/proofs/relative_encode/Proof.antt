@@ -1,48 +1,128 @@
 use mathlib.Core.Path.{_≡_, sym, ap, _∙_}
 use native.Mathlib.Omega.{arith}
 use denote.Ref.{now}
-use lib.ListN.{length}
-use Rattle.codec.specs.Answers.{outcomeOf}
-use Rattle.codec.specs.Format.{writeAnswer}
-use Rattle.codec.proofs.Lending.{Wrote, put-denied, put-wrote, put-fits, length-in-room, no-length}
+use lib.ListN.{length, drop}
+use Rattle.codec.specs.Answers.{outcomeOf, wrote}
+use Rattle.codec.specs.Format.{allowed, writeAnswer}
+use Rattle.codec.proofs.Lending.{put-barred, put-wrote, no-length, to-end, put-end}
+use Rattle.path_suffix.specs.Suffix.{suffixFrom}
+use Rattle.grouping.proofs.Typed.{typed-area}
 use Rattle.area_area.specs.Records.{againstArea}
+use Rattle.area_area.proofs.Writing.{contained, not-contained, unformed, suffix-short, area-full, area-refused, area-written}
 use borrow.Author.Needs.{needs}
 use Rattle.area_area.proofs.relative_encode.Statement.{statement}
 use Rattle.area_area.proofs.relative_encode.Tie as tie
 
-answered : (c : tie.After-in-room) → let a = c .before .before .before .args in outcomeOf (c .in-room .result) ≡ writeAnswer (againstArea (a .reference)) (a .area) (length (now (a .buffer)))
-answered c = let a = c .before .before .before .args in length-in-room (againstArea (a .reference)) (a .area) (c .before .relative-len-of-encoding .result) (c .in-room .result) _ (c .before .relative-len-of-encoding .ensures) (c .in-room .ensures)
+allows : (c : tie.After-enum-told) → let a = c .before .before .before .before .args in againstArea (a .reference) .check (a .area) ≡ allowed
+allows c = contained (c .before .before .before .before .args .reference) (c .before .before .before .before .args .area) (sym (c .before .before .contains .ensures) ∙ c .enum-told .given .1)
 
--- a length was answered: writing is allowed, and there is room
-fitting : (c : tie.After-enum-told) → let a = c .before .before .before .before .before .args in Wrote (againstArea (a .reference) .check (a .area)) (againstArea (a .reference) .encode (a .area)) (length (now (a .buffer))) (c .enum-told .given .0 .0)
-fitting c = put-wrote _ _ _ _ (sym (answered (c .before .before)) ∙ ap outcomeOf (c .enum-told .given .1))
+-- what the suffix was answered
+answer-of : (c : tie.After-known-told) → let a = c .before .before .before .before .before .before .before .before .before .before .before .before .before .before .before .args in
+    writeAnswer (suffixFrom (a .reference .path .count)) (a .area .path) (length (drop (c .before .before .before .before .before .before .before .before .head-len .result) (now (a .buffer)))) ≡ wrote (c .before .suffix .given .0 .0)
+answer-of c = sym (rw (to-end (c .before .before .before .before .before .before .before .before .head-len .result) (now (c .before .before .before .before .before .before .before .before .before .before .before .before .before .before .before .args .buffer))) at (c .before .before .before .before .before .encode-suffix .ensures .0)) ∙ ap outcomeOf (c .before .suffix .given .1)
 
-relative-len-of-encoding-requires : tie.Need-relative-len-of-encoding-requires
-relative-len-of-encoding-requires c κs = search needs
-
-in-room-requires : tie.Need-in-room-requires
-in-room-requires c κs = search needs
+contains-requires : tie.Need-contains-requires
+contains-requires c κs = search needs
 
 enum-told : tie.Need-enum-told
 enum-told c = search needs
 
+head-len-requires : tie.Need-head-len-requires
+head-len-requires c κs = search needs
+
 returns : tie.Need-returns
 returns c =
-    let a = c .before .before .before .before .args in
-    let none = no-length (c .before .in-room .result) (c .match .keys2) in
-    (answered (c .before), put-denied (againstArea (a .reference) .check (a .area)) (againstArea (a .reference) .encode (a .area)) (now (a .buffer)) (none .why) (sym (answered (c .before)) ∙ none .is))
+    let s = c .before .before .before .before .before .before .before .before in
+    let a = s .args in
+    area-full (a .reference) (a .area) (allows (c .before .before .before .before)) (typed-area (a .reference) (s .good .1 .1 .0)) (typed-area (a .area) (s .good .1 .0)) _ (c .before .head-len .ensures .0) (now (a .buffer)) (omega (arith, c .if1 .taken))
 
-put-area-requires : tie.Need-put-area-requires
-put-area-requires c κs = let w = fitting (c .before) in (w .allows, omega (arith, w .long, w .fits))
+sub-encode-suffix : tie.Need-sub-encode-suffix
+sub-encode-suffix c = search needs
+
+part-encode-suffix-start : tie.Need-part-encode-suffix-start
+part-encode-suffix-start c = search needs
+
+part-encode-suffix-end : tie.Need-part-encode-suffix-end
+part-encode-suffix-end c = search needs
+
+encode-suffix-requires : tie.Need-encode-suffix-requires
+encode-suffix-requires c κs = search needs
+
+enum-known-suffix : tie.Need-enum-known-suffix
+enum-known-suffix c = search needs
 
 same-length : tie.Need-same-length
 same-length c = search needs
 
 returns-2 : tie.Need-returns-2
 returns-2 c =
-    let a = c .before .before .before .before .before .before .before .before .before .args in
-    let w = fitting (c .before .before .before .before) in
-    (answered (c .before .before .before .before .before .before), c .before .before .put-area .ensures ∙ put-fits _ _ (now (a .buffer)) (w .allows) _ (w .long) (w .fits) .1)
+    let s = c .before .before .before .before .before .before .before .before .before .before .before .before .before in
+    let a = s .args in
+    let n = c .before .before .before .before .before .before .head-len in
+    let l = now (a .buffer) in
+    let w = c .before .before .before .encode-suffix in
+    let none = no-length (w .result) (c .match2 .keys2) in
+    let answer = rw (to-end (n .result) l) at (w .ensures .0) in
+    let bytes = rw (to-end (n .result) l) at (w .ensures .1) in
+    let done = area-refused (a .reference) (a .area) (allows (c .before .before .before .before .before .before .before .before .before)) (typed-area (a .reference) (s .good .1 .1 .0)) (typed-area (a .area) (s .good .1 .0)) (n .result) (n .ensures .0) l (c .before .before .before .before .before .if1 .left) (none .why) (w .last .0) (sym answer ∙ none .is) bytes in
+    (none .is ∙ done .0, put-end (n .result) l (w .last .0) ∙ done .1)
+
+put-head-requires : tie.Need-put-head-requires
+put-head-requires c κs = search needs
+
+add-t12 : tie.Need-add-t12
+add-t12 c =
+    let s = c .before .before .before .before .before .before .before .before .before .before .before .before .before .before .before .before .before .before .before in
+    let a = s .args in
+    let f = suffixFrom (a .reference .path .count) in
+    omega (arith, put-wrote (f .check (a .area .path)) (f .encode (a .area .path)) _ _ (answer-of (c .before .before .before .before)) .long, suffix-short (a .reference) (a .area) (allows (c .before .before .before .before .before .before .before .before .before .before .before .before .before .before .before)) (typed-area (a .reference) (s .good .1 .1 .0)) (typed-area (a .area) (s .good .1 .0)), c .before .before .before .before .before .before .before .before .before .before .before .before .head-len .ensures .1)
+
+enum-told-2 : tie.Need-enum-told-2
+enum-told-2 c = search needs
+
+enum-told-3 : tie.Need-enum-told-3
+enum-told-3 c = search needs
+
+same-length-2 : tie.Need-same-length-2
+same-length-2 c = search needs
+
+returns-3 : tie.Need-returns-3
+returns-3 c =
+    let s = c .before .before .before .before .before .before .before .before .before .before .before .before .before .before .before .before .before .before .before in
+    let a = s .args in
+    let n = c .before .before .before .before .before .before .before .before .before .before .before .before .head-len in
+    let l = now (a .buffer) in
+    let w = c .before .before .before .before .before .before .before .before .before .encode-suffix in
+    let bytes = rw (to-end (n .result) l) at (w .ensures .1) in
+    let done = area-written (a .reference) (a .area) (allows (c .before .before .before .before .before .before .before .before .before .before .before .before .before .before .before)) (typed-area (a .reference) (s .good .1 .1 .0)) (typed-area (a .area) (s .good .1 .0)) (n .result) (n .ensures .0) l (c .before .before .before .before .before .before .before .before .before .before .before .if1 .left) _ (w .last .0) (answer-of (c .before .before .before .before)) bytes in
+    (done .0, rw (put-end (n .result) l (w .last .0)) at (c .before .before .put-head .ensures) ∙ done .1)
+
+returns-4 : tie.Need-returns-4
+returns-4 c = let a = c .before .before .before .before .args in put-barred (againstArea (a .reference) .check (a .area)) _ (now (a .buffer)) 3 (not-contained (a .reference) (a .area) (sym (c .before .before .contains .ensures) ∙ c .enum-told2 .given .1))
+
+returns-5 : tie.Need-returns-5
+returns-5 c = let a = c .before .before .before .before .args in put-barred (againstArea (a .reference) .check (a .area)) _ (now (a .buffer)) 5 (unformed (a .reference) (a .area) (sym (c .before .before .contains .ensures) ∙ c .enum-told3 .given .1))
 
 pub relative-encode-spec : {M : Type 1} → statement M
-relative-encode-spec = tie.close (tie.spec relative-len-of-encoding-requires in-room-requires enum-told returns put-area-requires same-length returns-2)
+relative-encode-spec =
+    tie.close
+    (tie.spec
+    contains-requires
+    enum-told
+    head-len-requires
+    returns
+    sub-encode-suffix
+    part-encode-suffix-start
+    part-encode-suffix-end
+    encode-suffix-requires
+    enum-known-suffix
+    same-length
+    returns-2
+    put-head-requires
+    add-t12
+    enum-told-2
+    enum-told-3
+    same-length-2
+    returns-3
+    returns-4
+    returns-5)

@@ -53,10 +53,10 @@ returns c =
     let l = now (a .buffer) in
     let h = c .before .before .before .before .header-byte in
     let w = c .before .before .put-subspace in
-    let s = subspaceBytes (subspaceOf (a .reference .subspace)) (subspaceOf (a .area .subspace)) in
+    let s = subspaceBytes (subspaceOf (a .reference)) (subspaceOf (a .subspace)) in
     let rest = rw (to-end 1 (set l 0 (h .result))) at (w .ensures .1) in (
       omega (arith, w .ensures .0),
-      put-end 1 (set l 0 (h .result)) (w .last .0) ∙ rw rest (over-cons l s (h .result) (omega (arith, c .before .before .before .before .before .before .before .pre))) ∙ ap (λ (b : ℕ). over (b ∷ s) l) (h .ensures ∙ ap (λ (w : Bool). packHeader (headerOf w (a .reference .times) (a .area .times))) (c .before .before .before .before .before .id-written .ensures)),
+      put-end 1 (set l 0 (h .result)) (w .last .0) ∙ rw rest (over-cons l s (h .result) (omega (arith, c .before .before .before .before .before .before .before .pre))) ∙ ap (λ (b : ℕ). over (b ∷ s) l) (h .ensures ∙ ap (λ (w : Bool). packHeader (headerOf w (a .within) (a .times))) (c .before .before .before .before .before .id-written .ensures)),
     )
 
 pub put-start-spec : {M : Type 1} → statement M

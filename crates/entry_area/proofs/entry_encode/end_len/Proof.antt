@@ -1,7 +1,7 @@
 use native.Mathlib.Omega.{arith}
 use lib.ListN.{length-append}
-use Rattle.entry.proofs.Typed.{typed-entry}
-use borrow.Author.Needs.{needs}
+use Prim.Native.Nat.{ℕ}
+use borrow.Author.Needs.{needs, length-unmapped}
 use Rattle.entry_area.proofs.entry_encode.end_len.Statement.{statement}
 use Rattle.entry_area.proofs.entry_encode.end_len.Tie as tie
 
@@ -23,10 +23,10 @@ add-result-2 c = search needs
 returns : tie.Need-returns
 returns c =
     let a = c .before .before .before .args in
-    let t = typed-entry (a .entry) (c .before .before .before .good .0) in
+    let digest = length-unmapped ℕ (a .end .«payload_digest») 32 (c .before .before .before .good .0 .1 .1 .1 .1 .0 .1 .0 .1) in
     let first = c .before .relative-len-of-encoding .ensures in
     let last = c .relative-len-of-encoding2 .ensures in
-    (rw (length-append, length-append, t .digest .0, ← (c .before .before .difference .ensures), ← (first .0), ← (last .0)), omega (arith, first .1, last .1))
+    (rw (length-append, length-append, digest, ← (c .before .before .difference .ensures), ← (first .0), ← (last .0)), omega (arith, first .1, last .1))
 
 pub end-len-spec : {M : Type 1} → statement M
 end-len-spec =

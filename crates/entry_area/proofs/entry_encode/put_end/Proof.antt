@@ -7,20 +7,19 @@ use lib.ListN.{length, length-append, length-drop}
 use Rattle.codec.specs.Format.{over}
 use Rattle.codec.proofs.Lending.{put-over, over-then, to-end, put-end}
 use Rattle.compact_u64.specs.Number.{numberBytes}
-use Rattle.entry.specs.Record.{entryOf}
-use Rattle.entry_area.specs.Entry.{payloadBytes, endBytes}
+use Rattle.entry_area.specs.Entry.{payloadOf, endOf}
 use borrow.Author.Needs.{needs}
 use Rattle.entry_area.proofs.entry_encode.put_end.Statement.{statement}
 use Rattle.entry_area.proofs.entry_encode.put_end.Tie as tie
 
-bytes : (c : tie.After-difference) → let a = c .before .before .args in endBytes (a .times) (entryOf (a .entry)) ≡ numberBytes 2 (c .difference .result .difference) ++ payloadBytes (entryOf (a .entry))
+bytes : (c : tie.After-difference) → let a = c .before .before .args in endOf (a .times) (a .end) ≡ numberBytes 2 (c .difference .result .difference) ++ payloadOf (a .end)
 bytes c = rw (← (c .difference .ensures))
 
 -- the parts fit
-parts : (c : tie.After-difference) → let a = c .before .before .args in length (numberBytes 2 (c .difference .result .difference)) + length (payloadBytes (entryOf (a .entry))) ≤ length (now (a .buffer))
+parts : (c : tie.After-difference) → let a = c .before .before .args in length (numberBytes 2 (c .difference .result .difference)) + length (payloadOf (a .end)) ≤ length (now (a .buffer))
 parts c =
     let a = c .before .before .args in
-    omega (arith, c .before .before .pre, ap length (bytes c), length-append (numberBytes 2 (c .difference .result .difference)) (payloadBytes (entryOf (a .entry))))
+    omega (arith, c .before .before .pre, ap length (bytes c), length-append (numberBytes 2 (c .difference .result .difference)) (payloadOf (a .end)))
 
 difference-requires : tie.Need-difference-requires
 difference-requires c κs = search needs
@@ -57,7 +56,7 @@ returns c =
     let p = c .before .before .before .before .before .before .relative-encode in
     let w = c .before .before .put-payload in
     let x = numberBytes 2 (c .before .before .before .before .before .before .before .before .before .difference .result .difference) in
-    let y = payloadBytes (entryOf (a .entry)) in
+    let y = payloadOf (a .end) in
     let first : p .last .0 ≡ over x l = p .ensures .1 ∙ put-over x l (omega (arith, parts (c .before .before .before .before .before .before .before .before .before))) in
     let rest = rw (to-end (n .result) (p .last .0)) at (w .ensures) in
     put-end (n .result) (p .last .0) (w .last .0) ∙ rw (rest, first, n .ensures .0) (over-then l x y) ∙ ap (λ (bs : List ℕ). over bs l) (sym (bytes (c .before .before .before .before .before .before .before .before .before)))

@@ -14,7 +14,7 @@ use Rattle.entry_area.proofs.entry_encode.put_payload.Tie as tie
 inside : (c : tie.After-digest) → c .before .before .before .before .before .relative-len-of-encoding .result ≤ length (c .before .before .before .relative-encode .last .0)
 inside c =
     let a = c .before .before .before .before .before .before .before .args in
-    omega (arith, c .before .before .before .before .before .before .before .pre, length-append (numberBytes 2 (a .entry .«payload_length»)) (a .entry .«payload_digest»), c .before .before .before .before .before .relative-len-of-encoding .ensures .0, c .before .before .before .relative-encode .kept .0)
+    omega (arith, c .before .before .before .before .before .before .before .pre, length-append (numberBytes 2 (a .end .«payload_length»)) (a .end .«payload_digest»), c .before .before .before .before .before .relative-len-of-encoding .ensures .0, c .before .before .before .relative-encode .kept .0)
 
 relative-len-of-encoding-requires : tie.Need-relative-len-of-encoding-requires
 relative-len-of-encoding-requires c κs = search needs
@@ -47,8 +47,8 @@ returns c =
     let p = c .before .before .before .before .before .before .before .before .relative-encode in
     let q = c .before .before .put-bytes in
     let n = c .before .before .before .before .before .before .before .before .before .before .relative-len-of-encoding in
-    let x = numberBytes 2 (a .entry .«payload_length») in
-    let y = a .entry .«payload_digest» in
+    let x = numberBytes 2 (a .end .«payload_length») in
+    let y = a .end .«payload_digest» in
     let long = length-append x y in
     let first : p .last .0 ≡ over x l = p .ensures .1 ∙ put-over x l (omega (arith, c .before .before .before .before .before .before .before .before .before .before .before .before .pre, long)) in
     let rest = rw (to-end (n .result) (p .last .0)) at (q .ensures .1) in

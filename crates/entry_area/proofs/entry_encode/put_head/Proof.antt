@@ -1,0 +1,62 @@
+use mathlib.Core.Path.{_≡_, _∙_}
+use native.Mathlib.Omega.{arith}
+use Prim.Native.Nat.{_+_, _≤_}
+use denote.Ref.{now}
+use lib.ListN.{length, drop, length-append, length-drop}
+use Rattle.codec.specs.Format.{over}
+use Rattle.codec.proofs.Lending.{put-over, over-then, to-end, put-end}
+use Rattle.compact_u64.specs.Number.{standaloneBytes}
+use Rattle.grouping.specs.Record.{subspaceOf}
+use Rattle.entry_area.specs.Entry.{startOf}
+use borrow.Author.Needs.{needs}
+use Rattle.entry_area.proofs.entry_encode.put_head.Statement.{statement}
+use Rattle.entry_area.proofs.entry_encode.put_head.Tie as tie
+
+-- the parts fit
+parts : (c : tie.Start) → let a = c .args in length (startOf (a .times) (subspaceOf (a .subspace)) (a .id) (a .end)) + length (standaloneBytes (a .k)) ≤ length (now (a .buffer))
+parts c = let a = c .args in omega (arith, c .pre, length-append (startOf (a .times) (subspaceOf (a .subspace)) (a .id) (a .end)) (standaloneBytes (a .k)))
+
+-- the header and the id are in the buffer
+inside : (c : tie.After-slice-known2) → c .before .before .put-start .result ≤ length (c .before .before .put-start .last .0)
+inside c = omega (arith, parts (c .before .before .before .before .before), c .before .before .put-start .ensures .0, c .before .before .put-start .kept .0)
+
+put-start-requires : tie.Need-put-start-requires
+put-start-requires c κs = omega (arith, parts (c .before .before))
+
+sub-encode : tie.Need-sub-encode
+sub-encode c = inside c
+
+part-encode-start : tie.Need-part-encode-start
+part-encode-start c = inside c
+
+part-encode-end : tie.Need-part-encode-end
+part-encode-end c = search needs
+
+encode-requires : tie.Need-encode-requires
+encode-requires c κs = search needs
+
+same-length : tie.Need-same-length
+same-length c = search needs
+
+returns : tie.Need-returns
+returns c =
+    let a = c .before .before .before .before .before .before .before .before .before .args in
+    let l = now (a .buffer) in
+    let n = c .before .before .before .before .before .before .put-start in
+    let w = c .before .before .encode in
+    let t = standaloneBytes (a .k) in
+    let room : length t ≤ length (drop (n .result) (n .last .0)) = rw length-drop (omega (arith, parts (c .before .before .before .before .before .before .before .before .before), n .ensures .0, n .kept .0)) in
+    let rest : w .last .0 ≡ over t (drop (n .result) (n .last .0)) = rw (to-end (n .result) (n .last .0)) at (w .ensures .1) ∙ put-over t (drop (n .result) (n .last .0)) room in
+    put-end (n .result) (n .last .0) (w .last .0) ∙ rw (rest, n .ensures .1, n .ensures .0) (over-then l (startOf (a .times) (subspaceOf (a .subspace)) (a .id) (a .end)) t)
+
+pub put-head-spec : {M : Type 1} → statement M
+put-head-spec =
+    tie.close
+    (tie.spec
+    put-start-requires
+    sub-encode
+    part-encode-start
+    part-encode-end
+    encode-requires
+    same-length
+    returns)
