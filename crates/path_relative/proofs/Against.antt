@@ -61,10 +61,7 @@ pub against-empty : (r : List (List ℕ)) (canonic : Bool) → readAgainst canon
 unfolding readAgainst
 against-empty r canonic = refl
 
--- a path against a path is never empty, and how long it may be
-pub against-nonempty : (r p : List (List ℕ)) → 1 ≤ length (againstBytes r p)
-against-nonempty r p = omega (arith, length-append (standaloneBytes (shared r p)) (suffixBytes (drop (shared r p) p)), standalone-short (shared r p))
-
+-- how long a path against a path may be
 pub against-short : (r p : List (List ℕ)) → length (againstBytes r p) ≤ 26 + (9 * length p + totalOf p)
 against-short r p =
     omega (arith, length-append (standaloneBytes (shared r p)) (suffixBytes (drop (shared r p) p)), standalone-short (shared r p), suffix-short (drop (shared r p) p), total-split (shared r p) p, length-drop (shared r p) p)

@@ -14,7 +14,7 @@ use Rattle.codec.proofs.Bounded.{checked-bounded, mapped-bounded}
 use Rattle.path.specs.Limits.{totalOf, limits, Component, PathOk}
 use Rattle.path.proofs.Limits.{total-append, total-split, all-append, all-drop, limits-total, limits-count, limits-of}
 use Rattle.path_suffix.specs.Relations.{SuffixAs}
-use Rattle.path_suffix.proofs.Suffix.{suffix-reads, suffix-relaxes, suffix-bounded, suffix-empty, suffix-nonempty, suffix-short}
+use Rattle.path_suffix.proofs.Suffix.{suffix-reads, suffix-relaxes, suffix-bounded, suffix-empty, suffix-short}
 use Rattle.path_relative.specs.Extension.{extensionBytes, readExtension, ExtensionAs}
 
 pub extension-relaxes : (r : List (List ℕ)) → Relaxes (readExtension true r) (readExtension false r)
@@ -32,10 +32,6 @@ extension-bounded r canonic =
 pub extension-empty : (r : List (List ℕ)) (canonic : Bool) → readExtension canonic r [] ≡ refused 1
 unfolding readExtension
 extension-empty r canonic = rw (suffix-empty limits canonic)
-
--- an extension is never empty
-pub extension-nonempty : (r p : List (List ℕ)) → 1 ≤ length (extensionBytes r p)
-extension-nonempty r p = suffix-nonempty (drop (length r) p)
 
 -- how long it may be
 pub extension-short : (r p : List (List ℕ)) → length (extensionBytes r p) ≤ 17 + (9 * length p + totalOf p)
