@@ -139,10 +139,6 @@ module _ (p q : Path) where
       go true e = cc
       go false e = refl
 
-  pub prefix-malformed : commonPrefix p q ≡ count.Malformed → prefixOf p q ≡ compared.Malformed
-  unfolding prefixOf
-  prefix-malformed e = rw (not-both e)
-
   pub equal-malformed : commonPrefix p q ≡ count.Malformed → equalTo p q ≡ compared.Malformed
   unfolding equalTo
   equal-malformed e = rw (not-both e)

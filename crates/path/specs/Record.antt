@@ -43,6 +43,10 @@ abbrev pub allAtMost : ℕ → List ℕ → Bool
 allAtMost n [] = true
 allAtMost n (l ∷ ls) = leb l n && allAtMost n ls
 
+-- a record of these parts
+abbrev pub pathOf : List ℕ → List ℕ → ℕ → Path
+pathOf bytes lengths count = record { bytes = bytes; lengths = lengths; count = count }
+
 unfoldable pub wellFormed : Path → Bool
 wellFormed p =
     leb (p .count) maxComponentCount

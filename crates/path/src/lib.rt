@@ -3,7 +3,9 @@ ghost use mathlib.Core.Path.{_≡_};
 ghost use mathlib.Core.Bool.{true};
 ghost use mathlib.Core.List.{[]};
 ghost use Prim.Native.Nat.{_<_, _^_};
-ghost use Rattle.path.specs.Record.{sumOf, allAtMost, componentsOf, pathFrom, wellFormed, lengthAt};
+ghost use lib.ListN.{length};
+ghost use Rattle.path.specs.Limits.{maxComponentCount, maxPathLength};
+ghost use Rattle.path.specs.Record.{sumOf, allAtMost, componentsOf, pathFrom, pathOf, wellFormed, lengthAt};
 ghost use Rattle.path.specs.Prefix.{shared};
 ghost use Rattle.path.specs.Answers.{componentAt, commonPrefix, prefixOf, equalTo};
 
@@ -97,6 +99,29 @@ fn sum(s: &[usize]) -> usize
     t
 }
 
+// Whether a path of these parts is well formed.
+fn parts_formed<'a>(bytes: &'a [u8], lengths: &'a [usize], n: usize) -> bool
+    requires { ⌜ (length (now bytes) ≡ maxPathLength) × (length (now lengths) ≡ maxComponentCount) ⌝ }
+    ensures { λ r. ⌜ r ≡ wellFormed (pathOf (now (bytes .entry)) (now (lengths .entry)) n) ⌝ }
+{
+    if Path::MAX_COMPONENT_COUNT < n {
+        return false;
+    }
+    let within = all_at_most(&lengths[..n], Path::MAX_COMPONENT_LENGTH);
+    if !within {
+        return false;
+    }
+    let t = sum(&lengths[..n]);
+    if Path::MAX_PATH_LENGTH < t {
+        return false;
+    }
+    let rest = all_at_most(&lengths[n..], 0);
+    if !rest {
+        return false;
+    }
+    all_zero(&bytes[t..])
+}
+
 impl Path {
     pub const MAX_COMPONENT_LENGTH: usize = 300;
 
@@ -117,25 +142,7 @@ impl Path {
     pub fn well_formed(self) -> bool
         ensures { λ r. ⌜ r ≡ wellFormed self ⌝ }
     {
-        let n = self.count;
-        if Path::MAX_COMPONENT_COUNT < n {
-            return false;
-        }
-        let lengths = self.lengths;
-        let within = all_at_most(&lengths[..n], Path::MAX_COMPONENT_LENGTH);
-        if !within {
-            return false;
-        }
-        let t = sum(&lengths[..n]);
-        if Path::MAX_PATH_LENGTH < t {
-            return false;
-        }
-        let rest = all_at_most(&lengths[n..], 0);
-        if !rest {
-            return false;
-        }
-        let bytes = self.bytes;
-        all_zero(&bytes[t..])
+        parts_formed(&self.bytes, &self.lengths, self.count)
     }
 
     // The length of the i-th component, of a record of any content; 0 where the record has no such length.
@@ -213,10 +220,15 @@ impl Path {
     pub fn is_prefix_of(self, other: Path) -> Compared
         ensures { λ r. ⌜ r ≡ prefixOf self other ⌝ }
     {
-        let common = self.longest_common_prefix(other);
-        let ComponentCount::Components(k) = common else {
+        let well = self.well_formed();
+        if !well {
             return Compared::Malformed;
-        };
+        }
+        let other_well = other.well_formed();
+        if !other_well {
+            return Compared::Malformed;
+        }
+        let k = self.shared_components(other);
         if k == self.count {
             return Compared::Yes;
         }
