@@ -73,11 +73,6 @@ module _ (within : ℕ → ℕ → Bool) where
   unfolding readSuffix readSizes
   suffix-empty canonic = refl
 
--- a suffix is never empty
-pub suffix-nonempty : (cs : List (List ℕ)) → 1 ≤ length (suffixBytes cs)
-unfolding suffixBytes sizesBytes
-suffix-nonempty cs = omega arith
-
 -- how long it may be
 components-short : (cs : List (List ℕ)) → length (componentBytes cs) ≤ 9 * length cs + totalOf cs
 unfolding componentBytes
