@@ -27,21 +27,21 @@ subspaceBytes none none = []
 subspaceBytes none (some id) = id
 subspaceBytes (some r) s = []
 
+-- the header and the id, by the subspaces and the times; what stands before the path
+abbrev pub startOf : Option (List ℕ) → TimeRange → Option (List ℕ) → TimeRange → List ℕ
+startOf r within s times = packHeader (headerOf (idWritten r s) within times) ∷ subspaceBytes r s
+
+abbrev pub headBytes : Option (List ℕ) → TimeRange → Option (List ℕ) → TimeRange → List ℕ
+headBytes r within s times = startOf r within s times ++ timesBytes within times
+
 abbrev pub startBytes : AreaValue → AreaValue → List ℕ
-startBytes r a = packHeader (areaHeader r a) ∷ subspaceBytes (r .subspace) (a .subspace)
+startBytes r a = startOf (r .subspace) (r .times) (a .subspace) (a .times)
 
 abbrev pub restBytes : AreaValue → AreaValue → List ℕ
 restBytes r a = timesBytes (r .times) (a .times) ++ extensionBytes (r .path) (a .path)
 
 unfoldable pub areaBytes : AreaValue → AreaValue → List ℕ
 areaBytes r a = startBytes r a ++ restBytes r a
-
--- the same by parts: the header and the id; what stands before the path
-abbrev pub startOf : Option (List ℕ) → TimeRange → Option (List ℕ) → TimeRange → List ℕ
-startOf r within s times = packHeader (headerOf (idWritten r s) within times) ∷ subspaceBytes r s
-
-abbrev pub headBytes : Option (List ℕ) → TimeRange → Option (List ℕ) → TimeRange → List ℕ
-headBytes r within s times = startOf r within s times ++ timesBytes within times
 
 -- ---- reading
 abbrev pub sameId : Option (List ℕ) → List ℕ → Bool

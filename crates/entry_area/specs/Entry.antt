@@ -16,7 +16,7 @@ use Rattle.entry.specs.Entry.{EntryValue}
 use Rattle.entry_end.specs.declared.Header.{Header}
 use Rattle.entry_end.specs.declared.End.{End}
 use Rattle.entry_end.specs.Header.{unpackHeader, packHeader}
-use Rattle.entry_end.specs.End.{headerOf, readEnd}
+use Rattle.entry_end.specs.End.{headerOf, endFrom, readEnd}
 
 -- ---- writing: header, id, path against the area's, time difference, payload length, digest. The id is written where the area has any subspace
 abbrev pub isAny : Option (List ℕ) → Bool
@@ -30,22 +30,11 @@ abbrev pub idBytes : Option (List ℕ) → List ℕ → List ℕ
 idBytes none id = id
 idBytes (some r) id = []
 
-abbrev pub startBytes : AreaValue → EntryValue → List ℕ
-startBytes r v = packHeader (entryHeader r v) ∷ idBytes (r .subspace) (v .subspace)
+-- the fields after the path
+abbrev pub valueEnd : EntryValue → End
+valueEnd v = endFrom (v .time) (v .size) (v .digest)
 
-abbrev pub payloadBytes : EntryValue → List ℕ
-payloadBytes v = numberBytes 2 (v .size) ++ v .digest
-
-abbrev pub endBytes : TimeRange → EntryValue → List ℕ
-endBytes r v = numberBytes 2 (differenceOf r (v .time) .difference) ++ payloadBytes v
-
-abbrev pub restBytes : AreaValue → EntryValue → List ℕ
-restBytes r v = againstBytes (r .path) (v .path) ++ endBytes (r .times) v
-
-unfoldable pub entryBytes : AreaValue → EntryValue → List ℕ
-entryBytes r v = startBytes r v ++ restBytes r v
-
--- the same by parts: the header and the id; what stands before the suffix of the path; what stands after it
+-- the header and the id; what stands before the suffix of the path; what stands after it
 abbrev pub startOf : TimeRange → Option (List ℕ) → List ℕ → End → List ℕ
 startOf r s id e = packHeader (headerOf (isAny s) r (e .timestamp) (e .«payload_length»)) ∷ idBytes s id
 
@@ -57,6 +46,18 @@ payloadOf e = numberBytes 2 (e .«payload_length») ++ e .«payload_digest»
 
 abbrev pub endOf : TimeRange → End → List ℕ
 endOf r e = numberBytes 2 (differenceOf r (e .timestamp) .difference) ++ payloadOf e
+
+abbrev pub startBytes : AreaValue → EntryValue → List ℕ
+startBytes r v = startOf (r .times) (r .subspace) (v .subspace) (valueEnd v)
+
+abbrev pub endBytes : TimeRange → EntryValue → List ℕ
+endBytes r v = endOf r (valueEnd v)
+
+abbrev pub restBytes : AreaValue → EntryValue → List ℕ
+restBytes r v = againstBytes (r .path) (v .path) ++ endBytes (r .times) v
+
+unfoldable pub entryBytes : AreaValue → EntryValue → List ℕ
+entryBytes r v = startBytes r v ++ restBytes r v
 
 -- ---- reading
 
