@@ -5,14 +5,14 @@ use mathlib.Core.Bool.{Bool, true, false, cond}
 use Prim.Native.Nat.{ℕ, suc, _+_, _-_, _≤_, _<_}
 use native.Mathlib.Omega.{arith}
 use lib.Dec.{leb, ltb}
-use borrow.Author.Tests.{leb-true, leb-false, le-leb, lt-leb, ltb-true, lt-ltb, eq-eqb, eqb-true}
+use borrow.Author.Tests.{leb-true, leb-false, le-leb, lt-leb, ltb-true, lt-ltb, eqb-true}
 use borrow.Rule.Slice.PartMut.{putMid}
 use lib.ListN.{length, take, drop, set, replicate, length-append, length-drop, length-map}
 use lib.Seq.{take-at, take-take, drop-append-add, set-at}
 use Rattle.path.specs.declared.Path.{Path}
 use Rattle.path.specs.declared.PathBuilder.{PathBuilder}
 use Rattle.path.specs.declared.Appended.the-variants as appended
-use Rattle.path.specs.Limits.{totalOf, PathOk}
+use Rattle.path.specs.Limits.{totalOf}
 use Rattle.path.specs.Record.{sumOf, used, joined, cutUp, componentsOf, pathFrom, wellFormed}
 use Rattle.path.specs.Builder.{builderFrom, isBuilder, fitsAfter, growth, appendComponent, grown, pushComponent, Extendable}
 use Rattle.codec.specs.Format.{allowed, over, putBuffer}
@@ -106,9 +106,6 @@ module _ (b : PathBuilder) (cs : List (List ℕ)) (e : b ≡ builderFrom cs) whe
         rw (fits, built-grown)
 
 -- ---- builders that appends make
-pub builder-is : (cs : List (List ℕ)) → PathOk cs → isBuilder (builderFrom cs) ≡ true
-unfolding isBuilder
-builder-is cs h = rw (formed-well (pathFrom cs) (made cs h .well)) (eq-eqb (totalOf cs) (sumOf (used (pathFrom cs))) (sym (sum-of cs)))
 
 -- its components make it again, whatever its elements are
 pub rebuilt : (b : PathBuilder) → length (b .path .bytes) ≡ 600 → length (b .path .lengths) ≡ 20 → isBuilder b ≡ true → b ≡ builderFrom (componentsOf (b .path))
@@ -117,13 +114,6 @@ rebuilt b long lengths e =
     let path = remade (b .path) long lengths (well-formed (b .path) (and-left _ _ e)) in
     let total : b .total ≡ totalOf (componentsOf (b .path)) = eqb-true (b .total) _ (and-right (wellFormed (b .path)) _ e) ∙ ap (λ (p : Path). sumOf (used p)) (sym path) ∙ sum-of (componentsOf (b .path)) in
     λ i. record { path = sym path i; total = total i }
-
--- and it is within the limits
-pub builder-limits : (b : PathBuilder) → isBuilder b ≡ true → (b .total ≤ 600) × (b .path .count ≤ 20)
-unfolding isBuilder
-builder-limits b e =
-    let w = well-formed (b .path) (and-left _ _ e) in
-    (omega (arith, eqb-true (b .total) _ (and-right (wellFormed (b .path)) _ e), w .total), w .count)
 
 -- appending is pushing, on such a builder
 pub appends : (b : PathBuilder) (c : List ℕ) → isBuilder b ≡ true → b ≡ builderFrom (componentsOf (b .path)) → pushComponent b c ≡ appendComponent b c

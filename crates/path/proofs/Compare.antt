@@ -11,14 +11,14 @@ use lib.Seq.{length-take-le, getD-take, getD-drop, take-suc}
 use Rattle.path.specs.declared.Path.{Path}
 use Rattle.path.specs.declared.ComponentCount.the-variants as count
 use Rattle.path.specs.declared.Compared.the-variants as compared
-use Rattle.path.specs.Record.{componentsOf, wellFormed, TypedPath, lengthAt, startAt}
+use Rattle.path.specs.Record.{componentsOf, wellFormed, lengthAt, startAt}
 use Rattle.codec.specs.Bytes.{sameBytes}
 use Rattle.codec.proofs.SameBytes.{same-refl, different}
 use Rattle.path.specs.Prefix.{shared, isPrefix, samePath}
 use Rattle.path.specs.Answers.{commonPrefix, verdict, prefixOf, equalTo}
 use Rattle.codec.proofs.Tests.{and-left, and-right}
 use Rattle.path.proofs.Prefix.{shared-nil, shared-sym}
-use Rattle.path.proofs.Components.{Formed, formed, bytesAt, count-is, next-start, ends, component}
+use Rattle.path.proofs.Components.{Formed, parts-formed, bytesAt, count-is, next-start, ends, component}
 
 -- ---- parts of two lists, from at on: i elements that agree and one more; parts that differ
 pub agree-next : (x y : List ℕ) (at i : ℕ) → at + i < length x → at + i < length y
@@ -139,17 +139,21 @@ module _ (p q : Path) where
       go true e = cc
       go false e = refl
 
+  pub prefix-malformed : commonPrefix p q ≡ count.Malformed → prefixOf p q ≡ compared.Malformed
+  unfolding prefixOf
+  prefix-malformed e = rw (not-both e)
+
   pub equal-malformed : commonPrefix p q ≡ count.Malformed → equalTo p q ≡ compared.Malformed
   unfolding equalTo
   equal-malformed e = rw (not-both e)
 
-  module _ (t : TypedPath p) (u : TypedPath q) (k : ℕ) (e : commonPrefix p q ≡ count.Components k) where
+  module _ (k : ℕ) (e : commonPrefix p q ≡ count.Components k) where
     common : Common p q k
     unfolding commonPrefix
     common = go (wellFormed p && wellFormed q) refl e
       where
         go : (b : Bool) → (wellFormed p && wellFormed q) ≡ b → cond b (count.Components (shared (componentsOf p) (componentsOf q))) count.Malformed ≡ count.Components k → Common p q k
-        go true w e = record { both = w; left = formed t (and-left _ _ w); right = formed u (and-right (wellFormed p) _ w); is = cc }
+        go true w e = record { both = w; left = parts-formed (and-left _ _ w); right = parts-formed (and-right (wellFormed p) _ w); is = cc }
         go false w e = let z : _≡_ {A = ℕ} 0 1 = cc in absurd (omega arith)
 
     pub prefix-verdict : prefixOf p q ≡ verdict (eqb k (p .count))

@@ -23,6 +23,10 @@ pub record Formed (p : Path) : Type 0 where
 pub formed : {p : Path} → TypedPath p → wellFormed p ≡ true → Formed p
 formed {p} t e = record { bytes = t .bytes; lengths = t .lengths; well = well-formed p e }
 
+-- the same of parts that are lent
+pub parts-formed : {p : Path} → wellFormed p ≡ true → Formed p
+parts-formed {p} e = let w = well-formed p e in record { bytes = w .room; lengths = w .slots; well = w }
+
 -- the bytes of the i-th component
 abbrev pub bytesAt : Path → ℕ → List ℕ
 bytesAt p i = take (lengthAt p i) (drop (startAt p i) (p .bytes))

@@ -4,8 +4,8 @@ use mathlib.Core.List.{List, [], _∷_, _++_, map}
 use mathlib.Core.Bool.{true}
 use Prim.Native.Nat.{ℕ, _-_, _≤_}
 use native.Mathlib.Omega.{arith}
-use lib.Dec.{leb}
-use borrow.Author.Tests.{leb-true, le-leb}
+use lib.Dec.{leb, eqb}
+use borrow.Author.Tests.{leb-true, le-leb, eqb-true, eq-eqb}
 use lib.ListN.{length, take, drop, replicate, length-append, length-drop, length-map, length-replicate}
 use lib.Seq.{take-at, drop-at, length-take-le}
 use Rattle.codec.specs.Answers.{AllBytes}
@@ -19,6 +19,8 @@ use Rattle.path.proofs.Lists.{all-zeros, zero-rest, cut, cut-joined, le
 
 -- ---- a well-formed record, by its parts
 pub record WellFormed (p : Path) : Type 0 where
+  pub room : length (p .bytes) ≡ 600
+  pub slots : length (p .lengths) ≡ 20
   pub count : p .count ≤ 20
   pub short : allAtMost 300 (used p) ≡ true
   pub total : sumOf (used p) ≤ 600
@@ -28,11 +30,15 @@ pub record WellFormed (p : Path) : Type 0 where
 pub well-formed : (p : Path) → wellFormed p ≡ true → WellFormed p
 unfolding wellFormed
 well-formed p e =
-    let e1 = and-right (leb (p .count) 20) _ e in
+    let f = and-right (eqb (length (p .bytes)) 600) _ e in
+    let e0 = and-right (eqb (length (p .lengths)) 20) _ f in
+    let e1 = and-right (leb (p .count) 20) _ e0 in
     let e2 = and-right (allAtMost 300 (used p)) _ e1 in
     let e3 = and-right (leb (sumOf (used p)) 600) _ e2 in
     record {
-      count = leb-true (p .count) 20 (and-left _ _ e);
+      room = eqb-true (length (p .bytes)) 600 (and-left _ _ e);
+      slots = eqb-true (length (p .lengths)) 20 (and-left _ _ f);
+      count = leb-true (p .count) 20 (and-left _ _ e0);
       short = and-left _ _ e1;
       total = leb-true (sumOf (used p)) 600 (and-left _ _ e2);
       lengths = and-left _ _ e3;
@@ -41,7 +47,7 @@ well-formed p e =
 
 pub formed-well : (p : Path) → WellFormed p → wellFormed p ≡ true
 unfolding wellFormed
-formed-well p w = rw (le-leb (p .count) 20 (w .count), w .short, le-leb (sumOf (used p)) 600 (w .total), w .lengths) (w .bytes)
+formed-well p w = rw (eq-eqb _ _ (w .room), eq-eqb _ _ (w .slots), le-leb (p .count) 20 (w .count), w .short, le-leb (sumOf (used p)) 600 (w .total), w .lengths) (w .bytes)
 
 -- ---- from a record to its components
 most-short : (ls bs : List ℕ) → sumOf ls ≤ length bs → allAtMost 300 ls ≡ true → AllBytes bs → All Component (cutUp ls bs)
@@ -135,6 +141,8 @@ made cs h =
         small = AllBytes·append (joined cs) (replicate (600 - totalOf cs) 0) (AllBytes·joined cs (h .all)) (AllBytes·zeros (600 - totalOf cs));
       };
       well = record {
+        room = bytes-long cs (h .total);
+        slots = lengths-long cs (h .count);
         count = h .count;
         short = rw tl (short-most cs (h .all));
         total = rw (tl, sum-lengths cs) (h .total);

@@ -4,7 +4,7 @@ use mathlib.Core.Path.{_≡_}
 use mathlib.Core.List.{List, [], _∷_, _++_, map}
 use mathlib.Core.Bool.{Bool, true, _&&_}
 use Prim.Native.Nat.{ℕ, _+_, _-_}
-use lib.Dec.{leb}
+use lib.Dec.{leb, eqb}
 use lib.ListN.{length, take, drop, getD, replicate}
 use Rattle.codec.specs.Answers.{AllBytes}
 use Rattle.path.specs.declared.Path.{Path}
@@ -38,7 +38,7 @@ pathFrom cs = record {
   count = length cs;
 }
 
--- ---- well formed: what 5 tests
+-- ---- well formed: what 5 tests. That the arrays are as long as their types say is told of parts that are lent.
 abbrev pub allAtMost : ℕ → List ℕ → Bool
 allAtMost n [] = true
 allAtMost n (l ∷ ls) = leb l n && allAtMost n ls
@@ -49,10 +49,12 @@ pathOf bytes lengths count = record { bytes = bytes; lengths = lengths; count = 
 
 unfoldable pub wellFormed : Path → Bool
 wellFormed p =
-    leb (p .count) maxComponentCount
+    eqb (length (p .bytes)) maxPathLength
+    && (eqb (length (p .lengths)) maxComponentCount
+    && (leb (p .count) maxComponentCount
     && (allAtMost maxComponentLength (used p)
     && (leb (sumOf (used p)) maxPathLength
-    && (allAtMost 0 (drop (p .count) (p .lengths)) && allAtMost 0 (drop (sumOf (used p)) (p .bytes)))))
+    && (allAtMost 0 (drop (p .count) (p .lengths)) && allAtMost 0 (drop (sumOf (used p)) (p .bytes)))))))
 
 -- what the language says of a record
 pub record TypedPath (p : Path) : Type 0 where

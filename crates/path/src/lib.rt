@@ -1,14 +1,13 @@
 // The path record of docs/FORMAT.md, "Paths", and what the codecs ask of it. A port of path/mod.rs.
 ghost use mathlib.Core.Path.{_≡_};
-ghost use mathlib.Core.Bool.{true};
 ghost use mathlib.Core.List.{[]};
 ghost use Prim.Native.Nat.{_<_, _^_};
 ghost use lib.ListN.{length};
 ghost use Rattle.path.specs.Limits.{maxComponentCount, maxPathLength};
-ghost use Rattle.path.specs.Record.{sumOf, allAtMost, componentsOf, pathFrom, pathOf, wellFormed, lengthAt};
-ghost use Rattle.path.specs.Prefix.{shared};
+ghost use Rattle.path.specs.Record.{sumOf, allAtMost, pathFrom, pathOf, wellFormed, lengthAt};
 ghost use Rattle.path.specs.Answers.{componentAt, commonPrefix, prefixOf, equalTo};
 
+pub mod parts;
 mod path_builder;
 
 // The bytes of the components one after the other, their lengths, and how many there are; unused parts are zero.
@@ -171,68 +170,31 @@ impl Path {
         ComponentBytes::At(sum(&lengths[..i]), self.lengths[i])
     }
 
-    // How many leading components two paths share.
-    fn shared_components(self, other: Path) -> usize
-        requires { ⌜ (wellFormed self ≡ true) × (wellFormed other ≡ true) ⌝ }
-        ensures { λ r. ⌜ r ≡ shared (componentsOf self) (componentsOf other) ⌝ }
-    {
-        let n = self.count;
-        let m = other.count;
-        let mut k: usize = 0;
-        let mut at: usize = 0;
-        'components: while k < n {
-            if m <= k {
-                break 'components;
-            }
-            let len = self.lengths[k];
-            if len != other.lengths[k] {
-                break 'components;
-            }
-            let mut i: usize = 0;
-            while i < len {
-                let j = at + i;
-                if self.bytes[j] != other.bytes[j] {
-                    break 'components;
-                }
-                i += 1;
-            }
-            at += len;
-            k += 1;
-        }
-        k
-    }
-
     // How many components the longest common prefix of two paths has.
     pub fn longest_common_prefix(self, other: Path) -> ComponentCount
         ensures { λ r. ⌜ r ≡ commonPrefix self other ⌝ }
     {
-        let well = self.well_formed();
-        if !well {
-            return ComponentCount::Malformed;
-        }
-        let other_well = other.well_formed();
-        if !other_well {
-            return ComponentCount::Malformed;
-        }
-        ComponentCount::Components(self.shared_components(other))
+        parts::longest_common_prefix(
+            &self.bytes,
+            &self.lengths,
+            self.count,
+            &other.bytes,
+            &other.lengths,
+            other.count,
+        )
     }
 
     pub fn is_prefix_of(self, other: Path) -> Compared
         ensures { λ r. ⌜ r ≡ prefixOf self other ⌝ }
     {
-        let well = self.well_formed();
-        if !well {
-            return Compared::Malformed;
-        }
-        let other_well = other.well_formed();
-        if !other_well {
-            return Compared::Malformed;
-        }
-        let k = self.shared_components(other);
-        if k == self.count {
-            return Compared::Yes;
-        }
-        Compared::No
+        parts::is_prefix_of(
+            &self.bytes,
+            &self.lengths,
+            self.count,
+            &other.bytes,
+            &other.lengths,
+            other.count,
+        )
     }
 
     pub fn equals(self, other: Path) -> Compared

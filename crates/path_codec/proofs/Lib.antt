@@ -1,5 +1,6 @@
-pub mod Yields
 pub mod Plain
-pub mod Parts
+pub mod After
+pub mod Yields
 pub mod Exits
+pub mod Ahead
 pub mod Loop

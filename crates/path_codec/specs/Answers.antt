@@ -1,20 +1,19 @@
 -- What the enums and structs of the code stand for, with the numbers of docs/FORMAT.md, "Refusals".
 use mathlib.Core.Path.{_≡_}
-use mathlib.Core.List.{List, [], _∷_, _++_}
+use mathlib.Core.List.{List, [], _++_, map}
 use mathlib.Core.Bool.{Bool}
-use Prim.Native.Nat.{ℕ, _+_, _-_, _≤_}
-use lib.ListN.{length, take, drop}
+use Prim.Native.Nat.{ℕ, _-_, _≤_}
+use lib.ListN.{length, take, drop, set}
 use Rattle.codec.specs.Answers.{Answer, accepted, refused, Gives}
+use Rattle.codec.specs.Format.{over}
 use Rattle.codec.specs.Reader.{shift, named}
 use Rattle.codec.specs.declared.Decoded.{Decoded}
 use Rattle.codec.specs.declared.Decoded.the-variants as decoded
 use Rattle.compact_u64.specs.declared.DecodedU64.{DecodedU64}
 use Rattle.compact_u64.specs.declared.DecodedU64.the-variants as number
 use Rattle.path.specs.declared.Path.{Path}
-use Rattle.path.specs.declared.PathBuilder.{PathBuilder}
-use Rattle.path.specs.Limits.{maxComponentLength, maxComponentCount, maxPathLength}
-use Rattle.path.specs.Record.{componentsOf, pathFrom}
-use Rattle.path.specs.Builder.{builderFrom}
+use Rattle.path.specs.Limits.{maxComponentLength}
+use Rattle.path.specs.Record.{joined, pathFrom}
 use Rattle.path_suffix.specs.Suffix.{Sizes, sizesFrom, readSized, readLast, readComponents}
 use Rattle.path_codec.specs.declared.DecodedPath.{DecodedPath}
 use Rattle.path_codec.specs.declared.DecodedSizes.{DecodedSizes}
@@ -72,20 +71,31 @@ componentRefusal component.TheirFault = decoded.TheirFault
 
 -- ---- inside the reader
 
--- the builder that the code holds by its parts
-abbrev pub builderOf : List ℕ → List ℕ → ℕ → ℕ → PathBuilder
-builderOf bytes lengths count total = record { path = record { bytes = bytes; lengths = lengths; count = count }; total = total }
+-- what is free of a path's two arrays
+pub record Rest : Type 0 where
+  pub bytes : List ℕ
+  pub lengths : List ℕ
 
--- a builder that appends make, with room for count components of total bytes
-pub record Room (b : PathBuilder) (count total : ℕ) : Type 0 where
-  pub made : b ≡ builderFrom (componentsOf (b .path))
-  pub counts : length (componentsOf (b .path)) + count ≤ maxComponentCount
-  pub totals : b .total + total ≤ maxPathLength
+abbrev pub restOf : List ℕ → List ℕ → Rest
+restOf bytes lengths = record { bytes = bytes; lengths = lengths }
+
+-- room for count components of total bytes
+pub record Room (count total : ℕ) (bytes lengths : List ℕ) : Type 0 where
+  pub counts : count ≤ length lengths
+  pub totals : total ≤ length bytes
+
+-- components put over the start of both
+unfoldable pub filled : List (List ℕ) → Rest → Rest
+filled cs r = restOf (over (joined cs) (r .bytes)) (over (map length cs) (r .lengths))
+
+-- one put after used bytes and n lengths
+unfoldable pub placed : ℕ → ℕ → List ℕ → Rest → Rest
+placed used n c r = restOf (take used (r .bytes) ++ over c (drop used (r .bytes))) (set (r .lengths) n (length c))
 
 -- so many components still to be read after those done, used bytes of them gone, from place at of the message on
-unfoldable pub ahead : Bool → ℕ → ℕ → ℕ → List (List ℕ) → ℕ → List ℕ → Answer Path
-ahead canonic left used total done at m = shift at (named (λ cs. pathFrom (done ++ cs)) (readComponents canonic left used total (drop at m)))
+unfoldable pub ahead : Bool → ℕ → ℕ → ℕ → Rest → List (List ℕ) → ℕ → List ℕ → Answer Rest
+ahead canonic left used total rest done at m = shift at (named (λ cs. filled (done ++ cs) rest) (readComponents canonic left used total (drop at m)))
 
 -- the last one
-unfoldable pub lastAhead : ℕ → ℕ → List (List ℕ) → ℕ → List ℕ → Answer Path
-lastAhead used total done at m = shift at (named (λ c. pathFrom (done ++ (c ∷ []))) (readLast used total (drop at m)))
+unfoldable pub lastAhead : ℕ → ℕ → ℕ → Rest → ℕ → List ℕ → Answer Rest
+lastAhead used total n rest at m = shift at (named (λ c. placed used n c rest) (readLast used total (drop at m)))

@@ -1,14 +1,14 @@
 -- docs/FORMAT.md, "Paths": the plain path, as the code holds paths.
 use mathlib.Core.List.{List, _++_}
-use mathlib.Core.Bool.{Bool, true}
+use mathlib.Core.Bool.{Bool, true, _&&_}
 use Prim.Native.Nat.{ℕ, _+_}
+use lib.Dec.{leb, eqb}
+use lib.ListN.{length}
 use Rattle.codec.specs.Format.{Format, verdictBy}
 use Rattle.codec.specs.Reader.{Reader, mapped, guard, onFormed}
 use Rattle.path.specs.declared.Path.{Path}
-use Rattle.path.specs.declared.PathBuilder.{PathBuilder}
-use Rattle.path.specs.Limits.{limits, pathOk}
-use Rattle.path.specs.Record.{componentsOf, pathFrom, wellFormed}
-use Rattle.path.specs.Builder.{isBuilder}
+use Rattle.path.specs.Limits.{maxComponentLength, maxComponentCount, maxPathLength, limits, pathOk}
+use Rattle.path.specs.Record.{sumOf, cutUp, componentsOf, pathFrom, allAtMost, wellFormed}
 use Rattle.path_suffix.specs.Suffix.{suffixBytes, readComponents, readSuffix}
 
 -- a format of paths as lists of components, and the same on records: 5 unless well formed, then 3 unless inside
@@ -27,10 +27,17 @@ readPath canonic = mapped pathFrom (readSuffix canonic limits)
 
 -- ---- what the layers above share
 
--- components onto those of a builder: 5 unless appends make it, then 2 unless all together are within the limits
-unfoldable pub readOnto : Bool → PathBuilder → ℕ → ℕ → Reader Path
-readOnto canonic b total count =
-    onFormed (isBuilder b) (
-    guard (limits (b .total + total) (b .path .count + count)) (
-    mapped (λ cs. pathFrom (componentsOf (b .path) ++ cs)) (
+-- the lengths and the bytes of a path's components, and no others
+unfoldable pub partsOk : List ℕ → List ℕ → Bool
+partsOk lengths bytes =
+    leb (length lengths) maxComponentCount
+    && (allAtMost maxComponentLength lengths
+    && (leb (sumOf lengths) maxPathLength && eqb (sumOf lengths) (length bytes)))
+
+-- components after those of a prefix: 5 unless its parts are a path's, then 2 unless all together are within the limits
+unfoldable pub readAfter : Bool → List ℕ → List ℕ → ℕ → ℕ → Reader Path
+readAfter canonic lengths bytes total count =
+    onFormed (partsOk lengths bytes) (
+    guard (limits (sumOf lengths + total) (length lengths + count)) (
+    mapped (λ cs. pathFrom (cutUp lengths bytes ++ cs)) (
     readComponents canonic count 0 total)))

@@ -8,8 +8,8 @@ ghost use Rattle.path_codec.specs.Answers.{GivesPath, refusal};
 use codec::Decoded;
 use codec::Encoded;
 use path::Path;
-use path::PathBuilder;
 
+pub mod parts;
 pub mod suffix_decode;
 
 // A path beside the answer; beside a refusal it is the empty one.
@@ -52,8 +52,15 @@ pub fn decode(message: &[u8], start: usize, canonic: bool) -> DecodedPath
         return refuse(suffix_decode::sizes_refusal(sizes));
     };
     let at = start + n;
-    let empty = PathBuilder::new();
-    let read = suffix_decode::decode_components(&message[at..], canonic, total, count, empty);
+    let none = [0usize; 1];
+    let read = suffix_decode::decode_after(
+        &message[at..],
+        canonic,
+        total,
+        count,
+        &message[..0],
+        &none[..0],
+    );
     let answer = read.answer;
     let Decoded::Consumed(m) = answer else {
         return read;
@@ -69,12 +76,12 @@ pub fn decode(message: &[u8], start: usize, canonic: bool) -> DecodedPath
 pub fn len_of_encoding(path: Path) -> Encoded
     ensures { λ r. ⌜ outcomeOf r ≡ lengthAnswer plainPath path ⌝ }
 {
-    path_suffix::suffix_len(path, 0)
+    parts::len_of_encoding(&path.bytes, &path.lengths, path.count)
 }
 
 // Writes a plain path.
 pub fn encode(buffer: &mut [u8], path: Path) -> Encoded
     ensures { λ r. ⌜ (outcomeOf r ≡ writeAnswer plainPath path (length (now (buffer .entry)))) × (now (buffer .exit) ≡ writeBuffer plainPath path (now (buffer .entry))) ⌝ }
 {
-    path_suffix::encode_suffix(buffer, path, 0)
+    parts::encode(buffer, &path.bytes, &path.lengths, path.count)
 }

@@ -1,11 +1,14 @@
-// Reading a suffix: its sizes, then its components onto a builder.
+// Reading a suffix: its sizes, then its components after those of a prefix.
 ghost use mathlib.Core.Path.{_≡_};
-ghost use Prim.Native.Nat.{_-_, _≤_};
+ghost use mathlib.Core.List.{[]};
+ghost use Prim.Native.Nat.{_+_, _≤_};
 ghost use lib.ListN.{length, drop};
-ghost use Rattle.path.specs.Record.{componentsOf};
+ghost use Rattle.codec.specs.Answers.{answerOf};
+ghost use Rattle.codec.specs.Format.{over};
+ghost use Rattle.path.specs.Limits.{maxComponentCount};
 ghost use Rattle.path_suffix.specs.Suffix.{readSizes};
-ghost use Rattle.path_codec.specs.Plain.{readOnto};
-ghost use Rattle.path_codec.specs.Answers.{GivesPath, sizesAnswer, ReadsSized, numberRefusal, lengthRefusal, sizesRefusal, componentRefusal, builderOf, Room, ahead, lastAhead};
+ghost use Rattle.path_codec.specs.Plain.{partsOk, readAfter};
+ghost use Rattle.path_codec.specs.Answers.{GivesPath, sizesAnswer, ReadsSized, numberRefusal, lengthRefusal, sizesRefusal, componentRefusal, Room, restOf, ahead, lastAhead};
 use crate::DecodedComponent;
 use crate::DecodedPath;
 use crate::DecodedSizes;
@@ -13,7 +16,6 @@ use codec::Decoded;
 use compact_u64::DecodedU64;
 use compact_u64::TagWidth;
 use path::Path;
-use path::PathBuilder;
 
 fn number_refusal(number: DecodedU64) -> DecodedSizes
     ensures { λ r. ⌜ r ≡ numberRefusal number ⌝ }
@@ -101,143 +103,163 @@ fn decode_sized(message: &[u8], at: usize, canonic: bool) -> DecodedComponent
     DecodedComponent::Bytes(begin, begin + len)
 }
 
-// Reads the last component, which is what the total leaves.
+// Reads the last component, which is what the total leaves, into both arrays after `used` bytes and `n` lengths.
 fn decode_last(
     message: &[u8],
     at: usize,
     used: usize,
     total: usize,
-    onto: PathBuilder,
-) -> DecodedPath
-    requires { ⌜ (at ≤ length (now message)) × (used ≤ total → Room onto 1 (total - used)) ⌝ }
-    ensures { λ r. ⌜ GivesPath r (lastAhead used total (componentsOf (onto .path)) at (now (message .entry))) ⌝ }
+    n: usize,
+    bytes: &mut [u8],
+    lengths: &mut [usize],
+) -> Decoded
+    requires { ⌜ (at ≤ length (now message)) × (used ≤ total → Room (n + 1) total (now bytes) (now lengths)) ⌝ }
+    ensures { λ r. ⌜ answerOf r (restOf (now (bytes .exit)) (now (lengths .exit))) ≡ lastAhead used total n (restOf (now (bytes .entry)) (now (lengths .entry))) at (now (message .entry)) ⌝ }
 {
     if total < used {
-        return crate::refuse(Decoded::TheirFault);
+        return Decoded::TheirFault;
     }
     let len = total - used;
     if Path::MAX_COMPONENT_LENGTH < len {
-        return crate::refuse(Decoded::TheirFault);
+        return Decoded::TheirFault;
     }
     if message.len() - at < len {
-        return crate::refuse(Decoded::EndOfInput);
+        return Decoded::EndOfInput;
     }
     let end = at + len;
-    let first = onto.path;
-    let mut bytes = first.bytes;
-    let mut lengths = first.lengths;
-    let n = first.count;
-    let filled = onto.total;
-    codec::put_bytes(&mut bytes[filled..], &message[at..end]);
+    codec::put_bytes(&mut bytes[used..], &message[at..end]);
     lengths[n] = len;
-    let path = Path {
-        bytes: bytes,
-        lengths: lengths,
-        count: n + 1,
-    };
-    DecodedPath {
-        answer: Decoded::Consumed(end),
-        path: path,
-    }
+    Decoded::Consumed(end)
 }
 
-fn from_parts(bytes: [u8; 600], lengths: [usize; 20], count: usize, total: usize) -> PathBuilder
-    ensures { λ r. ⌜ r ≡ builderOf bytes lengths count total ⌝ }
-{
-    let path = Path {
-        bytes: bytes,
-        lengths: lengths,
-        count: count,
-    };
-    PathBuilder {
-        path: path,
-        total: total,
-    }
-}
-
-// Reads `count` components, one at least, of `total` bytes in all after those of a builder. Lengths that run over the total are read to the end, their bytes not kept.
+// Reads `count` components, one at least, of `total` bytes in all into both arrays. Lengths that run over the total are read to the end, their bytes not kept.
 fn decode_some(
     message: &[u8],
     canonic: bool,
     count: usize,
     total: usize,
-    onto: PathBuilder,
-) -> DecodedPath
-    requires { ⌜ (1 ≤ count) × Room onto count total ⌝ }
-    ensures { λ r. ⌜ GivesPath r (ahead canonic count 0 total (componentsOf (onto .path)) 0 (now (message .entry))) ⌝ }
+    bytes: &mut [u8],
+    lengths: &mut [usize],
+) -> Decoded
+    requires { ⌜ (1 ≤ count) × (count ≤ maxComponentCount) × Room count total (now bytes) (now lengths) ⌝ }
+    ensures { λ r. ⌜ answerOf r (restOf (now (bytes .exit)) (now (lengths .exit))) ≡ ahead canonic count 0 total (restOf (now (bytes .entry)) (now (lengths .entry))) [] 0 (now (message .entry)) ⌝ }
 {
-    let first = onto.path;
-    let mut bytes = first.bytes;
-    let mut lengths = first.lengths;
-    let mut n = first.count;
-    let mut filled = onto.total;
     let mut used: usize = 0;
     let mut at: usize = 0;
     let mut left = count;
     while 1 < left {
         let component = decode_sized(message, at, canonic);
         let DecodedComponent::Bytes(begin, end) = component else {
-            return crate::refuse(component_refusal(component));
+            return component_refusal(component);
         };
         let len = end - begin;
-        used += len;
-        if used <= total {
-            codec::put_bytes(&mut bytes[filled..], &message[begin..end]);
-            lengths[n] = len;
-            n += 1;
-            filled += len;
+        if used + len <= total {
+            codec::put_bytes(&mut bytes[used..], &message[begin..end]);
+            lengths[count - left] = len;
         }
+        used += len;
         at = end;
         left -= 1;
     }
-    let builder = from_parts(bytes, lengths, n, filled);
-    decode_last(message, at, used, total, builder)
+    decode_last(message, at, used, total, count - 1, bytes, lengths)
 }
 
-// Reads `count` components of `total` bytes in all onto a builder.
+// Reads `count` components of `total` bytes in all into both arrays.
 fn decode_all(
     message: &[u8],
     canonic: bool,
     count: usize,
     total: usize,
-    onto: PathBuilder,
-) -> DecodedPath
-    requires { ⌜ Room onto count total ⌝ }
-    ensures { λ r. ⌜ GivesPath r (ahead canonic count 0 total (componentsOf (onto .path)) 0 (now (message .entry))) ⌝ }
+    bytes: &mut [u8],
+    lengths: &mut [usize],
+) -> Decoded
+    requires { ⌜ (count ≤ maxComponentCount) × Room count total (now bytes) (now lengths) ⌝ }
+    ensures { λ r. ⌜ answerOf r (restOf (now (bytes .exit)) (now (lengths .exit))) ≡ ahead canonic count 0 total (restOf (now (bytes .entry)) (now (lengths .entry))) [] 0 (now (message .entry)) ⌝ }
 {
     if count != 0 {
-        return decode_some(message, canonic, count, total, onto);
+        return decode_some(message, canonic, count, total, bytes, lengths);
     }
     if total != 0 {
-        return crate::refuse(Decoded::TheirFault);
+        return Decoded::TheirFault;
     }
-    let path = onto.path;
-    DecodedPath {
-        answer: Decoded::Consumed(0),
-        path: path,
+    Decoded::Consumed(0)
+}
+
+// Whether these are the bytes and the lengths of a path's components.
+fn parts_ok<'a>(bytes: &'a [u8], lengths: &'a [usize]) -> bool
+    ensures { λ r. ⌜ r ≡ partsOk (now (lengths .entry)) (now (bytes .entry)) ⌝ }
+{
+    if Path::MAX_COMPONENT_COUNT < lengths.len() {
+        return false;
+    }
+    let mut total: usize = 0;
+    let mut i: usize = 0;
+    while i < lengths.len() {
+        let len = lengths[i];
+        if Path::MAX_COMPONENT_LENGTH < len {
+            return false;
+        }
+        total += len;
+        i += 1;
+    }
+    if Path::MAX_PATH_LENGTH < total {
+        return false;
+    }
+    total == bytes.len()
+}
+
+// Copies lengths to the start of others.
+fn put_lengths(lengths: &mut [usize], s: &[usize])
+    requires { ⌜ length (now s) ≤ length (now lengths) ⌝ }
+    ensures { λ r. ⌜ now (lengths .exit) ≡ over (now (s .entry)) (now (lengths .entry)) ⌝ }
+{
+    let mut i: usize = 0;
+    while i < s.len() {
+        lengths[i] = s[i];
+        i += 1;
     }
 }
 
-// Reads components onto a builder, from the message's first byte on.
-pub fn decode_components(
-    message: &[u8],
+// Reads components after those of a prefix, whose bytes and lengths are lent, from the message's first byte on.
+pub fn decode_after<'a>(
+    message: &'a [u8],
     canonic: bool,
     total: u64,
     count: u64,
-    onto: PathBuilder,
+    bytes: &'a [u8],
+    lengths: &'a [usize],
 ) -> DecodedPath
-    ensures { λ r. ⌜ GivesPath r (readOnto canonic onto total count (now (message .entry))) ⌝ }
+    ensures { λ r. ⌜ GivesPath r (readAfter canonic (now (lengths .entry)) (now (bytes .entry)) total count (now (message .entry))) ⌝ }
 {
-    let made = onto.is_made();
-    if !made {
+    let ok = parts_ok(bytes, lengths);
+    if !ok {
         return crate::refuse(Decoded::Malformed);
     }
-    let path = onto.path;
-    if ((Path::MAX_PATH_LENGTH - onto.total) as u64) < total {
+    let filled = bytes.len();
+    let n = lengths.len();
+    if ((Path::MAX_PATH_LENGTH - filled) as u64) < total {
         return crate::refuse(Decoded::TheirFault);
     }
-    if ((Path::MAX_COMPONENT_COUNT - path.count) as u64) < count {
+    if ((Path::MAX_COMPONENT_COUNT - n) as u64) < count {
         return crate::refuse(Decoded::TheirFault);
     }
-    decode_all(message, canonic, count as usize, total as usize, onto)
+    let t = total as usize;
+    let m = count as usize;
+    let mut all = [0u8; Path::MAX_PATH_LENGTH];
+    let mut sizes = [0usize; Path::MAX_COMPONENT_COUNT];
+    codec::put_bytes(&mut all[..], bytes);
+    put_lengths(&mut sizes[..], lengths);
+    let answer = decode_all(message, canonic, m, t, &mut all[filled..], &mut sizes[n..]);
+    let Decoded::Consumed(_) = answer else {
+        return crate::refuse(answer);
+    };
+    let path = Path {
+        bytes: all,
+        lengths: sizes,
+        count: n + m,
+    };
+    DecodedPath {
+        answer: answer,
+        path: path,
+    }
 }

@@ -1,39 +1,35 @@
 -- What the definitions answer at each exit of the code.
-use mathlib.Core.Path.{_≡_, refl, sym, ap, _∙_}
-use mathlib.Core.List.{List, [], _∷_, _++_}
-use mathlib.Core.Bool.{Bool, true, false, cond, _&&_}
+use mathlib.Core.Path.{_≡_, refl, _∙_}
+use mathlib.Core.List.{List, _++_}
+use mathlib.Core.Bool.{Bool, true, false, cond}
 use Prim.Native.Nat.{ℕ, _+_, _≤_, _<_}
 use native.Mathlib.Omega.{arith}
-use lib.Dec.{leb, eqb}
+use lib.Dec.{eqb}
 use borrow.Author.Tests.{le-leb, lt-leb}
 use lib.ListN.{length, take, drop, length-append}
 use lib.Seq.{drop-drop}
-use mathlib.Core.Logic.{⊎-elim}
-use denote.Enum.Declared as declared
-use types.Run.{OneOf}
-use Rattle.codec.specs.declared.Decoded.{Decoded}
-use Rattle.codec.specs.declared.Decoded.the-variants as decoded
 use Rattle.codec.specs.Reads.{Bounded}
 use Rattle.codec.proofs.Bounded.{checked-bounded, guard-bounded, mapped-bounded}
-use Rattle.codec.specs.Answers.{Answer, accepted, refused, Gives}
-use Rattle.codec.specs.Reader.{bind, shift, named, passed, guard, mapped}
+use Rattle.codec.specs.Answers.{Answer, AllBytes, accepted, refused}
+use Rattle.codec.specs.Reader.{bind, shift, named, passed, guard, checked, mapped}
+use Rattle.codec.proofs.Bytes.{AllBytes·drop}
 use Rattle.compact_u64.specs.Number.{readStandalone}
 use Rattle.path.specs.declared.Path.{Path}
-use Rattle.path.specs.Limits.{totalOf, limits, PathOk}
-use Rattle.path.specs.declared.Appended.the-variants as appended
-use Rattle.path.specs.Record.{componentsOf, pathFrom, wellFormed, TypedPath}
+use Rattle.path.specs.Limits.{totalOf, limits}
+use Rattle.path.specs.Record.{sumOf, used, componentsOf, pathFrom, wellFormed}
 use Rattle.path.specs.Prefix.{shared}
-use Rattle.path.specs.Builder.{builderFrom, growth, joinedBuilder}
-use Rattle.path.proofs.Record.{components-of, count-of}
-use Rattle.path.proofs.Limits.{ok-take, total-append}
-use Rattle.path.proofs.Components.{formed, count-is}
-use Rattle.path.proofs.Builder.{builder-is}
+use Rattle.path.proofs.Record.{components-of}
+use Rattle.path.proofs.Limits.{limits-of, total-append}
+use Rattle.path.proofs.Components.{parts-formed, count-is}
+use Rattle.path.proofs.Components as Components
 use Rattle.path_suffix.specs.Suffix.{sizesFrom, readSizes, readComponents, readSuffix}
 use Rattle.path_suffix.proofs.Components.{components-bounded}
-use Rattle.path_codec.specs.Plain.{readPath, readOnto}
+use Rattle.path_suffix.proofs.Yields.{components-yields}
+use Rattle.path_codec.specs.Plain.{readPath, readAfter}
 use Rattle.path_relative.specs.Against.{joinOk, readAgainst}
 use Rattle.path_relative.specs.Extension.{readExtension}
 use Rattle.path_relative.specs.Records.{readAgainstPath, readExtendsPath, readJoined}
+use Rattle.path_relative.proofs.Leading.{lead-after}
 
 -- ---- against a path
 pub against-malformed : (canonic : Bool) (r : Path) (s : List ℕ) → wellFormed r ≡ false → readAgainstPath canonic r s ≡ refused 5
@@ -74,26 +70,24 @@ module _ (canonic : Bool) (r : Path) (w : wellFormed r ≡ true) (s : List ℕ) 
           go true (refused k') e = rw e
           go false x e = refl
 
--- what follows the sizes, by the reader onto the builder of the shared components
-pub joined-onto : (canonic : Bool) (r : Path) (k total count : ℕ) (s : List ℕ) → PathOk (componentsOf r) → k ≤ length (componentsOf r) → length (take k (componentsOf r)) ≡ k
-    → readJoined canonic r k total count s
-    ≡ bind (readOnto canonic (builderFrom (take k (componentsOf r))) total count s)
-    (λ p n. passed (cond canonic (eqb (shared (componentsOf r) (componentsOf p)) k) true) (accepted p n))
-unfolding readJoined readOnto joinOk
-joined-onto canonic r k total count s ok there long =
-    rw (le-leb k (length (componentsOf r)) there, builder-is (take k (componentsOf r)) (ok-take k (componentsOf r) ok), components-of (take k (componentsOf r)), count-of (take k (componentsOf r)), long)
+-- what follows the sizes, by the reader after the shared components
+module _ (canonic : Bool) (r : Path) (w : wellFormed r ≡ true) (k : ℕ) (there : k ≤ r .count) (total count : ℕ) (s : List ℕ) where
+  pub joined-after : readJoined canonic r k total count s
+      ≡ bind (readAfter canonic (take k (r .lengths)) (take (sumOf (take k (r .lengths))) (r .bytes)) total count s)
+      (λ p n. passed (cond canonic (eqb (shared (componentsOf r) (componentsOf p)) k) true) (accepted p n))
+  unfolding readJoined joinOk
+  joined-after = rw (lead-after r w k there canonic total count s, le-leb k (length (componentsOf r)) (omega (arith, count-is r (parts-formed w))))
 
-module _ (canonic : Bool) (r : Path) (k total count : ℕ) (s : List ℕ) (ok : PathOk (componentsOf r)) (there : k ≤ length (componentsOf r)) (long : length (take k (componentsOf r)) ≡ k) where
-  pub joined-lenient : canonic ≡ false → readJoined canonic r k total count s ≡ readOnto canonic (builderFrom (take k (componentsOf r))) total count s
-  joined-lenient e = joined-onto canonic r k total count s ok there long ∙ rw e (go (readOnto false (builderFrom (take k (componentsOf r))) total count s))
+  pub joined-lenient : canonic ≡ false → readJoined canonic r k total count s ≡ readAfter canonic (take k (r .lengths)) (take (sumOf (take k (r .lengths))) (r .bytes)) total count s
+  joined-lenient e = joined-after ∙ rw e (go (readAfter false (take k (r .lengths)) (take (sumOf (take k (r .lengths))) (r .bytes)) total count s))
     where
       go : (x : Answer Path) → bind x (λ p n. passed true (accepted p n)) ≡ x
       go (accepted p n) = refl
       go (refused j) = refl
 
-  pub joined-strict : (p : Path) (n : ℕ) → canonic ≡ true → readOnto canonic (builderFrom (take k (componentsOf r))) total count s ≡ accepted p n
+  pub joined-strict : (p : Path) (n : ℕ) → canonic ≡ true → readAfter canonic (take k (r .lengths)) (take (sumOf (take k (r .lengths))) (r .bytes)) total count s ≡ accepted p n
       → readJoined canonic r k total count s ≡ passed (eqb (shared (componentsOf r) (componentsOf p)) k) (accepted p n)
-  joined-strict p n e f = joined-onto canonic r k total count s ok there long ∙ rw (f, e)
+  joined-strict p n e f = joined-after ∙ rw (f, e)
 
 pub joined-bounded : (canonic : Bool) (r : Path) (k total count : ℕ) → Bounded (readJoined canonic r k total count)
 unfolding readJoined
@@ -108,80 +102,49 @@ pub extends-unformed : (canonic : Bool) (r : Path) (s : List ℕ) → wellFormed
 unfolding readExtendsPath
 extends-unformed canonic r s e = rw e
 
-module _ (canonic : Bool) (r : Path) (w : wellFormed r ≡ true) (s : List ℕ) where
-  suffixed : (x : Answer (List (List ℕ))) → readSuffix canonic limits s ≡ x → readExtendsPath canonic r s
-      ≡ named pathFrom (bind (named (λ cs. componentsOf r ++ cs) x) (λ p n. passed (limits (totalOf p) (length p)) (accepted p n)))
-  unfolding readExtendsPath readExtension
-  suffixed x e = rw (w, e)
+module _ (canonic : Bool) (r : Path) (w : wellFormed r ≡ true) (s : List ℕ) (i : ℕ) where
+  pub extends-sizes : (e : ℕ) → readSizes canonic (drop i s) ≡ refused e → readExtendsPath canonic r (drop i s) ≡ refused e
+  unfolding readExtendsPath readExtension readSuffix
+  extends-sizes e f = rw (w, f)
 
-  pub extends-refused : (e : ℕ) → readPath canonic s ≡ refused e → readExtendsPath canonic r s ≡ refused e
-  unfolding readPath
-  extends-refused e f = go (readSuffix canonic limits s) refl f
-    where
-      go : (x : Answer (List (List ℕ))) → readSuffix canonic limits s ≡ x → named pathFrom x ≡ refused e → readExtendsPath canonic r s ≡ refused e
-      go (accepted cs n) g h = let z : _≡_ {A = ℕ} 0 1 = cc in absurd (omega arith)
-      go (refused k) g h = suffixed (refused k) g ∙ h
+  module _ (total count n : ℕ) (g : readSizes canonic (drop i s) ≡ accepted (sizesFrom total count) n) (small : AllBytes s) where
+    -- the whole is as long as the sizes say
+    whole : (cs : List (List ℕ)) (m : ℕ) → readComponents canonic count 0 total (drop (i + n) s) ≡ accepted cs m
+        → limits (totalOf (componentsOf r ++ cs)) (length (componentsOf r ++ cs)) ≡ limits (totalOf (componentsOf r) + total) (r .count + count)
+    whole cs m e =
+        let y = components-yields canonic count 0 total .holds (drop (i + n) s) cs m (AllBytes·drop (i + n) s small) e in
+        let t : totalOf (componentsOf r ++ cs) ≡ totalOf (componentsOf r) + total = omega (arith, total-append (componentsOf r) cs, y .sum) in
+        let l : length (componentsOf r ++ cs) ≡ r .count + count = omega (arith, length-append (componentsOf r) cs, y .count, count-is r (parts-formed w)) in
+        rw (t, l)
 
-  -- a suffix that was read: the joined limits decide
-  pub extends-read : (q : Path) (n : ℕ) → readPath canonic s ≡ accepted q n
-      → readExtendsPath canonic r s
-      ≡ passed (limits (totalOf (componentsOf r ++ componentsOf q)) (length (componentsOf r ++ componentsOf q))) (accepted (pathFrom (componentsOf r ++ componentsOf q)) n)
-  unfolding readPath
-  extends-read q n f = go (readSuffix canonic limits s) refl f
-    where
-      judged : (t : Bool) (p : List (List ℕ)) → named pathFrom (passed t (accepted p n)) ≡ passed t (accepted (pathFrom p) n)
-      judged true p = refl
-      judged false p = refl
+    extends-outside : limits (totalOf (componentsOf r) + total) (r .count + count) ≡ false → readExtendsPath canonic r (drop i s) ≡ checked (λ p. false) (readPath canonic) (drop i s)
+    unfolding readExtendsPath readExtension readPath readSuffix
+    extends-outside h = rw (w, g, drop-drop) (go (limits total count) (readComponents canonic count 0 total (drop (i + n) s)) refl)
+      where
+        go : (b : Bool) (x : Answer (List (List ℕ))) → readComponents canonic count 0 total (drop (i + n) s) ≡ x
+            → named pathFrom (bind (named (λ cs. componentsOf r ++ cs) (shift n (guard b (readComponents canonic count 0 total) (drop (i + n) s)))) (λ p n. passed (limits (totalOf p) (length p)) (accepted p n)))
+            ≡ bind (named pathFrom (shift n (guard b (readComponents canonic count 0 total) (drop (i + n) s)))) (λ p n. passed false (accepted p n))
+        go true (accepted cs m) e = rw (e, whole cs m e, h)
+        go true (refused k) e = rw e
+        go false x e = refl
 
-      go : (x : Answer (List (List ℕ))) → readSuffix canonic limits s ≡ x → named pathFrom x ≡ accepted q n
-          → readExtendsPath canonic r s
-          ≡ passed (limits (totalOf (componentsOf r ++ componentsOf q)) (length (componentsOf r ++ componentsOf q))) (accepted (pathFrom (componentsOf r ++ componentsOf q)) n)
-      go (accepted cs m) g h =
-          let is : pathFrom cs ≡ q = cc in
-          let same : m ≡ n = cc in
-          let comps : componentsOf q ≡ cs = ap componentsOf (sym is) ∙ components-of cs in
-          suffixed (accepted cs m) g ∙ rw (comps, same) (judged (limits (totalOf (componentsOf r ++ cs)) (length (componentsOf r ++ cs))) (componentsOf r ++ cs))
-      go (refused k) g h = let z : _≡_ {A = ℕ} 0 1 = cc in absurd (omega arith)
+    pub extends-long : 600 < totalOf (componentsOf r) + total → readExtendsPath canonic r (drop i s) ≡ checked (λ p. false) (readPath canonic) (drop i s)
+    extends-long h = extends-outside (rw (lt-leb (totalOf (componentsOf r) + total) 600 h))
 
--- a plain path's refusal handed on
-pub extends-handed : (canonic : Bool) (r : Path) → wellFormed r ≡ true → (s : List ℕ) (d : Decoded) (a : Path) → OneOf (1 ∷ 2 ∷ 3 ∷ []) (declared.tagOf Rattle.codec.proofs.Decoded.the-type d)
-    → Gives (pathFrom []) d a (readPath canonic s) → Gives (pathFrom []) d a (readExtendsPath canonic r s)
-extends-handed canonic r w s (decoded.Consumed m) a h g = absurd (⊎-elim (λ e. omega arith) (⊎-elim (λ e. omega arith) (λ e. omega arith)) h)
-extends-handed canonic r w s decoded.EndOfInput a h g = let e = sym (g .answer) in rw (extends-refused canonic r w s 1 e, ← e) g
-extends-handed canonic r w s decoded.TheirFault a h g = let e = sym (g .answer) in rw (extends-refused canonic r w s 2 e, ← e) g
-extends-handed canonic r w s decoded.Malformed a h g = let e = sym (g .answer) in rw (extends-refused canonic r w s 5 e, ← e) g
+    pub extends-many : totalOf (componentsOf r) + total ≤ 600 → 20 < r .count + count → readExtendsPath canonic r (drop i s) ≡ checked (λ p. false) (readPath canonic) (drop i s)
+    extends-many h l = extends-outside (rw (le-leb (totalOf (componentsOf r) + total) 600 h, lt-leb (r .count + count) 20 l))
 
--- ---- two paths joined
-module _ (p q : Path) (t : TypedPath p) (u : TypedPath q) (w : wellFormed p ≡ true) (v : wellFormed q ≡ true) where
-  fits : limits (totalOf (componentsOf p ++ componentsOf q)) (length (componentsOf p ++ componentsOf q))
-      ≡ (leb (totalOf (componentsOf p) + totalOf (componentsOf q)) 600 && leb (p .count + q .count) 20)
-  fits = rw (total-append (componentsOf p) (componentsOf q), length-append (componentsOf p) (componentsOf q), count-is p (formed t w), count-is q (formed u v))
-
-  pub joined-grown : joinedBuilder p q .answer ≡ appended.Grown
-      → (limits (totalOf (componentsOf p ++ componentsOf q)) (length (componentsOf p ++ componentsOf q)) ≡ true) × (joinedBuilder p q .builder .path ≡ pathFrom (componentsOf p ++ componentsOf q))
-  unfolding joinedBuilder
-  joined-grown e = go (leb (totalOf (componentsOf p) + totalOf (componentsOf q)) 600 && leb (p .count + q .count) 20) refl (rw (w, v) at e)
-    where
-      go : (b : Bool) → (leb (totalOf (componentsOf p) + totalOf (componentsOf q)) 600 && leb (p .count + q .count) 20) ≡ b
-          → cond b (growth appended.Grown (builderFrom (componentsOf p ++ componentsOf q))) (growth appended.Outside (builderFrom [])) .answer ≡ appended.Grown
-          → (limits (totalOf (componentsOf p ++ componentsOf q)) (length (componentsOf p ++ componentsOf q)) ≡ true) × (joinedBuilder p q .builder .path ≡ pathFrom (componentsOf p ++ componentsOf q))
-      go true f g = (fits ∙ f, rw (w, v, f))
-      go false f g = let z : _≡_ {A = ℕ} 0 1 = cc in absurd (omega arith)
-
-  pub joined-outside : joinedBuilder p q .answer ≡ appended.Outside → limits (totalOf (componentsOf p ++ componentsOf q)) (length (componentsOf p ++ componentsOf q)) ≡ false
-  unfolding joinedBuilder
-  joined-outside e = go (leb (totalOf (componentsOf p) + totalOf (componentsOf q)) 600 && leb (p .count + q .count) 20) refl (rw (w, v) at e)
-    where
-      go : (b : Bool) → (leb (totalOf (componentsOf p) + totalOf (componentsOf q)) 600 && leb (p .count + q .count) 20) ≡ b
-          → cond b (growth appended.Grown (builderFrom (componentsOf p ++ componentsOf q))) (growth appended.Outside (builderFrom [])) .answer ≡ appended.Outside
-          → limits (totalOf (componentsOf p ++ componentsOf q)) (length (componentsOf p ++ componentsOf q)) ≡ false
-      go true f g = let z : _≡_ {A = ℕ} 0 1 = cc in absurd (omega arith)
-      go false f g = fits ∙ f
-
-  pub joined-formed : joinedBuilder p q .answer ≡ appended.Malformed → ⊥
-  unfolding joinedBuilder
-  joined-formed e = go (leb (totalOf (componentsOf p) + totalOf (componentsOf q)) 600 && leb (p .count + q .count) 20) (rw (w, v) at e)
-    where
-      go : (b : Bool) → cond b (growth appended.Grown (builderFrom (componentsOf p ++ componentsOf q))) (growth appended.Outside (builderFrom [])) .answer ≡ appended.Malformed → ⊥
-      go true g = let z : _≡_ {A = ℕ} 0 1 = cc in omega arith
-      go false g = let z : _≡_ {A = ℕ} 0 1 = cc in omega arith
+    pub extends-after : totalOf (componentsOf r) + total ≤ 600 → r .count + count ≤ 20
+        → readExtendsPath canonic r (drop i s) ≡ shift n (readAfter canonic (used r) (take (sumOf (used r)) (r .bytes)) total count (drop (i + n) s))
+    unfolding readExtendsPath readExtension readSuffix
+    extends-after h l =
+        let f = parts-formed w in
+        let fits = limits-of (totalOf (componentsOf r) + total) (r .count + count) h l in
+        rw (w, g, drop-drop, limits-of total count (omega arith) (omega arith), lead-after r w (r .count) (omega arith) canonic total count (drop (i + n) s), Components.whole r f, fits)
+        (go fits (readComponents canonic count 0 total (drop (i + n) s)) refl)
+      where
+        go : limits (totalOf (componentsOf r) + total) (r .count + count) ≡ true → (x : Answer (List (List ℕ))) → readComponents canonic count 0 total (drop (i + n) s) ≡ x
+            → named pathFrom (bind (named (λ cs. componentsOf r ++ cs) (shift n (readComponents canonic count 0 total (drop (i + n) s)))) (λ p n. passed (limits (totalOf p) (length p)) (accepted p n)))
+            ≡ shift n (named (λ cs. pathFrom (componentsOf r ++ cs)) (readComponents canonic count 0 total (drop (i + n) s)))
+        go fits (accepted cs m) e = rw (e, whole cs m e, fits)
+        go fits (refused k) e = rw e

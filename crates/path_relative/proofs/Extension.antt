@@ -2,7 +2,7 @@
 use mathlib.Core.Path.{_≡_, sym, ap, _∙_}
 use mathlib.Core.List.{List, [], _++_}
 use mathlib.Core.Bool.{Bool, true, false}
-use Prim.Native.Nat.{ℕ, _+_, _*_, _≤_}
+use Prim.Native.Nat.{ℕ, _+_, _≤_}
 use native.Mathlib.Omega.{arith}
 use lib.ListN.{length, drop, length-drop, take-append-drop}
 use lib.Seq.{take-append-seam, drop-append-seam}
@@ -12,10 +12,10 @@ use Rattle.codec.proofs.Readers.{reads-as, checked-reads, mapped-reads}
 use Rattle.codec.proofs.Relaxes.{relaxes-back, checked-relaxes, mapped-relaxes}
 use Rattle.codec.proofs.Bounded.{checked-bounded, mapped-bounded}
 use Rattle.path.specs.Limits.{totalOf, limits, Component, PathOk}
-use Rattle.path.proofs.Limits.{total-append, total-split, all-append, all-drop, limits-total, limits-count, limits-of}
+use Rattle.path.proofs.Limits.{total-append, all-append, all-drop, limits-total, limits-count, limits-of}
 use Rattle.path_suffix.specs.Relations.{SuffixAs}
-use Rattle.path_suffix.proofs.Suffix.{suffix-reads, suffix-relaxes, suffix-bounded, suffix-empty, suffix-short}
-use Rattle.path_relative.specs.Extension.{extensionBytes, readExtension, ExtensionAs}
+use Rattle.path_suffix.proofs.Suffix.{suffix-reads, suffix-relaxes, suffix-bounded, suffix-empty}
+use Rattle.path_relative.specs.Extension.{readExtension, ExtensionAs}
 
 pub extension-relaxes : (r : List (List ℕ)) → Relaxes (readExtension true r) (readExtension false r)
 unfolding readExtension
@@ -32,10 +32,6 @@ extension-bounded r canonic =
 pub extension-empty : (r : List (List ℕ)) (canonic : Bool) → readExtension canonic r [] ≡ refused 1
 unfolding readExtension
 extension-empty r canonic = rw (suffix-empty limits canonic)
-
--- how long it may be
-pub extension-short : (r p : List (List ℕ)) → length (extensionBytes r p) ≤ 17 + (9 * length p + totalOf p)
-extension-short r p = omega (arith, suffix-short (drop (length r) p), total-split (length r) p, length-drop (length r) p)
 
 module _ (r : List (List ℕ)) (wf : PathOk r) where
   extension-there : (p : List (List ℕ)) (e : List ℕ) → Tested (λ p. limits (totalOf p) (length p)) (Mapped (λ cs. r ++ cs) (SuffixAs limits)) p e → ExtensionAs r p e

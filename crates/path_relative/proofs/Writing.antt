@@ -9,23 +9,24 @@ use borrow.Author.Tests.{eqb-true, leb-false}
 use lib.ListN.{length, take, drop, length-append, length-drop, take-append-drop}
 use lib.Seq.{drop-at, drop-drop, length-take-le}
 use Rattle.codec.specs.Answers.{wrote, denied}
-use Rattle.codec.specs.Format.{allowed, barred, over, putAnswer, putBuffer, writeAnswer, writeBuffer}
-use Rattle.codec.proofs.Lending.{put-full, put-fits, put-denied, put-wrote, put-over, wrote-not-denied}
+use Rattle.codec.specs.Format.{Verdict, allowed, barred, over, putAnswer, putBuffer, writeAnswer, writeBuffer}
+use Rattle.codec.proofs.Lawful.{verdict-allowed}
+use Rattle.codec.proofs.Lending.{put-barred, put-full, put-fits, put-denied, put-wrote, put-over, wrote-not-denied}
 use Rattle.compact_u64.specs.Number.{standaloneBytes}
 use Rattle.path.specs.declared.Path.{Path}
 use Rattle.path.specs.declared.Compared.the-variants as compared
 use Rattle.path.specs.declared.ComponentCount.the-variants as count
-use Rattle.path.specs.Record.{componentsOf, wellFormed, TypedPath}
+use Rattle.path.specs.Record.{componentsOf, wellFormed}
 use Rattle.path.specs.Prefix.{shared, isPrefix}
 use Rattle.path.specs.Answers.{commonPrefix, prefixOf, verdict}
 use Rattle.codec.proofs.Tests.{and-left, and-right}
-use Rattle.path.proofs.Components.{Formed, formed, count-is, rest-count, rest-small}
+use Rattle.path.proofs.Components.{Formed, parts-formed, count-is, rest-count, rest-small}
 use Rattle.path.proofs.Prefix.{shares}
 use Rattle.path.proofs.Verdicts.{yes-allowed}
 use Rattle.path_suffix.specs.Suffix.{suffixBytes, suffixFrom}
 use Rattle.path_suffix.proofs.Suffix.{suffix-short}
 use Rattle.path_suffix.proofs.Writing.{suffix-allowed}
-use Rattle.path_relative.specs.Records.{againstPath, extendsPath}
+use Rattle.path_relative.specs.Records.{sharedFrom, againstPath, extendsPath}
 
 -- ---- the shared components
 pub record Common (r p : Path) (k : ℕ) : Type 0 where
@@ -48,13 +49,8 @@ uncommon r p e = go (wellFormed r && wellFormed p) refl e
     go true f g = let z : _≡_ {A = ℕ} 0 1 = cc in absurd (omega arith)
     go false f g = f
 
--- both well formed: the count is there
-pub common-formed : (r p : Path) → wellFormed r ≡ true → wellFormed p ≡ true → commonPrefix r p ≡ count.Components (shared (componentsOf r) (componentsOf p))
-unfolding commonPrefix
-common-formed r p w v = rw (w, v)
-
 -- ---- a writing that was refused for room, and one that was written after the place of another
-no-room : (bs : List ℕ) (room why : ℕ) → putAnswer allowed bs room ≡ denied why → (why ≡ 4) × (room < length bs)
+pub no-room : (bs : List ℕ) (room why : ℕ) → putAnswer allowed bs room ≡ denied why → (why ≡ 4) × (room < length bs)
 unfolding putAnswer
 no-room bs room why e = go (leb (length bs) room) refl e
   where
@@ -87,43 +83,53 @@ module _ (first bs l : List ℕ) (a : ℕ) (ea : a ≡ length first) (h : a ≤ 
       let there : ys ≡ over bs (drop a l) = put ∙ put-over bs (drop a l) (omega (arith, w .long, w .fits)) in
       (whole .0, rw (there, ea) (over-before l first bs (omega arith)) ∙ whole .1)
 
-module _ (r p : Path) (k : ℕ) (t : TypedPath p) (c : Common r p k) where
+  -- whatever the verdict on their value is
+  pub rest-denied : (d : Verdict) (why : ℕ) (ys : List ℕ) → putAnswer d bs (length (drop a l)) ≡ denied why → ys ≡ putBuffer d bs (drop a l)
+      → (denied why ≡ putAnswer d (first ++ bs) (length l)) × (take a l ++ ys ≡ putBuffer d (first ++ bs) l)
+  rest-denied allowed why ys e put = rest-refused why ys e put
+  rest-denied (barred k) why ys e put =
+      let same : ys ≡ drop a l = put ∙ sym (put-barred (barred k) bs (drop a l) k refl .1) in
+      let whole = put-barred (barred k) (first ++ bs) l k refl in
+      (sym e ∙ sym (put-barred (barred k) bs (drop a l) k refl .0) ∙ whole .0, rw same (take-append-drop a l ∙ whole .1))
+
+-- no byte changes where not even a part has room
+pub short-unchanged : (d : Verdict) (bs l : List ℕ) → length l < length bs → l ≡ putBuffer d bs l
+short-unchanged allowed bs l h = put-full allowed bs l refl _ refl h .1
+short-unchanged (barred k) bs l h = put-barred (barred k) bs l k refl .1
+
+-- ---- the number of shared components and the suffix after them
+module _ (p : Path) (k : ℕ) where
+  pub suffix-within : suffixFrom k .check p ≡ allowed → length (suffixFrom k .encode p) ≤ 1000
+  suffix-within ok =
+      let f = parts-formed (verdict-allowed (wellFormed p) (leb k (p .count)) ok .0) in
+      omega (arith, suffix-short (drop k (componentsOf p)), rest-count p f k, rest-small p f k, f .well .count)
+
+  pub shared-long : (a n : ℕ) → a ≡ length (standaloneBytes k) → n ≡ length (suffixFrom k .encode p) → a + n ≡ length (sharedFrom k .encode p)
+  shared-long a n ea en = sym (length-append (standaloneBytes k) (suffixFrom k .encode p) ∙ rw (← ea, ← en))
+
+  -- the suffix after the place of the number, then the number
+  pub shared-written : (l : List ℕ) (a : ℕ) → a ≡ length (standaloneBytes k) → a ≤ length l → (n : ℕ) (ys : List ℕ)
+      → writeAnswer (suffixFrom k) p (length (drop a l)) ≡ wrote n → ys ≡ writeBuffer (suffixFrom k) p (drop a l)
+      → (wrote (a + n) ≡ writeAnswer (sharedFrom k) p (length l)) × (putBuffer allowed (standaloneBytes k) (take a l ++ ys) ≡ writeBuffer (sharedFrom k) p l)
+  shared-written l a ea h n ys e put =
+      let ok = put-wrote (suffixFrom k .check p) (suffixFrom k .encode p) _ n e .allows in
+      let done = rest-written (standaloneBytes k) (suffixFrom k .encode p) l a ea h n ys (rw ok at e) (rw ok at put) in
+      let room : length (standaloneBytes k) ≤ length (take a l ++ ys) = rw (length-append, length-take-le a l h) (omega arith) in
+      rw ok (done .0, put-over (standaloneBytes k) (take a l ++ ys) room ∙ done .1)
+
+module _ (r p : Path) (k : ℕ) (c : Common r p k) where
   path-formed : Formed p
-  path-formed = formed t (and-right (wellFormed r) (wellFormed p) (c .both))
+  path-formed = parts-formed (and-right (wellFormed r) (wellFormed p) (c .both))
 
   k-there : k ≤ p .count
   k-there = omega (arith, shares (componentsOf r) (componentsOf p) .in-p, c .is, count-is p path-formed)
 
-  pub against-allowed : againstPath r .check p ≡ allowed
-  against-allowed = rw (c .both)
-
   pub rest-allowed : suffixFrom k .check p ≡ allowed
   rest-allowed = suffix-allowed p k (and-right (wellFormed r) (wellFormed p) (c .both)) k-there
 
-  pub against-bytes : againstPath r .encode p ≡ standaloneBytes k ++ suffixFrom k .encode p
-  against-bytes = rw (c .is)
-
-  pub against-long : (a n : ℕ) → a ≡ length (standaloneBytes k) → n ≡ length (suffixFrom k .encode p) → a + n ≡ length (againstPath r .encode p)
-  against-long a n ea en = sym (ap length against-bytes ∙ length-append (standaloneBytes k) (suffixFrom k .encode p) ∙ rw (← ea, ← en))
-
-  pub rest-short : length (suffixFrom k .encode p) ≤ 1000
-  rest-short = omega (arith, suffix-short (drop k (componentsOf p)), rest-count p path-formed k, rest-small p path-formed k, path-formed .well .count)
-
-  -- the suffix after the place of the count, then the count
-  module _ (l : List ℕ) (a : ℕ) (ea : a ≡ length (standaloneBytes k)) (h : a ≤ length l) where
-    pub against-refused : (why : ℕ) (ys : List ℕ) → writeAnswer (suffixFrom k) p (length (drop a l)) ≡ denied why → ys ≡ writeBuffer (suffixFrom k) p (drop a l)
-        → (denied why ≡ writeAnswer (againstPath r) p (length l)) × (take a l ++ ys ≡ writeBuffer (againstPath r) p l)
-    against-refused why ys e put =
-        let done = rest-refused (standaloneBytes k) (suffixFrom k .encode p) l a ea h why ys (rw rest-allowed at e) (rw rest-allowed at put) in
-        rw (against-allowed, against-bytes) done
-
-    pub against-written : (n : ℕ) (ys : List ℕ) → writeAnswer (suffixFrom k) p (length (drop a l)) ≡ wrote n → ys ≡ writeBuffer (suffixFrom k) p (drop a l)
-        → (wrote (a + n) ≡ writeAnswer (againstPath r) p (length l)) × (putBuffer allowed (standaloneBytes k) (take a l ++ ys) ≡ writeBuffer (againstPath r) p l)
-    against-written n ys e put =
-        let done = rest-written (standaloneBytes k) (suffixFrom k .encode p) l a ea h n ys (rw rest-allowed at e) (rw rest-allowed at put) in
-        let room : length (standaloneBytes k) ≤ length (take a l ++ ys) = rw (length-append, length-take-le a l h) (omega arith) in
-        let first = put-over (standaloneBytes k) (take a l ++ ys) room in
-        rw (against-allowed, against-bytes) (done .0, first ∙ done .1)
+  -- the path against the reference is that
+  pub shared-against : (sharedFrom k .check p ≡ againstPath r .check p) × (sharedFrom k .encode p ≡ againstPath r .encode p)
+  shared-against = (rest-allowed ∙ rw (c .both), rw (c .is))
 
 -- ---- a prefix
 module _ (r p : Path) where
@@ -145,21 +151,20 @@ module _ (r p : Path) where
       go true false f h g = rw (f, h)
       go false i f h g = let z : _≡_ {A = ℕ} 0 1 = cc in absurd (omega arith)
 
-  module _ (t : TypedPath r) (u : TypedPath p) where
-    -- a path that the reference is a prefix of shares its components
-    pub extends-common : prefixOf r p ≡ compared.Yes → Common r p (r .count)
-    unfolding prefixOf isPrefix
-    extends-common e = go (wellFormed r && wellFormed p) (eqb (shared (componentsOf r) (componentsOf p)) (length (componentsOf r))) refl refl e
-      where
-        go : (b i : Bool) → (wellFormed r && wellFormed p) ≡ b → eqb (shared (componentsOf r) (componentsOf p)) (length (componentsOf r)) ≡ i → cond b (verdict i) compared.Malformed ≡ compared.Yes → Common r p (r .count)
-        go true true f h g = record { both = f; is = eqb-true (shared (componentsOf r) (componentsOf p)) (length (componentsOf r)) h ∙ count-is r (formed t (and-left (wellFormed r) (wellFormed p) f)) }
-        go true false f h g = let z : _≡_ {A = ℕ} 0 1 = cc in absurd (omega arith)
-        go false i f h g = let z : _≡_ {A = ℕ} 0 1 = cc in absurd (omega arith)
+  -- a path that the reference is a prefix of shares its components
+  pub extends-common : prefixOf r p ≡ compared.Yes → Common r p (r .count)
+  unfolding prefixOf isPrefix
+  extends-common e = go (wellFormed r && wellFormed p) (eqb (shared (componentsOf r) (componentsOf p)) (length (componentsOf r))) refl refl e
+    where
+      go : (b i : Bool) → (wellFormed r && wellFormed p) ≡ b → eqb (shared (componentsOf r) (componentsOf p)) (length (componentsOf r)) ≡ i → cond b (verdict i) compared.Malformed ≡ compared.Yes → Common r p (r .count)
+      go true true f h g = record { both = f; is = eqb-true (shared (componentsOf r) (componentsOf p)) (length (componentsOf r)) h ∙ count-is r (parts-formed (and-left (wellFormed r) (wellFormed p) f)) }
+      go true false f h g = let z : _≡_ {A = ℕ} 0 1 = cc in absurd (omega arith)
+      go false i f h g = let z : _≡_ {A = ℕ} 0 1 = cc in absurd (omega arith)
 
-    -- and is written as the suffix after it
-    pub extends-suffix : prefixOf r p ≡ compared.Yes → (suffixFrom (r .count) .check p ≡ extendsPath r .check p) × (suffixFrom (r .count) .encode p ≡ extendsPath r .encode p)
-    unfolding prefixOf
-    extends-suffix e =
-        let c = extends-common e in
-        let cr : length (componentsOf r) ≡ r .count = count-is r (formed t (and-left (wellFormed r) (wellFormed p) (c .both))) in
-        (rest-allowed r p (r .count) u c ∙ sym (yes-allowed (wellFormed r && wellFormed p) (isPrefix (componentsOf r) (componentsOf p)) e), ap (λ (k : ℕ). suffixBytes (drop k (componentsOf p))) (sym cr))
+  -- and is written as the suffix after it
+  pub extends-suffix : prefixOf r p ≡ compared.Yes → (suffixFrom (r .count) .check p ≡ extendsPath r .check p) × (suffixFrom (r .count) .encode p ≡ extendsPath r .encode p)
+  unfolding prefixOf
+  extends-suffix e =
+      let c = extends-common e in
+      let cr : length (componentsOf r) ≡ r .count = count-is r (parts-formed (and-left (wellFormed r) (wellFormed p) (c .both))) in
+      (rest-allowed r p (r .count) c ∙ sym (yes-allowed (wellFormed r && wellFormed p) (isPrefix (componentsOf r) (componentsOf p)) e), ap (λ (k : ℕ). suffixBytes (drop k (componentsOf p))) (sym cr))

@@ -1,16 +1,18 @@
 -- docs/FORMAT.md, "Paths": both encodings, as the code holds paths. 5 is tested on the reference and on the path.
 use mathlib.Core.Path.{_≡_}
-use mathlib.Core.List.{_++_}
+use mathlib.Core.List.{List, _++_}
 use mathlib.Core.Bool.{Bool, true, cond, _&&_}
-use Prim.Native.Nat.{ℕ, _≤_}
+use Prim.Native.Nat.{ℕ, _+_, _≤_, _<_}
 use lib.Dec.{eqb}
-use lib.ListN.{take}
+use lib.ListN.{length, take, drop, getD}
 use Rattle.codec.specs.Format.{Format, verdictBy}
 use Rattle.codec.specs.Reader.{Reader, guard, checked, mapped, onFormed}
 use Rattle.path.specs.declared.Path.{Path}
+use Rattle.path.specs.Limits.{maxComponentCount, maxPathLength}
 use Rattle.path.specs.Record.{componentsOf, pathFrom, wellFormed}
 use Rattle.path.specs.Prefix.{shared, isPrefix}
-use Rattle.path_suffix.specs.Suffix.{readComponents}
+use Rattle.compact_u64.specs.Number.{standaloneBytes}
+use Rattle.path_suffix.specs.Suffix.{suffixFrom, readComponents}
 use Rattle.path_relative.specs.Against.{againstBytes, joinOk, readAgainst}
 use Rattle.path_relative.specs.Extension.{extensionBytes, readExtension}
 
@@ -18,6 +20,13 @@ abbrev pub againstPath : Path → Format Path
 againstPath r = record {
   check = λ p. verdictBy (wellFormed r && wellFormed p) true;
   encode = λ p. againstBytes (componentsOf r) (componentsOf p);
+}
+
+-- the same where it is known that k components are shared: their number and the components after them
+abbrev pub sharedFrom : ℕ → Format Path
+sharedFrom k = record {
+  check = suffixFrom k .check;
+  encode = λ p. standaloneBytes k ++ suffixFrom k .encode p;
 }
 
 -- 3 unless the reference is a prefix
@@ -39,6 +48,16 @@ readExtendsPath canonic r = onFormed (wellFormed r) (mapped pathFrom (readExtens
 pub record Reference (r : Path) (k : ℕ) : Type 0 where
   pub formed : wellFormed r ≡ true
   pub there : k ≤ r .count
+
+-- a component after k others of at bytes, where there is one
+abbrev pub partAt : ℕ → ℕ → List ℕ → List ℕ → List ℕ
+partAt k at bytes lengths = take (getD lengths k 0) (drop at bytes)
+
+pub record Stands (k at : ℕ) (bytes lengths : List ℕ) : Type 0 where
+  pub there : k < length lengths
+  pub ends : at + getD lengths k 0 ≤ length bytes
+  pub few : length lengths ≤ maxComponentCount
+  pub fits : length bytes ≤ maxPathLength
 
 -- what follows the shared count k and the sizes
 unfoldable pub readJoined : Bool → Path → ℕ → ℕ → ℕ → Reader Path

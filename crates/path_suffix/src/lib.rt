@@ -11,6 +11,7 @@ use codec::Encoded;
 use compact_u64::TagWidth;
 use path::Path;
 
+pub mod parts;
 pub mod suffix_header;
 
 // The tags in a suffix's header byte.
@@ -138,37 +139,12 @@ fn put_suffix(buffer: &mut [u8], bytes: &[u8], lengths: &[usize]) -> usize
 pub fn suffix_len(path: Path, k: usize) -> Encoded
     ensures { λ r. ⌜ outcomeOf r ≡ lengthAnswer (suffixFrom k) path ⌝ }
 {
-    let well = path.well_formed();
-    if !well {
-        return Encoded::Malformed;
-    }
-    let n = path.count;
-    if n < k {
-        return Encoded::Outside;
-    }
-    let lengths = path.lengths;
-    Encoded::Length(len_of(&lengths[k..n]))
+    parts::suffix_len(&path.bytes, &path.lengths, path.count, k)
 }
 
 // Writes the suffix of a path from its k-th component on.
 pub fn encode_suffix(buffer: &mut [u8], path: Path, k: usize) -> Encoded
     ensures { λ r. ⌜ (outcomeOf r ≡ writeAnswer (suffixFrom k) path (length (now (buffer .entry)))) × (now (buffer .exit) ≡ writeBuffer (suffixFrom k) path (now (buffer .entry))) ⌝ }
 {
-    let well = path.well_formed();
-    if !well {
-        return Encoded::Malformed;
-    }
-    let n = path.count;
-    if n < k {
-        return Encoded::Outside;
-    }
-    let lengths = path.lengths;
-    let len = len_of(&lengths[k..n]);
-    if buffer.len() < len {
-        return Encoded::NoRoom;
-    }
-    let bytes = path.bytes;
-    let at = total_of(&lengths[..k]);
-    put_suffix(buffer, &bytes[at..], &lengths[k..n]);
-    Encoded::Length(len)
+    parts::encode_suffix(buffer, &path.bytes, &path.lengths, path.count, k)
 }

@@ -5,7 +5,7 @@ use denote.Ref.{now}
 use lib.Dec.{leb}
 use lib.ListN.{length, drop}
 use lib.Seq.{length-take-le}
-use borrow.Author.Tests.{lt-leb, le-leb, not-true, not-false}
+use borrow.Author.Tests.{lt-leb, le-leb, eq-eqb, not-true, not-false}
 use Rattle.codec.proofs.Lending.{to-end}
 use Rattle.path.specs.Record.{wellFormed, pathOf, sumOf, allAtMost, used}
 use Rattle.path.specs.declared.Path.{Path}
@@ -36,7 +36,7 @@ zeros p = allAtMost 0 (drop (p .count) (p .lengths)) && allAtMost 0 (drop (sumOf
 
 count-passed : (c : tie.Else1) → wellFormed (path (start1 c)) ≡ (allAtMost 300 (used (path (start1 c))) && (leb (sumOf (used (path (start1 c)))) 600 && zeros (path (start1 c))))
 unfolding wellFormed
-count-passed c = rw (le-leb _ _ (c .if1 .left))
+count-passed c = rw (eq-eqb _ _ (start1 c .pre .0), eq-eqb _ _ (start1 c .pre .1), le-leb _ _ (c .if1 .left))
 
 short : (c : tie.Else2) → allAtMost 300 (used (path (start2 c))) ≡ true
 short c = sym (c .before .all-at-most .ensures) ∙ not-false _ (c .if2 .left)
@@ -54,7 +54,7 @@ rest c = sym (c .all-at-most2 .ensures ∙ ap (allAtMost 0) (to-end (path (start
 
 returns : tie.Need-returns
 unfolding wellFormed
-returns c = rw (lt-leb _ _ (c .if1 .taken))
+returns c = rw (eq-eqb _ _ (c .before .before .before .pre .0), eq-eqb _ _ (c .before .before .before .pre .1), lt-leb _ _ (c .if1 .taken))
 
 slice-aggregate-all-at-most : tie.Need-slice-aggregate-all-at-most
 slice-aggregate-all-at-most c = sym (length-take-le _ _ (omega (arith, c .before .before .before .before .pre .1)))

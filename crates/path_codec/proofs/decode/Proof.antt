@@ -3,17 +3,17 @@ use mathlib.Core.List.{[]}
 use Prim.Native.Nat.{_+_, _≤_}
 use denote.Ref.{now}
 use native.Mathlib.Omega.{arith}
-use borrow.Author.Needs.{needs}
 use lib.ListN.{length, drop, length-drop}
 use Rattle.codec.specs.Answers.{accepted, answerOf}
 use Rattle.codec.specs.declared.Decoded.{Decoded}
 use Rattle.codec.proofs.Answers.{gives-refused, later-accepted, later-refused}
 use Rattle.codec.proofs.Lending.{to-end}
-use Rattle.path.specs.Builder.{builderFrom}
 use Rattle.path_suffix.specs.Suffix.{sizesFrom, readSizes}
-use Rattle.path_codec.specs.Plain.{readOnto}
+use Rattle.path_codec.specs.Plain.{readAfter}
 use Rattle.path_codec.specs.Answers.{GivesPath, sizesAnswer}
-use Rattle.path_codec.proofs.Exits.{no-sizes, sizes-inside, onto-bounded, path-refused, path-onto}
+use Rattle.path_codec.proofs.After.{after-bounded}
+use Rattle.path_codec.proofs.Exits.{no-sizes, sizes-inside, path-refused, path-after}
+use borrow.Author.Needs.{needs}
 use Rattle.path_codec.proofs.decode.Statement.{statement}
 use Rattle.path_codec.proofs.decode.Tie as tie
 
@@ -27,13 +27,13 @@ begins c =
     let a = c .before .before .before .before .before .args in
     sizes-inside (a .canonic) (now (a .message)) (a .start) _ _ (sizes-are c)
 
--- the components, read onto the empty builder
-components-are : (c : tie.After-decode-components) → let a = c .before .before .before .before .before .before .before .before .args in let h = c .before .before .before .before .sizes .given .0 in
-    GivesPath (c .decode-components .result) (readOnto (a .canonic) (builderFrom []) (h .0) (h .1 .0) (drop (a .start + h .1 .1 .0) (now (a .message))))
+-- the components, read after none
+components-are : (c : tie.After-decode-after) → let a = c .before .before .before .before .before .before .before .before .before .args in let h = c .before .before .before .before .before .sizes .given .0 in
+    GivesPath (c .decode-after .result) (readAfter (a .canonic) [] [] (h .0) (h .1 .0) (drop (a .start + h .1 .1 .0) (now (a .message))))
 components-are c =
-    let a = c .before .before .before .before .before .before .before .before .args in
-    let at = a .start + c .before .before .before .before .sizes .given .0 .1 .1 .0 in
-    rw (c .before .before .new .ensures, to-end at (now (a .message))) at (c .decode-components .ensures)
+    let a = c .before .before .before .before .before .before .before .before .before .args in
+    let at = a .start + c .before .before .before .before .before .sizes .given .0 .1 .1 .0 in
+    rw (to-end at (now (a .message))) at (c .decode-after .ensures)
 
 decode-sizes-requires : tie.Need-decode-sizes-requires
 decode-sizes-requires c κs = search needs
@@ -56,41 +56,47 @@ returns c =
 add-at : tie.Need-add-at
 add-at c = omega (arith, begins c)
 
-new-requires : tie.Need-new-requires
-new-requires c κs = search needs
+sub-decode-after : tie.Need-sub-decode-after
+sub-decode-after c = begins c
 
-sub-decode-components : tie.Need-sub-decode-components
-sub-decode-components c = begins (c .before)
+part-decode-after-start : tie.Need-part-decode-after-start
+part-decode-after-start c = omega (arith, begins c)
 
-part-decode-components-start : tie.Need-part-decode-components-start
-part-decode-components-start c = omega (arith, begins (c .before))
+part-decode-after-end : tie.Need-part-decode-after-end
+part-decode-after-end c = search needs
 
-part-decode-components-end : tie.Need-part-decode-components-end
-part-decode-components-end c = search needs
+slice-aggregate-decode-after : tie.Need-slice-aggregate-decode-after
+slice-aggregate-decode-after c = search needs
 
-decode-components-requires : tie.Need-decode-components-requires
-decode-components-requires c κs = search needs
+array-share-prefix-none : tie.Need-array-share-prefix-none
+array-share-prefix-none c = search needs
+
+slice-aggregate-decode-after-2 : tie.Need-slice-aggregate-decode-after-2
+slice-aggregate-decode-after-2 c = search needs
+
+decode-after-requires : tie.Need-decode-after-requires
+decode-after-requires c κs = search needs
 
 enum-known-answer : tie.Need-enum-known-answer
 enum-known-answer c = search needs
 
 returns-2 : tie.Need-returns-2
 returns-2 c =
-    let a = c .before .before .before .before .before .before .before .before .before .args in
-    rw (path-onto (a .canonic) (now (a .message)) (a .start) _ _ _ (sizes-are (c .before .before .before .before))) (later-refused _ _ (c .match2 .keys2) (components-are (c .before)))
+    let a = c .before .before .before .before .before .before .before .before .before .before .args in
+    rw (path-after (a .canonic) (now (a .message)) (a .start) _ _ _ (sizes-are (c .before .before .before .before .before))) (later-refused _ _ (c .match2 .keys2) (components-are (c .before)))
 
 add-t16 : tie.Need-add-t16
 add-t16 c =
-    let a = c .before .before .before .before .before .before .before .before .before .before .before .before .args in
-    let n = c .before .before .before .before .before .before .before .before .sizes .given .0 .1 .1 .0 in
+    let a = c .before .before .before .before .before .before .before .before .before .before .before .before .before .args in
+    let n = c .before .before .before .before .before .before .before .before .before .sizes .given .0 .1 .1 .0 in
     let g = components-are (c .before .before .before .before) in
-    let e = sym (g .answer) ∙ ap (λ (d : Decoded). answerOf d (c .before .before .before .before .decode-components .result .path)) (c .before .before .answer .given .1) in
-    omega (arith, begins (c .before .before .before .before .before .before .before), onto-bounded (a .canonic) (builderFrom []) _ _ .bound (drop (a .start + n) (now (a .message))) _ _ e, length-drop (a .start + n) (now (a .message)))
+    let e = sym (g .answer) ∙ ap (λ (d : Decoded). answerOf d (c .before .before .before .before .decode-after .result .path)) (c .before .before .answer .given .1) in
+    omega (arith, begins (c .before .before .before .before .before .before .before .before), after-bounded (a .canonic) [] [] _ _ .bound (drop (a .start + n) (now (a .message))) _ _ e, length-drop (a .start + n) (now (a .message)))
 
 returns-3 : tie.Need-returns-3
 returns-3 c =
-    let a = c .before .before .before .before .before .before .before .before .before .before .before .before .args in
-    rw (path-onto (a .canonic) (now (a .message)) (a .start) _ _ _ (sizes-are (c .before .before .before .before .before .before .before))) (later-accepted _ _ _ (c .before .before .answer .given .1) (components-are (c .before .before .before .before)))
+    let a = c .before .before .before .before .before .before .before .before .before .before .before .before .before .args in
+    rw (path-after (a .canonic) (now (a .message)) (a .start) _ _ _ (sizes-are (c .before .before .before .before .before .before .before .before))) (later-accepted _ _ _ (c .before .before .answer .given .1) (components-are (c .before .before .before .before)))
 
 pub decode-spec : {M : Type 1} → statement M
 decode-spec =
@@ -102,11 +108,13 @@ decode-spec =
     refuse-requires
     returns
     add-at
-    new-requires
-    sub-decode-components
-    part-decode-components-start
-    part-decode-components-end
-    decode-components-requires
+    sub-decode-after
+    part-decode-after-start
+    part-decode-after-end
+    slice-aggregate-decode-after
+    array-share-prefix-none
+    slice-aggregate-decode-after-2
+    decode-after-requires
     enum-known-answer
     returns-2
     add-t16

@@ -3,7 +3,6 @@ use mathlib.Core.Bool.{_&&_}
 use lib.Dec.{eqb}
 use borrow.Author.Tests.{eq-eqb, ne-eqb}
 use Rattle.path.specs.Answers.{equalTo, verdict}
-use Rattle.path.proofs.Typed.{typed}
 use Rattle.path.proofs.Compare.{equal-malformed, equal-verdict}
 use borrow.Author.Needs.{needs}
 use Rattle.path.proofs.Path.equals.Statement.{statement}
@@ -15,7 +14,7 @@ start c = c .before .before .before
 told : (c : tie.After-common) → equalTo (start c .args .self) (start c .args .other) ≡ verdict (eqb (c .common .given .0 .0) (start c .args .self .count) && eqb (c .common .given .0 .0) (start c .args .other .count))
 told c =
     let s = start c in
-    equal-verdict (s .args .self) (s .args .other) (typed (s .args .self) (s .good .0)) (typed (s .args .other) (s .good .1 .0)) _ (sym (c .before .before .longest-common-prefix .ensures) ∙ c .common .given .1)
+    equal-verdict (s .args .self) (s .args .other) _ (sym (c .before .before .longest-common-prefix .ensures) ∙ c .common .given .1)
 
 longest-common-prefix-requires : tie.Need-longest-common-prefix-requires
 longest-common-prefix-requires c κs = search needs

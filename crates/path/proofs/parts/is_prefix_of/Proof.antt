@@ -1,0 +1,49 @@
+use mathlib.Core.Path.{_≡_, sym, _∙_}
+use denote.Ref.{now}
+use lib.Dec.{eqb}
+use borrow.Author.Tests.{eq-eqb, ne-eqb}
+use Rattle.path.specs.declared.Path.{Path}
+use Rattle.path.specs.Record.{pathOf}
+use Rattle.path.specs.Answers.{prefixOf, verdict}
+use Rattle.path.proofs.Compare.{prefix-malformed, prefix-verdict}
+use borrow.Author.Needs.{needs}
+use Rattle.path.proofs.parts.is_prefix_of.Statement.{statement}
+use Rattle.path.proofs.parts.is_prefix_of.Tie as tie
+
+abbrev left : tie.Start → Path
+left c = pathOf (now (c .args .bytes)) (now (c .args .lengths)) (c .args .count)
+
+abbrev right : tie.Start → Path
+right c = pathOf (now (c .args .other-bytes)) (now (c .args .other-lengths)) (c .args .other-count)
+
+told : (c : tie.After-common) → prefixOf (left (c .before .before .before .before .before .before .before)) (right (c .before .before .before .before .before .before .before)) ≡ verdict (eqb (c .common .given .0 .0) (c .before .before .before .before .before .before .before .args .count))
+told c = prefix-verdict (left (c .before .before .before .before .before .before .before)) (right (c .before .before .before .before .before .before .before)) _ (sym (c .before .before .longest-common-prefix .ensures) ∙ c .common .given .1)
+
+longest-common-prefix-requires : tie.Need-longest-common-prefix-requires
+longest-common-prefix-requires c κs = search needs
+
+enum-known-common : tie.Need-enum-known-common
+enum-known-common c = search needs
+
+enum-told : tie.Need-enum-told
+enum-told c = search needs
+
+returns : tie.Need-returns
+returns c = sym (prefix-malformed _ _ (sym (c .before .before .longest-common-prefix .ensures) ∙ c .enum-told .given .1))
+
+returns-2 : tie.Need-returns-2
+returns-2 c = sym (told (c .before .before) ∙ rw (eq-eqb _ _ (c .if1 .taken)))
+
+returns-3 : tie.Need-returns-3
+returns-3 c = sym (told (c .before .before) ∙ rw (ne-eqb _ _ (c .if1 .left)))
+
+pub is-prefix-of-spec : {M : Type 1} → statement M
+is-prefix-of-spec =
+    tie.close
+    (tie.spec
+    longest-common-prefix-requires
+    enum-known-common
+    enum-told
+    returns
+    returns-2
+    returns-3)

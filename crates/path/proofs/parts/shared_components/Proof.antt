@@ -1,0 +1,131 @@
+use Prim.Native.Nat.{_+_, _≤_, _-_}
+use mathlib.Core.Path.{_≡_, refl, sym}
+use native.Mathlib.Omega.{arith}
+use denote.Ref.{now}
+use lib.ListN.{take, drop, getD}
+use Rattle.path.specs.Record.{pathOf}
+use Rattle.path.proofs.Components.{parts-formed}
+use Rattle.path.proofs.Compare.{agree-next, Together, together, together-next, left-ends, right-ends, left-inside, lengths-differ, bytes-differ}
+use Rattle.path.proofs.parts.shared_components.Statement.{statement}
+use Rattle.path.proofs.parts.shared_components.Tie as tie
+
+abbrev Inv-loop : tie.InvT-loop
+Inv-loop bytes lengths count other-bytes other-lengths other-count k at len i₀ i = (i ≤ len) × (take i (drop at bytes) ≡ take i (drop at other-bytes))
+
+abbrev μ-loop : tie.MeasureT-loop
+μ-loop bytes lengths count other-bytes other-lengths other-count k at len i₀ i = len - i
+
+abbrev Inv-components : tie.InvT-components
+Inv-components bytes lengths count other-bytes other-lengths other-count k₀ at₀ k at = Together (pathOf bytes lengths count) (pathOf other-bytes other-lengths other-count) k at
+
+abbrev μ-components : tie.MeasureT-components
+μ-components bytes lengths count other-bytes other-lengths other-count k₀ at₀ k at = count - k
+
+-- the component that is compared lies within the bytes
+inside : (c : tie.Else1 Inv-loop μ-loop Inv-components μ-components)
+    → c .before .before .components .at + getD (now (c .before .before .before .args .lengths)) (c .before .before .components .k) 0 ≤ 600
+inside c = left-inside (c .before .before .components .inv) (c .before .components-test .taken) (c .if1 .left)
+
+components-holds : tie.Need-components-holds Inv-loop μ-loop Inv-components μ-components
+components-holds c = together (parts-formed (c .pre .0)) (parts-formed (c .pre .1))
+
+mul-len : tie.Need-mul-len Inv-loop μ-loop Inv-components μ-components
+mul-len c = omega arith
+
+shared-slice-read-len : tie.Need-shared-slice-read-len Inv-loop μ-loop Inv-components μ-components
+shared-slice-read-len c = let t = c .before .before .before .components .inv in omega (arith, t .left .lengths, t .left .well .count)
+
+mul-if2 : tie.Need-mul-if2 Inv-loop μ-loop Inv-components μ-components
+mul-if2 c = omega arith
+
+shared-slice-read-if2 : tie.Need-shared-slice-read-if2 Inv-loop μ-loop Inv-components μ-components
+shared-slice-read-if2 c = let t = c .before .before .before .before .components .inv in omega (arith, t .right .lengths, t .right .well .count)
+
+loop-holds : tie.Need-loop-holds Inv-loop μ-loop Inv-components μ-components
+loop-holds c = (omega arith, refl)
+
+add-j : tie.Need-add-j Inv-loop μ-loop Inv-components μ-components
+add-j c = omega (arith, inside (c .before .before .before .before .before))
+
+shared-slice-read-if3 : tie.Need-shared-slice-read-if3 Inv-loop μ-loop Inv-components μ-components
+shared-slice-read-if3 c = omega (arith, inside (c .before .before .before .before .before .before), c .before .before .before .before .before .before .before .before .components .inv .left .bytes)
+
+shared-slice-read-if3-2 :
+    tie.Need-shared-slice-read-if3-2 Inv-loop μ-loop Inv-components μ-components
+shared-slice-read-if3-2 c = omega (arith, inside (c .before .before .before .before .before .before .before), c .before .before .before .before .before .before .before .before .before .components .inv .right .bytes)
+
+add-i : tie.Need-add-i Inv-loop μ-loop Inv-components μ-components
+add-i c = omega (arith, inside (c .before .before .before .before .before .before .before .before))
+
+loop-less : tie.Need-loop-less Inv-loop μ-loop Inv-components μ-components
+loop-less c = omega arith
+
+loop-again : tie.Need-loop-again Inv-loop μ-loop Inv-components μ-components
+loop-again c =
+    let e = c .before .before .before .before .before .before .before .before in
+    let l = c .before .before .before .before .loop in
+    let a = e .before .before .before .args in
+    let t = e .before .before .components .inv in
+    (omega arith, agree-next (now (a .bytes)) (now (a .other-bytes)) (e .before .before .components .at) (l .i) (omega (arith, inside e, t .left .bytes)) (omega (arith, inside e, t .right .bytes)) (l .inv .1) (c .if3 .left))
+
+add-at : tie.Need-add-at Inv-loop μ-loop Inv-components μ-components
+add-at c = omega (arith, inside (c .before .before .before .before .before))
+
+add-k : tie.Need-add-k Inv-loop μ-loop Inv-components μ-components
+add-k c = omega arith
+
+components-less : tie.Need-components-less Inv-loop μ-loop Inv-components μ-components
+components-less c = omega arith
+
+components-again : tie.Need-components-again Inv-loop μ-loop Inv-components μ-components
+components-again c =
+    let e = c .before .before .before .before .before in
+    let t = e .before .before .components .inv in
+    let len = getD (now (e .before .before .before .args .lengths)) (e .before .before .components .k) 0 in
+    let all : c .before .loop .i ≡ len = omega arith in
+    together-next t (e .before .components-test .taken) (e .if1 .left) (c .before .before .if2 .left) (rw all at (c .before .loop .inv .1))
+
+returns : tie.Need-returns Inv-loop μ-loop Inv-components μ-components
+returns c = sym (left-ends (c .before .components .inv) (omega arith))
+
+returns-2 : tie.Need-returns-2 Inv-loop μ-loop Inv-components μ-components
+returns-2 c = sym (right-ends (c .before .before .components .inv) (omega arith))
+
+returns-3 : tie.Need-returns-3 Inv-loop μ-loop Inv-components μ-components
+returns-3 c =
+    let e = c .before .before .before in
+    sym (lengths-differ (e .before .before .components .inv) (e .before .components-test .taken) (e .if1 .left) (c .if2 .taken))
+
+returns-4 : tie.Need-returns-4 Inv-loop μ-loop Inv-components μ-components
+returns-4 c =
+    let e = c .before .before .before .before .before .before .before .before in
+    sym (bytes-differ (e .before .before .components .inv) (e .before .components-test .taken) (e .if1 .left) (c .before .before .before .before .before .if2 .left) (c .before .before .before .before .loop .i) (omega arith) (c .if3 .taken))
+
+pub shared-components-spec : {M : Type 1} → statement M
+shared-components-spec =
+    tie.close
+    (tie.spec
+    Inv-loop
+    μ-loop
+    Inv-components
+    μ-components
+    components-holds
+    mul-len
+    shared-slice-read-len
+    mul-if2
+    shared-slice-read-if2
+    loop-holds
+    add-j
+    shared-slice-read-if3
+    shared-slice-read-if3-2
+    add-i
+    loop-less
+    loop-again
+    add-at
+    add-k
+    components-less
+    components-again
+    returns
+    returns-2
+    returns-3
+    returns-4)

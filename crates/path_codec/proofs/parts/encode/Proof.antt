@@ -1,0 +1,31 @@
+use mathlib.Core.Path.{ap, _∙_}
+use denote.Ref.{now}
+use lib.ListN.{length}
+use Rattle.codec.specs.Format.{Format, writeAnswer, writeBuffer}
+use Rattle.path.specs.declared.Path.{Path}
+use Rattle.path.specs.Record.{pathOf}
+use Rattle.path_codec.proofs.Plain.{plain-suffix}
+use borrow.Author.Needs.{needs}
+use Rattle.path_codec.proofs.parts.encode.Statement.{statement}
+use Rattle.path_codec.proofs.parts.encode.Tie as tie
+
+abbrev path : tie.Start → Path
+path c = pathOf (now (c .args .bytes)) (now (c .args .lengths)) (c .args .count)
+
+encode-suffix-requires : tie.Need-encode-suffix-requires
+encode-suffix-requires c κs = search needs
+
+same-length : tie.Need-same-length
+same-length c = search needs
+
+returns : tie.Need-returns
+returns c =
+    let s = c .before .before .before .before .before .before .before in
+    let l = now (s .args .buffer) in
+    let e = c .before .before .encode-suffix .ensures in (
+      e .0 ∙ ap (λ (f : Format Path). writeAnswer f (path s) (length l)) plain-suffix,
+      e .1 ∙ ap (λ (f : Format Path). writeBuffer f (path s) l) plain-suffix,
+    )
+
+pub encode-spec : {M : Type 1} → statement M
+encode-spec = tie.close (tie.spec encode-suffix-requires same-length returns)

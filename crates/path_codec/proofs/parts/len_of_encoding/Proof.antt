@@ -1,0 +1,21 @@
+use mathlib.Core.Path.{ap, _∙_}
+use denote.Ref.{now}
+use Rattle.codec.specs.Format.{Format, lengthAnswer}
+use Rattle.path.specs.declared.Path.{Path}
+use Rattle.path.specs.Record.{pathOf}
+use Rattle.path_codec.proofs.Plain.{plain-suffix}
+use borrow.Author.Needs.{needs}
+use Rattle.path_codec.proofs.parts.len_of_encoding.Statement.{statement}
+use Rattle.path_codec.proofs.parts.len_of_encoding.Tie as tie
+
+abbrev path : tie.Start → Path
+path c = pathOf (now (c .args .bytes)) (now (c .args .lengths)) (c .args .count)
+
+suffix-len-requires : tie.Need-suffix-len-requires
+suffix-len-requires c κs = search needs
+
+returns : tie.Need-returns
+returns c = c .suffix-len .ensures ∙ ap (λ (f : Format Path). lengthAnswer f (path (c .before .before .before))) plain-suffix
+
+pub len-of-encoding-spec : {M : Type 1} → statement M
+len-of-encoding-spec = tie.close (tie.spec suffix-len-requires returns)

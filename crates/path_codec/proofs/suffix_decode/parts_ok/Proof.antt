@@ -1,0 +1,82 @@
+use Prim.Native.Nat.{_+_, _*_, _≤_, _-_}
+use mathlib.Core.Path.{_≡_, refl, _∙_, sym}
+use mathlib.Core.Bool.{true}
+use denote.Ref.{now}
+use native.Mathlib.Omega.{arith}
+use borrow.Author.Tests.{lt-leb, le-leb}
+use lib.ListN.{length, drop}
+use Rattle.path.specs.Record.{sumOf, allAtMost}
+use Rattle.path.proofs.Lists.{sum-next, sum-end, at-most-next, at-most-end}
+use Rattle.path_codec.proofs.After.{parts-many, parts-long, parts-over, parts-within}
+use Rattle.path_codec.proofs.suffix_decode.parts_ok.Statement.{statement}
+use Rattle.path_codec.proofs.suffix_decode.parts_ok.Tie as tie
+
+abbrev Inv-loop : tie.InvT-loop
+Inv-loop bytes lengths total₀ i₀ total i = (i ≤ length lengths) × (total ≤ 300 * i) × (total + sumOf (drop i lengths) ≡ sumOf lengths) × (allAtMost 300 lengths ≡ allAtMost 300 (drop i lengths))
+
+abbrev μ-loop : tie.MeasureT-loop
+μ-loop bytes lengths total₀ i₀ total i = length lengths - i
+
+-- what the loop found
+sums : (c : tie.After-loop Inv-loop μ-loop) → c .before .loop .total ≡ sumOf (now (c .before .before .before .args .lengths))
+sums c = omega (arith, c .before .loop .inv .2, sum-end (now (c .before .before .before .args .lengths)) (c .before .loop .i) (omega arith))
+
+short : (c : tie.After-loop Inv-loop μ-loop) → allAtMost 300 (now (c .before .before .before .args .lengths)) ≡ true
+short c = c .before .loop .inv .3 ∙ at-most-end 300 (now (c .before .before .before .args .lengths)) (c .before .loop .i) (omega arith)
+
+returns : tie.Need-returns Inv-loop μ-loop
+returns c = sym (parts-many _ _ (c .if1 .taken))
+
+loop-holds : tie.Need-loop-holds Inv-loop μ-loop
+loop-holds c = (omega arith, omega arith, omega arith, refl)
+
+mul-len : tie.Need-mul-len Inv-loop μ-loop
+mul-len c = omega arith
+
+shared-slice-read-len : tie.Need-shared-slice-read-len Inv-loop μ-loop
+shared-slice-read-len c = omega arith
+
+returns-2 : tie.Need-returns-2 Inv-loop μ-loop
+returns-2 c =
+    let l = c .before .before .before .loop in
+    let s = now (c .before .before .before .before .before .args .lengths) in
+    sym (parts-long s _ (c .before .before .before .before .if1 .left) (l .inv .3 ∙ at-most-next 300 s (l .i) (omega arith) ∙ rw (lt-leb _ _ (c .if2 .taken))))
+
+add-total : tie.Need-add-total Inv-loop μ-loop
+add-total c = omega arith
+
+add-i : tie.Need-add-i Inv-loop μ-loop
+add-i c = omega arith
+
+loop-less : tie.Need-loop-less Inv-loop μ-loop
+loop-less c = omega arith
+
+loop-again : tie.Need-loop-again Inv-loop μ-loop
+loop-again c =
+    let l = c .before .before .before .loop in
+    let s = now (c .before .before .before .before .before .args .lengths) in
+    (omega arith, omega arith, omega (arith, l .inv .2, sum-next s (l .i) (omega arith)), l .inv .3 ∙ at-most-next 300 s (l .i) (omega arith) ∙ rw (le-leb _ _ (c .if2 .left)))
+
+returns-3 : tie.Need-returns-3 Inv-loop μ-loop
+returns-3 c = sym (parts-over _ _ (c .before .before .before .if1 .left) (short (c .before)) (omega (arith, sums (c .before))))
+
+returns-4 : tie.Need-returns-4 Inv-loop μ-loop
+returns-4 c = rw (sums (c .before)) (sym (parts-within _ _ (c .before .before .before .if1 .left) (short (c .before)) (omega (arith, sums (c .before)))))
+
+pub parts-ok-spec : {M : Type 1} → statement M
+parts-ok-spec =
+    tie.close
+    (tie.spec
+    Inv-loop
+    μ-loop
+    returns
+    loop-holds
+    mul-len
+    shared-slice-read-len
+    returns-2
+    add-total
+    add-i
+    loop-less
+    loop-again
+    returns-3
+    returns-4)

@@ -1,0 +1,74 @@
+use Prim.Native.Nat.{_≤_, _-_}
+use mathlib.Core.Path.{_≡_, refl, _∙_}
+use mathlib.Core.List.{_++_}
+use denote.Ref.{now}
+use native.Mathlib.Omega.{arith}
+use borrow.Author.Needs.{needs}
+use lib.ListN.{length, take, drop, length-set}
+use lib.Seq.{take-all}
+use Rattle.codec.proofs.Lending.{copy-next}
+use Rattle.path_codec.proofs.suffix_decode.put_lengths.Statement.{statement}
+use Rattle.path_codec.proofs.suffix_decode.put_lengths.Tie as tie
+
+abbrev Inv-loop : tie.InvT-loop
+Inv-loop lengths₀ s i₀ lengths i = (i ≤ length s) × (length lengths ≡ length lengths₀) × (lengths ≡ take i s ++ drop i lengths₀)
+
+abbrev μ-loop : tie.MeasureT-loop
+μ-loop lengths₀ s i₀ lengths i = length s - i
+
+loop-holds : tie.Need-loop-holds Inv-loop μ-loop
+loop-holds c = (omega arith, refl, refl)
+
+mul-lengths : tie.Need-mul-lengths Inv-loop μ-loop
+mul-lengths c = search needs
+
+shared-slice-read-lengths : tie.Need-shared-slice-read-lengths Inv-loop μ-loop
+shared-slice-read-lengths c = search needs
+
+mul-lengths-2 : tie.Need-mul-lengths-2 Inv-loop μ-loop
+mul-lengths-2 c = search needs
+
+slice-write-lengths : tie.Need-slice-write-lengths Inv-loop μ-loop
+slice-write-lengths c = search needs
+
+add-i : tie.Need-add-i Inv-loop μ-loop
+add-i c = search needs
+
+loop-less : tie.Need-loop-less Inv-loop μ-loop
+loop-less c = search needs
+
+loop-again : tie.Need-loop-again Inv-loop μ-loop
+loop-again c =
+    let l = c .before .before .loop in
+    let a = c .before .before .before .args in (
+      omega arith,
+      simp length-set (l .inv .1),
+      rw (l .inv .2) (copy-next (now (a .lengths)) (now (a .s)) (l .i) (omega arith) (omega arith)),
+    )
+
+same-length : tie.Need-same-length Inv-loop μ-loop
+same-length c = search needs
+
+returns : tie.Need-returns Inv-loop μ-loop
+returns c =
+    let l = c .before .loop in
+    let s = now (c .before .before .args .s) in
+    let e : l .i ≡ length s = omega arith in
+    l .inv .2 ∙ rw (e, take-all (length s) s (omega arith))
+
+pub put-lengths-spec : {M : Type 1} → statement M
+put-lengths-spec =
+    tie.close
+    (tie.spec
+    Inv-loop
+    μ-loop
+    loop-holds
+    mul-lengths
+    shared-slice-read-lengths
+    mul-lengths-2
+    slice-write-lengths
+    add-i
+    loop-less
+    loop-again
+    same-length
+    returns)

@@ -1,0 +1,66 @@
+use mathlib.Core.Path.{sym, _∙_}
+use denote.Ref.{now}
+use Rattle.path.specs.declared.Path.{Path}
+use Rattle.path.specs.Record.{pathOf}
+use Rattle.path_suffix.specs.Suffix.{suffixFrom}
+use Rattle.codec.proofs.Lending.{put-barred, same-writing}
+use Rattle.path_relative.specs.Records.{extendsPath}
+use Rattle.path_relative.proofs.Writing.{extends-malformed, extends-outside, extends-suffix}
+use borrow.Author.Needs.{needs}
+use Rattle.path_relative.proofs.parts.encode_path_extends_path.Statement.{statement}
+use Rattle.path_relative.proofs.parts.encode_path_extends_path.Tie as tie
+
+abbrev path : tie.Start → Path
+path c = pathOf (now (c .args .bytes)) (now (c .args .lengths)) (c .args .count)
+
+abbrev reference : tie.Start → Path
+reference c = pathOf (now (c .args .of-bytes)) (now (c .args .of-lengths)) (c .args .of-count)
+
+is-prefix-of-requires : tie.Need-is-prefix-of-requires
+is-prefix-of-requires c κs = search needs
+
+enum-told : tie.Need-enum-told
+enum-told c = search needs
+
+encode-suffix-requires : tie.Need-encode-suffix-requires
+encode-suffix-requires c κs = search needs
+
+enum-told-2 : tie.Need-enum-told-2
+enum-told-2 c = search needs
+
+enum-told-3 : tie.Need-enum-told-3
+enum-told-3 c = search needs
+
+same-length : tie.Need-same-length
+same-length c = search needs
+
+returns : tie.Need-returns
+returns c =
+    let s = c .before .before .before .before .before .before .before .before .before .before .before .before in
+    let same = extends-suffix (reference s) (path s) (sym (c .before .before .before .before .before .before .is-prefix-of .ensures) ∙ c .before .before .before .before .enum-told .given .1) in
+    let w = same-writing (suffixFrom (s .args .of-count)) (path s) (extendsPath (reference s)) (same .0) (same .1) (now (s .args .buffer)) in
+    (c .before .before .encode-suffix .ensures .0 ∙ w .0, c .before .before .encode-suffix .ensures .1 ∙ w .1)
+
+returns-2 : tie.Need-returns-2
+returns-2 c =
+    let s = c .before .before .before .before .before .before .before .before in
+    put-barred (extendsPath (reference s) .check (path s)) _ (now (s .args .buffer)) 3 (extends-outside (reference s) (path s) (sym (c .before .before .is-prefix-of .ensures) ∙ c .enum-told2 .given .1))
+
+returns-3 : tie.Need-returns-3
+returns-3 c =
+    let s = c .before .before .before .before .before .before .before .before in
+    put-barred (extendsPath (reference s) .check (path s)) _ (now (s .args .buffer)) 5 (extends-malformed (reference s) (path s) (sym (c .before .before .is-prefix-of .ensures) ∙ c .enum-told3 .given .1))
+
+pub encode-path-extends-path-spec : {M : Type 1} → statement M
+encode-path-extends-path-spec =
+    tie.close
+    (tie.spec
+    is-prefix-of-requires
+    enum-told
+    encode-suffix-requires
+    enum-told-2
+    enum-told-3
+    same-length
+    returns
+    returns-2
+    returns-3)

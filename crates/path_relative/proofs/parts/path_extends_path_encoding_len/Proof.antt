@@ -1,0 +1,61 @@
+use mathlib.Core.Path.{sym, _∙_}
+use denote.Ref.{now}
+use Rattle.path.specs.declared.Path.{Path}
+use Rattle.path.specs.Record.{pathOf}
+use Rattle.path_suffix.specs.Suffix.{suffixFrom}
+use Rattle.codec.proofs.Lending.{length-barred, same-length}
+use Rattle.path_relative.specs.Records.{extendsPath}
+use Rattle.path_relative.proofs.Writing.{extends-malformed, extends-outside, extends-suffix}
+use borrow.Author.Needs.{needs}
+use Rattle.path_relative.proofs.parts.path_extends_path_encoding_len.Statement.{statement}
+use Rattle.path_relative.proofs.parts.path_extends_path_encoding_len.Tie as tie
+
+abbrev path : tie.Start → Path
+path c = pathOf (now (c .args .bytes)) (now (c .args .lengths)) (c .args .count)
+
+abbrev reference : tie.Start → Path
+reference c = pathOf (now (c .args .of-bytes)) (now (c .args .of-lengths)) (c .args .of-count)
+
+is-prefix-of-requires : tie.Need-is-prefix-of-requires
+is-prefix-of-requires c κs = search needs
+
+enum-told : tie.Need-enum-told
+enum-told c = search needs
+
+suffix-len-requires : tie.Need-suffix-len-requires
+suffix-len-requires c κs = search needs
+
+enum-told-2 : tie.Need-enum-told-2
+enum-told-2 c = search needs
+
+enum-told-3 : tie.Need-enum-told-3
+enum-told-3 c = search needs
+
+returns : tie.Need-returns
+returns c =
+    let s = c .before .before .before .before .before .before .before .before in
+    let same = extends-suffix (reference s) (path s) (sym (c .before .before .before .is-prefix-of .ensures) ∙ c .before .enum-told .given .1) in
+    c .suffix-len .ensures ∙ same-length (suffixFrom (s .args .of-count)) (path s) (extendsPath (reference s)) (same .0) (same .1)
+
+returns-2 : tie.Need-returns-2
+returns-2 c =
+    let s = c .before .before .before .before .before .before .before in
+    length-barred (extendsPath (reference s)) (path s) 3 (extends-outside (reference s) (path s) (sym (c .before .before .is-prefix-of .ensures) ∙ c .enum-told2 .given .1))
+
+returns-3 : tie.Need-returns-3
+returns-3 c =
+    let s = c .before .before .before .before .before .before .before in
+    length-barred (extendsPath (reference s)) (path s) 5 (extends-malformed (reference s) (path s) (sym (c .before .before .is-prefix-of .ensures) ∙ c .enum-told3 .given .1))
+
+pub path-extends-path-encoding-len-spec : {M : Type 1} → statement M
+path-extends-path-encoding-len-spec =
+    tie.close
+    (tie.spec
+    is-prefix-of-requires
+    enum-told
+    suffix-len-requires
+    enum-told-2
+    enum-told-3
+    returns
+    returns-2
+    returns-3)

@@ -1,0 +1,57 @@
+use mathlib.Core.Path.{sym, _∙_}
+use denote.Ref.{now}
+use Rattle.path.specs.declared.Path.{Path}
+use Rattle.path.specs.Record.{pathOf}
+use Rattle.codec.proofs.Lending.{put-barred, same-writing}
+use Rattle.path_relative.specs.Records.{sharedFrom, againstPath}
+use Rattle.path_relative.proofs.Writing.{common, uncommon, shared-against}
+use borrow.Author.Needs.{needs}
+use Rattle.path_relative.proofs.parts.relative_encode.Statement.{statement}
+use Rattle.path_relative.proofs.parts.relative_encode.Tie as tie
+
+abbrev path : tie.Start → Path
+path c = pathOf (now (c .args .bytes)) (now (c .args .lengths)) (c .args .count)
+
+abbrev reference : tie.Start → Path
+reference c = pathOf (now (c .args .of-bytes)) (now (c .args .of-lengths)) (c .args .of-count)
+
+longest-common-prefix-requires : tie.Need-longest-common-prefix-requires
+longest-common-prefix-requires c κs = search needs
+
+enum-known-common : tie.Need-enum-known-common
+enum-known-common c = search needs
+
+enum-told : tie.Need-enum-told
+enum-told c = search needs
+
+returns : tie.Need-returns
+returns c =
+    let s = c .before .before .before .before .before .before .before .before in
+    let f = againstPath (reference s) in
+    let w = uncommon (reference s) (path s) (sym (c .before .before .longest-common-prefix .ensures) ∙ c .enum-told .given .1) in
+    put-barred (f .check (path s)) (f .encode (path s)) (now (s .args .buffer)) 5 (rw w)
+
+encode-shared-requires : tie.Need-encode-shared-requires
+encode-shared-requires c κs = search needs
+
+same-length : tie.Need-same-length
+same-length c = search needs
+
+returns-2 : tie.Need-returns-2
+returns-2 c =
+    let s = c .before .before .before .before .before .before .before .before .before .before .before .before .before in
+    let same = shared-against (reference s) (path s) _ (common (reference s) (path s) _ (sym (c .before .before .before .before .before .before .before .longest-common-prefix .ensures) ∙ c .before .before .before .before .before .common .given .1)) in
+    let w = same-writing (sharedFrom (c .before .before .before .before .before .common .given .0 .0)) (path s) (againstPath (reference s)) (same .0) (same .1) (now (s .args .buffer)) in
+    (c .before .before .encode-shared .ensures .0 ∙ w .0, c .before .before .encode-shared .ensures .1 ∙ w .1)
+
+pub relative-encode-spec : {M : Type 1} → statement M
+relative-encode-spec =
+    tie.close
+    (tie.spec
+    longest-common-prefix-requires
+    enum-known-common
+    enum-told
+    returns
+    encode-shared-requires
+    same-length
+    returns-2)

@@ -1,0 +1,50 @@
+use mathlib.Core.Path.{sym, _∙_}
+use denote.Ref.{now}
+use Rattle.path.specs.declared.Path.{Path}
+use Rattle.path.specs.Record.{pathOf}
+use Rattle.codec.proofs.Lending.{length-barred, same-length}
+use Rattle.path_relative.specs.Records.{sharedFrom, againstPath}
+use Rattle.path_relative.proofs.Writing.{common, uncommon, shared-against}
+use borrow.Author.Needs.{needs}
+use Rattle.path_relative.proofs.parts.relative_len_of_encoding.Statement.{statement}
+use Rattle.path_relative.proofs.parts.relative_len_of_encoding.Tie as tie
+
+abbrev path : tie.Start → Path
+path c = pathOf (now (c .args .bytes)) (now (c .args .lengths)) (c .args .count)
+
+abbrev reference : tie.Start → Path
+reference c = pathOf (now (c .args .of-bytes)) (now (c .args .of-lengths)) (c .args .of-count)
+
+longest-common-prefix-requires : tie.Need-longest-common-prefix-requires
+longest-common-prefix-requires c κs = search needs
+
+enum-known-common : tie.Need-enum-known-common
+enum-known-common c = search needs
+
+enum-told : tie.Need-enum-told
+enum-told c = search needs
+
+returns : tie.Need-returns
+returns c =
+    let s = c .before .before .before .before .before .before .before in
+    length-barred (againstPath (reference s)) (path s) 5 (rw (uncommon (reference s) (path s) (sym (c .before .before .longest-common-prefix .ensures) ∙ c .enum-told .given .1)))
+
+shared-len-requires : tie.Need-shared-len-requires
+shared-len-requires c κs = search needs
+
+returns-2 : tie.Need-returns-2
+returns-2 c =
+    let s = c .before .before .before .before .before .before .before .before .before in
+    let same = shared-against (reference s) (path s) _ (common (reference s) (path s) _ (sym (c .before .before .before .before .longest-common-prefix .ensures) ∙ c .before .before .common .given .1)) in
+    c .shared-len .ensures ∙ same-length (sharedFrom (c .before .before .common .given .0 .0)) (path s) (againstPath (reference s)) (same .0) (same .1)
+
+pub relative-len-of-encoding-spec : {M : Type 1} → statement M
+relative-len-of-encoding-spec =
+    tie.close
+    (tie.spec
+    longest-common-prefix-requires
+    enum-known-common
+    enum-told
+    returns
+    shared-len-requires
+    returns-2)

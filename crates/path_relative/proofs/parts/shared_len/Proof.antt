@@ -1,0 +1,61 @@
+use mathlib.Core.Path.{_≡_, sym, ap, _∙_}
+use native.Mathlib.Omega.{arith}
+use denote.Ref.{now}
+use Rattle.path.specs.declared.Path.{Path}
+use Rattle.path.specs.Record.{pathOf}
+use Rattle.path_suffix.specs.Suffix.{suffixFrom}
+use lib.ListN.{length}
+use Rattle.codec.specs.Format.{allowed}
+use Rattle.codec.specs.Answers.{outcomeOf}
+use Rattle.codec.proofs.Lending.{length-barred, length-allowed, length-wrote, length-denied, no-length}
+use Rattle.path_relative.specs.Records.{sharedFrom}
+use Rattle.path_relative.proofs.Writing.{suffix-within, shared-long}
+use borrow.Author.Needs.{needs}
+use Rattle.path_relative.proofs.parts.shared_len.Statement.{statement}
+use Rattle.path_relative.proofs.parts.shared_len.Tie as tie
+
+abbrev path : tie.Start → Path
+path c = pathOf (now (c .args .bytes)) (now (c .args .lengths)) (c .args .count)
+
+-- the suffix's length
+suffix-is : (c : tie.After-known-told)
+    → (suffixFrom (c .before .before .before .before .before .before .args .k) .check (path (c .before .before .before .before .before .before)) ≡ allowed) × (c .before .suffix .given .0 .0 ≡ length (suffixFrom (c .before .before .before .before .before .before .args .k) .encode (path (c .before .before .before .before .before .before))))
+suffix-is c = length-wrote (suffixFrom (c .before .before .before .before .before .before .args .k)) (path (c .before .before .before .before .before .before)) _ (sym (c .before .before .before .suffix-len .ensures) ∙ ap outcomeOf (c .before .suffix .given .1))
+
+suffix-len-requires : tie.Need-suffix-len-requires
+suffix-len-requires c κs = search needs
+
+enum-known-suffix : tie.Need-enum-known-suffix
+enum-known-suffix c = search needs
+
+returns : tie.Need-returns
+returns c =
+    let s = c .before .before .before .before in
+    let none = no-length (c .before .suffix-len .result) (c .match .keys2) in
+    none .is ∙ length-barred (sharedFrom (s .args .k)) (path s) (none .why) (length-denied (suffixFrom (s .args .k)) (path s) (none .why) (sym (c .before .suffix-len .ensures) ∙ none .is))
+
+len-of-encoding-requires : tie.Need-len-of-encoding-requires
+len-of-encoding-requires c κs = search needs
+
+add-t9 : tie.Need-add-t9
+add-t9 c =
+    let s = c .before .before .before .before .before .before .before in
+    let l = suffix-is (c .before) in
+    omega (arith, l .1, suffix-within (path s) (s .args .k) (l .0), c .len-of-encoding .ensures)
+
+returns-2 : tie.Need-returns-2
+returns-2 c =
+    let s = c .before .before .before .before .before .before .before in
+    let l = suffix-is (c .before) in
+    length-allowed (sharedFrom (s .args .k)) (path s) _ (l .0) (shared-long (path s) (s .args .k) _ _ (c .len-of-encoding .ensures .0) (l .1))
+
+pub shared-len-spec : {M : Type 1} → statement M
+shared-len-spec =
+    tie.close
+    (tie.spec
+    suffix-len-requires
+    enum-known-suffix
+    returns
+    len-of-encoding-requires
+    add-t9
+    returns-2)

@@ -1,0 +1,139 @@
+use mathlib.Core.Path.{_≡_, refl, sym, ap, _∙_}
+use mathlib.Core.Bool.{true}
+use Prim.Native.Nat.{_≤_}
+use denote.Ref.{now}
+use native.Mathlib.Omega.{arith}
+use lib.Dec.{eqb}
+use lib.ListN.{length, take}
+use lib.Seq.{length-take-le}
+use borrow.Author.Tests.{not-true, not-false}
+use Rattle.codec.specs.Answers.{accepted, answerOf}
+use Rattle.codec.specs.Reader.{passed}
+use Rattle.codec.specs.declared.Decoded.{Decoded}
+use Rattle.codec.proofs.Answers.{gives-refused, bind-refused}
+use Rattle.path.specs.declared.Path.{Path}
+use Rattle.path.specs.Record.{sumOf, componentsOf, pathOf}
+use Rattle.path.specs.Prefix.{shared}
+use Rattle.path.proofs.Components.{parts-formed}
+use Rattle.path_codec.specs.Plain.{readAfter}
+use Rattle.path_codec.specs.Answers.{GivesPath}
+use Rattle.path_codec.proofs.Yields.{After}
+use Rattle.path_relative.specs.Records.{readJoined}
+use Rattle.path_relative.proofs.Leading.{lead-long, lead-small, lead-read, no-more, no-rest, stands-here, stands-read, same-judged, other-judged}
+use Rattle.path_relative.proofs.Exits.{joined-after, joined-lenient, joined-strict}
+use borrow.Author.Needs.{needs}
+use Rattle.path_relative.proofs.path_decode.decode_joined.Statement.{statement}
+use Rattle.path_relative.proofs.path_decode.decode_joined.Tie as tie
+
+abbrev reference : tie.Start → Path
+reference s = pathOf (now (s .args .bytes)) (now (s .args .lengths)) (s .args .count)
+
+inside : (c : tie.After-sum) → c .sum .result ≤ length (now (c .before .before .before .before .before .args .bytes))
+inside c =
+    let s = c .before .before .before .before .before in
+    omega (arith, c .sum .ensures, lead-small (reference s) (s .pre .formed) (s .args .k) (s .pre .there), parts-formed (s .pre .formed) .bytes)
+
+-- the components that follow, after the reference's first
+after : (c : tie.After-decode-after) → let a = c .before .before .before .before .before .before .before .before .args in
+    GivesPath (c .decode-after .result) (readAfter (a .canonic) (take (a .k) (now (a .lengths))) (take (sumOf (take (a .k) (now (a .lengths)))) (now (a .bytes))) (a .total) (a .more) (now (a .message)))
+after c = rw (c .before .before .before .sum .ensures) at (c .decode-after .ensures)
+
+taken : (c : tie.After-enum-told) → let a = c .before .before .before .before .before .before .before .before .before .before .before .args in
+    readAfter (a .canonic) (take (a .k) (now (a .lengths))) (take (sumOf (take (a .k) (now (a .lengths)))) (now (a .bytes))) (a .total) (a .more) (now (a .message))
+    ≡ accepted (c .before .before .before .decode-after .result .path) (c .enum-told .given .0 .0)
+taken c = sym (after (c .before .before .before) .answer) ∙ ap (λ (d : Decoded). answerOf d (c .before .before .before .decode-after .result .path)) (c .enum-told .given .1)
+
+read : (c : tie.After-enum-told) → let s = c .before .before .before .before .before .before .before .before .before .before .before in After (take (s .args .k) (componentsOf (reference s))) (c .before .before .before .decode-after .result .path)
+read c =
+    let s = c .before .before .before .before .before .before .before .before .before .before .before in
+    lead-read (reference s) (s .pre .formed) (s .args .k) (s .pre .there) _ _ _ _ _ _ (λ i. omega (arith, c .before .before .before .before .before .before .before .before .before .shared-slice-known2 .given i)) (λ i. omega (arith, c .before .before .before .before .before .before .before .before .before .before .shared-slice-known .given i)) (taken c)
+
+-- strictly, the shared count decides
+judged : (c : tie.After-enum-told) → let s = c .before .before .before .before .before .before .before .before .before .before .before in let p = c .before .before .before .decode-after .result .path in
+    readJoined (s .args .canonic) (reference s) (s .args .k) (s .args .total) (s .args .more) (now (s .args .message))
+    ≡ passed (eqb (shared (componentsOf (reference s)) (componentsOf p)) (s .args .k)) (accepted p (c .enum-told .given .0 .0))
+judged c =
+    let s = c .before .before .before .before .before .before .before .before .before .before .before in
+    joined-strict _ (reference s) (s .pre .formed) _ (s .pre .there) _ _ _ _ _ (not-false _ (c .before .before .if1 .left)) (taken c)
+
+accepts : (c : tie.After-enum-told) → let s = c .before .before .before .before .before .before .before .before .before .before .before in let p = c .before .before .before .decode-after .result .path in
+    eqb (shared (componentsOf (reference s)) (componentsOf p)) (s .args .k) ≡ true
+    → GivesPath (c .before .before .before .decode-after .result) (readJoined (s .args .canonic) (reference s) (s .args .k) (s .args .total) (s .args .more) (now (s .args .message)))
+accepts c ok =
+    let e = rw ok at (judged c) in
+    record { answer = ap (λ (d : Decoded). answerOf d (c .before .before .before .decode-after .result .path)) (c .enum-told .given .1) ∙ sym e; value = rw e }
+
+slice-aggregate-sum : tie.Need-slice-aggregate-sum
+slice-aggregate-sum c = let s = c .before .before .before .before in sym (lead-long (reference s) (s .pre .formed) (s .args .k) (s .pre .there))
+
+sum-requires : tie.Need-sum-requires
+sum-requires c κs = let s = c .before .before .before .before in omega (arith, lead-small (reference s) (s .pre .formed) (s .args .k) (s .pre .there))
+
+slice-aggregate-decode-after : tie.Need-slice-aggregate-decode-after
+slice-aggregate-decode-after c = sym (length-take-le _ _ (inside (c .before)))
+
+slice-aggregate-decode-after-2 : tie.Need-slice-aggregate-decode-after-2
+slice-aggregate-decode-after-2 c = let s = c .before .before .before .before .before .before .before in sym (lead-long (reference s) (s .pre .formed) (s .args .k) (s .pre .there))
+
+decode-after-requires : tie.Need-decode-after-requires
+decode-after-requires c κs = search needs
+
+returns : tie.Need-returns
+returns c =
+    let s = c .before .before .before .before .before .before .before .before .before in
+    rw (joined-lenient _ (reference s) (s .pre .formed) _ (s .pre .there) _ _ _ (not-true _ (c .if1 .taken))) (after (c .before))
+
+enum-told : tie.Need-enum-told
+enum-told c = search needs
+
+returns-2 : tie.Need-returns-2
+returns-2 c =
+    let s = c .before .before .before .before .before .before .before .before .before .before in
+    rw (joined-after _ (reference s) (s .pre .formed) _ (s .pre .there) _ _ _) (bind-refused _ _ (c .match .keys2) (after (c .before .before)))
+
+returns-3 : tie.Need-returns-3
+returns-3 c = let s = c .before .before .before .before .before .before .before .before .before .before .before .before in accepts (c .before) (no-more (reference s) (s .pre .formed) _ (s .pre .there) _ (read (c .before)) (c .if2 .taken))
+
+returns-4 : tie.Need-returns-4
+returns-4 c = let s = c .before .before .before .before .before .before .before .before .before .before .before .before .before in accepts (c .before .before) (no-rest (reference s) (s .pre .formed) _ (s .pre .there) _ (read (c .before .before)) (c .before .if2 .left) (c .if3 .taken))
+
+same-component-requires : tie.Need-same-component-requires
+same-component-requires c κs =
+    let s = c .before .before .before .before .before .before .before .before .before .before .before .before .before .before .before .before .before .before in
+    let x = read (c .before .before .before .before .before .before .before) in
+    rw (c .before .before .before .before .before .before .before .before .before .before .before .before .before .sum .ensures) (stands-here (reference s) (s .pre .formed) _ (s .pre .there) _ x (c .before .before .before .before .before .before .if2 .left), stands-read (reference s) (s .pre .formed) _ (s .pre .there) _ x (c .before .before .before .before .before .before .if2 .left) (c .before .before .before .before .before .if3 .left))
+
+refuse-requires : tie.Need-refuse-requires
+refuse-requires c κs = search needs
+
+returns-5 : tie.Need-returns-5
+returns-5 c =
+    let s = c .before .before .before .before .before .before .before .before .before .before .before .before .before .before .before .before .before .before .before .before .before in
+    let e = rw (c .before .before .before .before .before .before .before .before .before .before .before .before .before .before .before .before .sum .ensures) at (sym (c .before .before .same-component .ensures) ∙ c .before .if4 .taken) in
+    let no = same-judged (reference s) (s .pre .formed) _ (s .pre .there) _ (read (c .before .before .before .before .before .before .before .before .before .before)) (c .before .before .before .before .before .before .before .before .before .if2 .left) (c .before .before .before .before .before .before .before .before .if3 .left) e in
+    rw (c .refuse .ensures) (gives-refused 2 refl (judged (c .before .before .before .before .before .before .before .before .before .before) ∙ rw no))
+
+returns-6 : tie.Need-returns-6
+returns-6 c =
+    let s = c .before .before .before .before .before .before .before .before .before .before .before .before .before .before .before .before .before .before .before .before in
+    let e = rw (c .before .before .before .before .before .before .before .before .before .before .before .before .before .before .before .sum .ensures) at (sym (c .before .same-component .ensures) ∙ c .if4 .left) in
+    accepts (c .before .before .before .before .before .before .before .before .before) (other-judged (reference s) (s .pre .formed) _ (s .pre .there) _ (read (c .before .before .before .before .before .before .before .before .before)) (c .before .before .before .before .before .before .before .before .if2 .left) (c .before .before .before .before .before .before .before .if3 .left) e)
+
+pub decode-joined-spec : {M : Type 1} → statement M
+decode-joined-spec =
+    tie.close
+    (tie.spec
+    slice-aggregate-sum
+    sum-requires
+    slice-aggregate-decode-after
+    slice-aggregate-decode-after-2
+    decode-after-requires
+    returns
+    enum-told
+    returns-2
+    returns-3
+    returns-4
+    same-component-requires
+    refuse-requires
+    returns-5
+    returns-6)

@@ -1,0 +1,28 @@
+use mathlib.Core.Path.{refl, sym, ap, _∙_}
+use Rattle.codec.specs.Answers.{answerOf}
+use Rattle.codec.specs.declared.Decoded.{Decoded}
+use Rattle.codec.proofs.Answers.{gives-refused, bind-refused}
+use borrow.Author.Needs.{needs}
+use Rattle.path_relative.proofs.path_decode.decode_outside.Statement.{statement}
+use Rattle.path_relative.proofs.path_decode.decode_outside.Tie as tie
+
+decode-requires : tie.Need-decode-requires
+decode-requires c κs = search needs
+
+enum-told : tie.Need-enum-told
+enum-told c = search needs
+
+returns : tie.Need-returns
+returns c = bind-refused _ _ (c .match .keys2) (c .before .decode .ensures)
+
+refuse-requires : tie.Need-refuse-requires
+refuse-requires c κs = search needs
+
+returns-2 : tie.Need-returns-2
+returns-2 c =
+    let taken = sym (c .before .before .before .decode .ensures .answer) ∙ ap (λ (d : Decoded). answerOf d (c .before .before .before .decode .result .path)) (c .before .enum-told .given .1) in
+    rw (c .refuse .ensures) (gives-refused 2 refl (rw taken))
+
+pub decode-outside-spec : {M : Type 1} → statement M
+decode-outside-spec =
+    tie.close (tie.spec decode-requires enum-told returns refuse-requires returns-2)

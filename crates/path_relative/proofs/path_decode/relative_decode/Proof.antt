@@ -1,0 +1,190 @@
+use mathlib.Core.Path.{_≡_, refl, sym, ap, _∙_}
+use mathlib.Core.List.{[]}
+use mathlib.Core.Bool.{true}
+use Prim.Native.Nat.{_≤_, _<_, _+_, _^_}
+use native.Mathlib.Omega.{arith}
+use denote.Ref.{now}
+use lib.ListN.{length, drop, length-drop}
+use borrow.Author.Tests.{not-true, not-false}
+use Rattle.codec.specs.Answers.{accepted, answerOf}
+use Rattle.codec.specs.Reader.{shift}
+use Rattle.codec.specs.declared.Decoded.{Decoded}
+use Rattle.codec.proofs.Answers.{gives-refused, later-accepted, later-refused}
+use Rattle.codec.proofs.Lending.{to-end}
+use Rattle.compact_u64.specs.Number.{readStandalone}
+use Rattle.compact_u64.specs.Answers.{numberAnswer}
+use Rattle.compact_u64.proofs.Exits.{refused-number, standalone-inside}
+use Rattle.path.specs.declared.Path.{Path}
+use Rattle.path.specs.Record.{pathFrom, pathOf, wellFormed}
+use Rattle.path.proofs.Components.{parts-formed, count-is}
+use Rattle.path_suffix.specs.Suffix.{sizesFrom, readSizes}
+use Rattle.path_codec.specs.Answers.{GivesPath, sizesAnswer}
+use Rattle.path_codec.proofs.Exits.{no-sizes, sizes-inside}
+use Rattle.path_relative.specs.Records.{readJoined, readAgainstPath}
+use Rattle.path_relative.proofs.Exits.{against-malformed, against-first, against-sizes, against-above, against-joined, joined-bounded}
+use borrow.Author.Needs.{needs}
+use Rattle.path_relative.proofs.path_decode.relative_decode.Statement.{statement}
+use Rattle.path_relative.proofs.path_decode.relative_decode.Tie as tie
+
+abbrev reference : tie.Start → Path
+reference s = pathOf (now (s .args .bytes)) (now (s .args .lengths)) (s .args .count)
+
+-- what the language says of the message
+short : (s : tie.Start) → length (now (s .args .message)) < 2 ^ 64
+short s = omega arith
+
+well : (c : tie.Else1) → wellFormed (reference (c .before .before .before .before .before)) ≡ true
+well c = sym (c .before .well-formed .ensures) ∙ not-false _ (c .if1 .left)
+
+-- the shared count
+shared-are : (c : tie.After-known-told) → let a = c .before .before .before .before .before .before .before .before .before .args in let h = c .before .number .given .0 in
+    readStandalone (a .canonic) (drop (a .start) (now (a .message))) ≡ accepted (h .0) (h .1 .0)
+shared-are c = sym (c .before .before .before .decode .ensures) ∙ ap numberAnswer (c .before .number .given .1)
+
+first-inside : (c : tie.After-known-told) → c .before .before .before .before .before .before .before .before .before .args .start + c .before .number .given .0 .1 .0 ≤ length (now (c .before .before .before .before .before .before .before .before .before .args .message))
+first-inside c = let a = c .before .before .before .before .before .before .before .before .before .args in standalone-inside (a .canonic) (now (a .message)) (a .start) _ _ (shared-are c)
+
+-- the sizes, and where the components begin
+sizes-are : (c : tie.After-known-told2) → let a = c .before .before .before .before .before .before .before .before .before .before .before .before .before .args in let h = c .before .sizes .given .0 in
+    readSizes (a .canonic) (drop (a .start + c .before .before .before .before .before .number .given .0 .1 .0) (now (a .message))) ≡ accepted (sizesFrom (h .0) (h .1 .0)) (h .1 .1 .0)
+sizes-are c = sym (c .before .before .before .decode-sizes .ensures) ∙ ap sizesAnswer (c .before .sizes .given .1)
+
+begins : (c : tie.After-known-told2) → c .before .before .before .before .before .before .before .before .before .before .before .before .before .args .start + c .before .before .before .before .before .number .given .0 .1 .0 + c .before .sizes .given .0 .1 .1 .0 ≤ length (now (c .before .before .before .before .before .before .before .before .before .before .before .before .before .args .message))
+begins c = let a = c .before .before .before .before .before .before .before .before .before .before .before .before .before .args in sizes-inside (a .canonic) (now (a .message)) (a .start + c .before .before .before .before .before .number .given .0 .1 .0) _ _ (sizes-are c)
+
+-- what follows them
+joined-are : (c : tie.After-decode-joined) → let s = c .before .before .before .before .before .before .before .before .before .before .before .before .before .before .before .before in let h = c .before .before .before .before .sizes .given .0 in let n = c .before .before .before .before .before .before .before .before .number .given .0 in
+    GivesPath (c .decode-joined .result) (readJoined (s .args .canonic) (reference s) (n .0) (h .0) (h .1 .0) (drop (s .args .start + n .1 .0 + h .1 .1 .0) (now (s .args .message))))
+joined-are c =
+    let a = c .before .before .before .before .before .before .before .before .before .before .before .before .before .before .before .before .args in
+    rw (to-end (a .start + c .before .before .before .before .before .before .before .before .number .given .0 .1 .0 + c .before .before .before .before .sizes .given .0 .1 .1 .0) (now (a .message))) at (c .decode-joined .ensures)
+
+joined-at : (c : tie.After-decode-joined) → let s = c .before .before .before .before .before .before .before .before .before .before .before .before .before .before .before .before in let h = c .before .before .before .before .sizes .given .0 in let n = c .before .before .before .before .before .before .before .before .number .given .0 in
+    readAgainstPath (s .args .canonic) (reference s) (drop (s .args .start) (now (s .args .message)))
+    ≡ shift (n .1 .0) (shift (h .1 .1 .0) (readJoined (s .args .canonic) (reference s) (n .0) (h .0) (h .1 .0) (drop (s .args .start + n .1 .0 + h .1 .1 .0) (now (s .args .message)))))
+joined-at c = let s = c .before .before .before .before .before .before .before .before .before .before .before .before .before .before .before .before in against-joined _ (reference s) (well (c .before .before .before .before .before .before .before .before .before .before .before)) (now (s .args .message)) (s .args .start) _ _ (shared-are (c .before .before .before .before .before .before .before)) _ _ _ (sizes-are (c .before .before .before))
+
+inside : (c : tie.After-path) → c .before .before .before .before .before .before .before .before .before .before .before .before .before .before .before .before .before .before .before .before .args .start + c .before .before .before .before .before .before .before .before .before .before .before .before .number .given .0 .1 .0 + c .before .before .before .before .before .before .before .before .sizes .given .0 .1 .1 .0 + c .before .before .answer .given .0 .0 ≤ length (now (c .before .before .before .before .before .before .before .before .before .before .before .before .before .before .before .before .before .before .before .before .args .message))
+inside c =
+    let s = c .before .before .before .before .before .before .before .before .before .before .before .before .before .before .before .before .before .before .before .before in
+    let at = s .args .start + c .before .before .before .before .before .before .before .before .before .before .before .before .number .given .0 .1 .0 + c .before .before .before .before .before .before .before .before .sizes .given .0 .1 .1 .0 in
+    let e = sym (joined-are (c .before .before .before .before) .answer) ∙ ap (λ (d : Decoded). answerOf d (c .before .before .before .before .decode-joined .result .path)) (c .before .before .answer .given .1) in
+    omega (arith, begins (c .before .before .before .before .before .before .before), joined-bounded (s .args .canonic) (reference s) _ _ _ .bound (drop at (now (s .args .message))) _ _ e, length-drop at (now (s .args .message)))
+
+well-formed-requires : tie.Need-well-formed-requires
+well-formed-requires c κs = search needs
+
+refuse-requires : tie.Need-refuse-requires
+refuse-requires c κs = search needs
+
+returns : tie.Need-returns
+returns c = rw (c .refuse .ensures) (gives-refused 5 refl (against-malformed _ _ _ (sym (c .before .before .well-formed .ensures) ∙ not-true _ (c .before .if1 .taken))))
+
+decode-requires : tie.Need-decode-requires
+decode-requires c κs = search needs
+
+enum-known-number : tie.Need-enum-known-number
+enum-known-number c = search needs
+
+refusal-requires : tie.Need-refusal-requires
+refusal-requires c κs = search needs
+
+refuse-requires-2 : tie.Need-refuse-requires-2
+refuse-requires-2 c κs = search needs
+
+returns-2 : tie.Need-returns-2
+returns-2 c =
+    let s = c .before .before .before .before .before .before .before .before .before in
+    let x = refused-number (pathFrom []) (c .before .before .before .decode .result) (c .before .before .match .keys2) in
+    rw (c .refuse2 .ensures, c .before .refusal .ensures) (gives-refused (x .why) (x .whole) (against-first _ (reference s) (well (c .before .before .before .before)) (now (s .args .message)) (s .args .start) (x .why) (sym (c .before .before .before .decode .ensures) ∙ x .number)))
+
+add-first : tie.Need-add-first
+add-first c = omega (arith, first-inside c)
+
+decode-sizes-requires : tie.Need-decode-sizes-requires
+decode-sizes-requires c κs = search needs
+
+enum-known-sizes : tie.Need-enum-known-sizes
+enum-known-sizes c = search needs
+
+sizes-refusal-requires : tie.Need-sizes-refusal-requires
+sizes-refusal-requires c κs = search needs
+
+refuse-requires-3 : tie.Need-refuse-requires-3
+refuse-requires-3 c κs = search needs
+
+returns-3 : tie.Need-returns-3
+returns-3 c =
+    let s = c .before .before .before .before .before .before .before .before .before .before .before .before .before in
+    let x = no-sizes (c .before .before .before .decode-sizes .result) (c .before .before .match2 .keys2) in
+    rw (c .refuse3 .ensures, c .before .sizes-refusal .ensures) (gives-refused (x .why) (x .path) (against-sizes _ (reference s) (well (c .before .before .before .before .before .before .before .before)) (now (s .args .message)) (s .args .start) _ _ (shared-are (c .before .before .before .before)) (x .why) (sym (c .before .before .before .decode-sizes .ensures) ∙ x .sizes)))
+
+refuse-requires-4 : tie.Need-refuse-requires-4
+refuse-requires-4 c κs = search needs
+
+returns-4 : tie.Need-returns-4
+returns-4 c =
+    let s = c .before .before .before .before .before .before .before .before .before .before .before .before .before .before .before in
+    let w = well (c .before .before .before .before .before .before .before .before .before .before) in
+    rw (c .refuse4 .ensures) (gives-refused 2 refl (against-above _ (reference s) w (now (s .args .message)) (s .args .start) _ _ (shared-are (c .before .before .before .before .before .before)) _ _ _ (sizes-are (c .before .before)) (omega (arith, c .before .if2 .taken, count-is (reference s) (parts-formed w)))))
+
+add-at : tie.Need-add-at
+add-at c = omega (arith, begins (c .before))
+
+sub-decode-joined : tie.Need-sub-decode-joined
+sub-decode-joined c = begins (c .before)
+
+part-decode-joined-start : tie.Need-part-decode-joined-start
+part-decode-joined-start c = omega (arith, begins (c .before))
+
+part-decode-joined-end : tie.Need-part-decode-joined-end
+part-decode-joined-end c = search needs
+
+decode-joined-requires : tie.Need-decode-joined-requires
+decode-joined-requires c κs = record { formed = well (c .before .before .before .before .before .before .before .before .before .before); there = omega (arith, c .before .if2 .left) }
+
+enum-known-answer : tie.Need-enum-known-answer
+enum-known-answer c = search needs
+
+returns-5 : tie.Need-returns-5
+returns-5 c = rw (joined-at (c .before)) (later-refused _ _ (c .match3 .keys2) (later-refused _ _ (c .match3 .keys2) (joined-are (c .before))))
+
+add-t29 : tie.Need-add-t29
+add-t29 c = omega (arith, inside c, short (c .before .before .before .before .before .before .before .before .before .before .before .before .before .before .before .before .before .before .before .before))
+
+add-t32 : tie.Need-add-t32
+add-t32 c = omega (arith, inside c, short (c .before .before .before .before .before .before .before .before .before .before .before .before .before .before .before .before .before .before .before .before))
+
+returns-6 : tie.Need-returns-6
+returns-6 c = rw (joined-at (c .before .before .before .before)) (later-accepted _ _ _ refl (later-accepted _ _ _ (c .before .before .answer .given .1) (joined-are (c .before .before .before .before))))
+
+pub relative-decode-spec : {M : Type 1} → statement M
+relative-decode-spec =
+    tie.close
+    (tie.spec
+    well-formed-requires
+    refuse-requires
+    returns
+    decode-requires
+    enum-known-number
+    refusal-requires
+    refuse-requires-2
+    returns-2
+    add-first
+    decode-sizes-requires
+    enum-known-sizes
+    sizes-refusal-requires
+    refuse-requires-3
+    returns-3
+    refuse-requires-4
+    returns-4
+    add-at
+    sub-decode-joined
+    part-decode-joined-start
+    part-decode-joined-end
+    decode-joined-requires
+    enum-known-answer
+    returns-5
+    add-t29
+    add-t32
+    returns-6)

@@ -1,0 +1,54 @@
+use Prim.Native.Nat.{_+_, _≤_, _-_}
+use mathlib.Core.Path.{_≡_}
+use denote.Ref.{now}
+use native.Mathlib.Omega.{arith}
+use lib.ListN.{length, drop}
+use Rattle.path.specs.Record.{sumOf}
+use Rattle.path.proofs.Lists.{sum-next, sum-end}
+use Rattle.path_relative.proofs.path_decode.sum.Statement.{statement}
+use Rattle.path_relative.proofs.path_decode.sum.Tie as tie
+
+abbrev Inv-loop : tie.InvT-loop
+Inv-loop s t₀ i₀ t i = (i ≤ length s) × (t + sumOf (drop i s) ≡ sumOf s)
+
+abbrev μ-loop : tie.MeasureT-loop
+μ-loop s t₀ i₀ t i = length s - i
+
+loop-holds : tie.Need-loop-holds Inv-loop μ-loop
+loop-holds c = (omega arith, omega arith)
+
+mul-t : tie.Need-mul-t Inv-loop μ-loop
+mul-t c = omega arith
+
+shared-slice-read-t : tie.Need-shared-slice-read-t Inv-loop μ-loop
+shared-slice-read-t c = omega arith
+
+add-t : tie.Need-add-t Inv-loop μ-loop
+add-t c = let s = now (c .before .before .before .args .s) in omega (arith, sum-next s (c .before .before .loop .i) (omega arith))
+
+add-i : tie.Need-add-i Inv-loop μ-loop
+add-i c = omega arith
+
+loop-less : tie.Need-loop-less Inv-loop μ-loop
+loop-less c = omega arith
+
+loop-again : tie.Need-loop-again Inv-loop μ-loop
+loop-again c = let s = now (c .before .before .before .args .s) in omega (arith, sum-next s (c .before .before .loop .i) (omega arith))
+
+returns : tie.Need-returns Inv-loop μ-loop
+returns c = omega (arith, sum-end (now (c .before .before .args .s)) (c .before .loop .i) (omega arith))
+
+pub sum-spec : {M : Type 1} → statement M
+sum-spec =
+    tie.close
+    (tie.spec
+    Inv-loop
+    μ-loop
+    loop-holds
+    mul-t
+    shared-slice-read-t
+    add-t
+    add-i
+    loop-less
+    loop-again
+    returns)

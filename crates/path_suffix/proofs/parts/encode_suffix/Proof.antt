@@ -1,0 +1,127 @@
+use Prim.Native.Nat.{_≤_}
+use mathlib.Core.Path.{_≡_, _∙_, sym}
+use mathlib.Core.Bool.{true}
+use denote.Ref.{now}
+use native.Mathlib.Omega.{arith}
+use borrow.Author.Tests.{not-true, not-false}
+use lib.ListN.{length, take}
+use lib.Seq.{length-take-le}
+use Rattle.codec.proofs.Lending.{put-barred, put-full, put-fits, to-end}
+use Rattle.path.specs.declared.Path.{Path}
+use Rattle.path.specs.Record.{pathOf, sumOf, wellFormed}
+use Rattle.path.proofs.Components.{Formed, parts-formed}
+use Rattle.path_suffix.specs.Suffix.{suffixFrom}
+use Rattle.path_suffix.proofs.Writing.{suffix-malformed, suffix-outside, suffix-allowed}
+use Rattle.path_suffix.proofs.Lengths.{suffix-cut, suffix-sum, suffix-lengths, suffix-there, suffix-is-long}
+use borrow.Author.Needs.{needs}
+use Rattle.path_suffix.proofs.parts.encode_suffix.Statement.{statement}
+use Rattle.path_suffix.proofs.parts.encode_suffix.Tie as tie
+
+abbrev path : tie.Start → Path
+path c = pathOf (now (c .args .bytes)) (now (c .args .lengths)) (c .args .count)
+
+well : (c : tie.Else1) → wellFormed (path (c .before .before .before .before .before)) ≡ true
+well c = sym (c .before .well-formed .ensures) ∙ not-false _ (c .if1 .left)
+
+here : (c : tie.Else1) → Formed (path (c .before .before .before .before .before))
+here c = parts-formed (well c)
+
+-- past both tests
+sums : (c : tie.Else2) → sumOf (take (c .before .before .before .before .before .before .args .k) (now (c .before .before .before .before .before .before .args .lengths))) ≤ 600
+sums c = omega (arith, suffix-sum (path (c .before .before .before .before .before .before)) (here (c .before)) (c .before .before .before .before .before .before .args .k) (c .if2 .left))
+
+long : (c : tie.After-len-of) → c .len-of .result ≡ length (suffixFrom (c .before .before .before .before .before .before .before .before .args .k) .encode (path (c .before .before .before .before .before .before .before .before)))
+long c = c .len-of .ensures .0 ∙ suffix-is-long (path (c .before .before .before .before .before .before .before .before)) (here (c .before .before .before)) (c .before .before .before .before .before .before .before .before .args .k) (c .before .before .if2 .left)
+
+well-formed-requires : tie.Need-well-formed-requires
+well-formed-requires c κs = search needs
+
+returns : tie.Need-returns
+returns c = put-barred _ _ (now (c .before .before .before .before .before .args .buffer)) 5 (suffix-malformed _ _ (sym (c .before .well-formed .ensures) ∙ not-true _ (c .if1 .taken)))
+
+returns-2 : tie.Need-returns-2
+returns-2 c = put-barred _ _ (now (c .before .before .before .before .before .before .args .buffer)) 3 (suffix-outside _ _ (well (c .before)) (c .if2 .taken))
+
+mul-len-of : tie.Need-mul-len-of
+mul-len-of c = omega (arith, here (c .before) .well .count)
+
+part-len-of-start : tie.Need-part-len-of-start
+part-len-of-start c = search needs
+
+part-len-of-end : tie.Need-part-len-of-end
+part-len-of-end c = omega (arith, here (c .before) .well .count, here (c .before) .lengths)
+
+len-of-requires : tie.Need-len-of-requires
+len-of-requires c κs = suffix-lengths _ (here (c .before .before)) _ (c .before .if2 .left)
+
+returns-3 : tie.Need-returns-3
+returns-3 c = put-full _ _ (now (c .before .before .before .before .before .before .before .before .before .args .buffer)) (suffix-allowed _ _ (well (c .before .before .before .before)) (c .before .before .before .if2 .left)) _ (long (c .before)) (c .if3 .taken)
+
+slice-aggregate-total-of : tie.Need-slice-aggregate-total-of
+slice-aggregate-total-of c = let f = here (c .before .before .before .before .before) in let a = c .before .before .before .before .before .before .before .before .before .before .args in sym (length-take-le (a .k) (now (a .lengths)) (omega (arith, f .lengths, f .well .count)))
+
+total-of-requires : tie.Need-total-of-requires
+total-of-requires c κs = omega (arith, sums (c .before .before .before .before))
+
+sub-put-suffix : tie.Need-sub-put-suffix
+sub-put-suffix c = omega (arith, sums (c .before .before .before .before .before .before), here (c .before .before .before .before .before .before .before) .bytes, c .before .total-of .ensures)
+
+part-put-suffix-start : tie.Need-part-put-suffix-start
+part-put-suffix-start c = omega (arith, sums (c .before .before .before .before .before .before), here (c .before .before .before .before .before .before .before) .bytes, c .before .total-of .ensures)
+
+part-put-suffix-end : tie.Need-part-put-suffix-end
+part-put-suffix-end c = omega (arith, here (c .before .before .before .before .before .before .before) .bytes)
+
+mul-put-suffix : tie.Need-mul-put-suffix
+mul-put-suffix c = omega (arith, here (c .before .before .before .before .before .before .before .before) .well .count)
+
+part-put-suffix-start-2 : tie.Need-part-put-suffix-start-2
+part-put-suffix-start-2 c = search needs
+
+part-put-suffix-end-2 : tie.Need-part-put-suffix-end-2
+part-put-suffix-end-2 c = omega (arith, here (c .before .before .before .before .before .before .before .before) .well .count, here (c .before .before .before .before .before .before .before .before) .lengths)
+
+put-suffix-requires : tie.Need-put-suffix-requires
+put-suffix-requires c κs =
+    let f = here (c .before .before .before .before .before .before .before .before .before) in
+    let s = c .before .before .before .before .before .before .before .before .before .before .before .before .before .before in
+    let at = c .before .before .before .total-of in
+    let tail = to-end (at .result) (now (s .args .bytes)) in
+    rw (tail, at .ensures) (suffix-there (path s) f (s .args .k) (c .before .before .before .before .before .before .before .before .if2 .left), rw (← (suffix-cut (path s) f (s .args .k) (c .before .before .before .before .before .before .before .before .if2 .left))) (omega (arith, long (c .before .before .before .before .before .before), c .before .before .before .before .before .if3 .left)))
+
+same-length : tie.Need-same-length
+same-length c = search needs
+
+returns-4 : tie.Need-returns-4
+returns-4 c =
+    let s = c .before .before .before .before .before .before .before .before .before .before .before .before .before .before .before .before .before in
+    let h = c .before .before .before .before .before .before .before .before .before .before .before .if2 .left in
+    let f = here (c .before .before .before .before .before .before .before .before .before .before .before .before) in
+    let at = c .before .before .before .before .before .before .total-of in
+    let tail = to-end (at .result) (now (s .args .bytes)) in
+    let put = put-fits _ (suffixFrom (s .args .k) .encode (path s)) (now (s .args .buffer)) (suffix-allowed (path s) (s .args .k) (well (c .before .before .before .before .before .before .before .before .before .before .before .before)) h) _ (long (c .before .before .before .before .before .before .before .before .before)) (c .before .before .before .before .before .before .before .before .if3 .left) in
+    (put .0, rw (tail, at .ensures, ← (suffix-cut (path s) f (s .args .k) h)) at (c .before .before .put-suffix .ensures .1) ∙ put .1)
+
+pub encode-suffix-spec : {M : Type 1} → statement M
+encode-suffix-spec =
+    tie.close
+    (tie.spec
+    well-formed-requires
+    returns
+    returns-2
+    mul-len-of
+    part-len-of-start
+    part-len-of-end
+    len-of-requires
+    returns-3
+    slice-aggregate-total-of
+    total-of-requires
+    sub-put-suffix
+    part-put-suffix-start
+    part-put-suffix-end
+    mul-put-suffix
+    part-put-suffix-start-2
+    part-put-suffix-end-2
+    put-suffix-requires
+    same-length
+    returns-4)

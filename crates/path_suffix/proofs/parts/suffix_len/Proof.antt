@@ -1,0 +1,64 @@
+use mathlib.Core.Path.{_≡_, _∙_, sym}
+use mathlib.Core.Bool.{true}
+use denote.Ref.{now}
+use native.Mathlib.Omega.{arith}
+use borrow.Author.Tests.{not-true, not-false}
+use Rattle.codec.proofs.Lending.{length-barred, length-allowed}
+use Rattle.path.specs.declared.Path.{Path}
+use Rattle.path.specs.Record.{pathOf, wellFormed}
+use Rattle.path.proofs.Components.{Formed, parts-formed}
+use Rattle.path_suffix.specs.Suffix.{suffixFrom}
+use Rattle.path_suffix.proofs.Writing.{suffix-malformed, suffix-outside, suffix-allowed}
+use Rattle.path_suffix.proofs.Lengths.{suffix-lengths, suffix-is-long}
+use borrow.Author.Needs.{needs}
+use Rattle.path_suffix.proofs.parts.suffix_len.Statement.{statement}
+use Rattle.path_suffix.proofs.parts.suffix_len.Tie as tie
+
+abbrev path : tie.Start → Path
+path c = pathOf (now (c .args .bytes)) (now (c .args .lengths)) (c .args .count)
+
+well : (c : tie.Else1) → wellFormed (path (c .before .before .before .before)) ≡ true
+well c = sym (c .before .well-formed .ensures) ∙ not-false _ (c .if1 .left)
+
+here : (c : tie.Else1) → Formed (path (c .before .before .before .before))
+here c = parts-formed (well c)
+
+well-formed-requires : tie.Need-well-formed-requires
+well-formed-requires c κs = search needs
+
+returns : tie.Need-returns
+returns c = length-barred _ (path (c .before .before .before .before)) 5 (suffix-malformed _ _ (sym (c .before .well-formed .ensures) ∙ not-true _ (c .if1 .taken)))
+
+returns-2 : tie.Need-returns-2
+returns-2 c = length-barred _ (path (c .before .before .before .before .before)) 3 (suffix-outside _ _ (well (c .before)) (c .if2 .taken))
+
+mul-len-of : tie.Need-mul-len-of
+mul-len-of c = omega (arith, here (c .before) .well .count)
+
+part-len-of-start : tie.Need-part-len-of-start
+part-len-of-start c = search needs
+
+part-len-of-end : tie.Need-part-len-of-end
+part-len-of-end c = omega (arith, here (c .before) .well .count, here (c .before) .lengths)
+
+len-of-requires : tie.Need-len-of-requires
+len-of-requires c κs = suffix-lengths _ (here (c .before .before)) _ (c .before .if2 .left)
+
+returns-3 : tie.Need-returns-3
+returns-3 c =
+    let s = c .before .before .before .before .before .before .before in
+    let long = c .len-of .ensures .0 ∙ suffix-is-long (path s) (here (c .before .before .before)) (s .args .k) (c .before .before .if2 .left) in
+    length-allowed (suffixFrom (s .args .k)) (path s) _ (suffix-allowed _ _ (well (c .before .before .before)) (c .before .before .if2 .left)) long
+
+pub suffix-len-spec : {M : Type 1} → statement M
+suffix-len-spec =
+    tie.close
+    (tie.spec
+    well-formed-requires
+    returns
+    returns-2
+    mul-len-of
+    part-len-of-start
+    part-len-of-end
+    len-of-requires
+    returns-3)
