@@ -1,5 +1,5 @@
 -- What the writers' definitions say at each step of the code.
-use mathlib.Core.Path.{_≡_, refl, sym, ap, _∙_}
+use mathlib.Core.Path.{_≡_, refl, sym, _∙_}
 use mathlib.Core.List.{List, [], _++_, append-assoc}
 use mathlib.Core.Bool.{Bool, true, false, cond, _&&_, not, true≢false, false≢true}
 use mathlib.Core.Option.{none, some}
@@ -19,13 +19,11 @@ use Rattle.path.specs.Answers.{verdict, prefixOf}
 use Rattle.path_suffix.specs.Suffix.{suffixFrom}
 use Rattle.path_relative.specs.Extension.{extensionBytes}
 use Rattle.path_relative.specs.Records.{extendsPath}
-use Rattle.path_relative.proofs.Extension.{extension-short}
-use Rattle.path_relative.proofs.Writing.{extends-suffix, rest-refused, rest-written}
+use Rattle.path_relative.proofs.Writing.{suffix-within, extends-suffix, rest-refused, rest-written}
 use Rattle.grouping.specs.declared.AreaSubspace.{AreaSubspace}
 use Rattle.grouping.specs.declared.Area.{Area}
 use Rattle.grouping.specs.Area.{liesInside}
-use Rattle.grouping.specs.Record.{subspaceOf, areaOf, wellFormedSubspace, wellFormedArea, areaInside, TypedArea}
-use Rattle.grouping.proofs.Record.{apart-area}
+use Rattle.grouping.specs.Record.{subspaceOf, areaOf, wellFormedSubspace, wellFormedArea, areaInside}
 use Rattle.area_times.specs.Times.{timesBytes}
 use Rattle.area_area.specs.Area.{idWritten, subspaceBytes, startBytes, areaBytes, headBytes}
 use Rattle.area_area.specs.Records.{againstArea}
@@ -86,36 +84,33 @@ module _ (r a : Area) where
     unfolding prefixOf
     path-allowed = yes-allowed (wellFormed (r .path) && wellFormed (a .path)) (isPrefix (componentsOf (r .path)) (componentsOf (a .path))) prefixed
 
-    module _ (t : TypedArea r) (u : TypedArea a) where
-      -- the path is written as its suffix after the reference's
-      suffixed : (suffixFrom (r .path .count) .check (a .path) ≡ extendsPath (r .path) .check (a .path)) × (suffixFrom (r .path .count) .encode (a .path) ≡ extendsPath (r .path) .encode (a .path))
-      suffixed = extends-suffix (r .path) (a .path) (t .path) (u .path) prefixed
+    -- the path is written as its suffix after the reference's
+    suffixed : (suffixFrom (r .path .count) .check (a .path) ≡ extendsPath (r .path) .check (a .path)) × (suffixFrom (r .path .count) .encode (a .path) ≡ extendsPath (r .path) .encode (a .path))
+    suffixed = extends-suffix (r .path) (a .path) prefixed
 
-      pub suffix-allowed : suffixFrom (r .path .count) .check (a .path) ≡ allowed
-      suffix-allowed = suffixed .0 ∙ path-allowed
+    pub suffix-allowed : suffixFrom (r .path .count) .check (a .path) ≡ allowed
+    suffix-allowed = suffixed .0 ∙ path-allowed
 
-      pub suffix-short : length (suffixFrom (r .path .count) .encode (a .path)) ≤ 800
-      suffix-short =
-          let p = apart-area a u (and-right (wellFormedArea r) _ (verdicts .0)) .ok in
-          omega (arith, ap length (suffixed .1), extension-short (componentsOf (r .path)) (componentsOf (a .path)), p .total, p .count)
+    pub suffix-short : length (suffixFrom (r .path .count) .encode (a .path)) ≤ 1000
+    suffix-short = suffix-within (a .path) (r .path .count) suffix-allowed
 
-      area-bytes : againstArea r .encode a ≡ headBytes (subspaceOf (r .subspace)) (r .times) (subspaceOf (a .subspace)) (a .times) ++ suffixFrom (r .path .count) .encode (a .path)
-      unfolding areaBytes
-      area-bytes = rw (suffixed .1) (sym (append-assoc (startBytes (areaOf r) (areaOf a)) (timesBytes (r .times) (a .times)) (extensionBytes (componentsOf (r .path)) (componentsOf (a .path)))))
+    area-bytes : againstArea r .encode a ≡ headBytes (subspaceOf (r .subspace)) (r .times) (subspaceOf (a .subspace)) (a .times) ++ suffixFrom (r .path .count) .encode (a .path)
+    unfolding areaBytes
+    area-bytes = rw (suffixed .1) (sym (append-assoc (startBytes (areaOf r) (areaOf a)) (timesBytes (r .times) (a .times)) (extensionBytes (componentsOf (r .path)) (componentsOf (a .path)))))
 
-      -- what comes before the path, then the path
-      module _ (n : ℕ) (en : n ≡ length (headBytes (subspaceOf (r .subspace)) (r .times) (subspaceOf (a .subspace)) (a .times))) where
-        pub area-long : (m : ℕ) → m ≡ length (suffixFrom (r .path .count) .encode (a .path)) → n + m ≡ length (againstArea r .encode a)
-        area-long m em = rw area-bytes (rw length-append (omega (arith, en, em)))
+    -- what comes before the path, then the path
+    module _ (n : ℕ) (en : n ≡ length (headBytes (subspaceOf (r .subspace)) (r .times) (subspaceOf (a .subspace)) (a .times))) where
+      pub area-long : (m : ℕ) → m ≡ length (suffixFrom (r .path .count) .encode (a .path)) → n + m ≡ length (againstArea r .encode a)
+      area-long m em = rw area-bytes (rw length-append (omega (arith, en, em)))
 
-        pub area-full : (l : List ℕ) → length l < n → (denied 4 ≡ writeAnswer (againstArea r) a (length l)) × (l ≡ writeBuffer (againstArea r) a l)
-        area-full l h = put-full (againstArea r .check a) (againstArea r .encode a) l ok _ (area-long _ refl) (omega arith)
+      pub area-full : (l : List ℕ) → length l < n → (denied 4 ≡ writeAnswer (againstArea r) a (length l)) × (l ≡ writeBuffer (againstArea r) a l)
+      area-full l h = put-full (againstArea r .check a) (againstArea r .encode a) l ok _ (area-long _ refl) (omega arith)
 
-        module _ (l : List ℕ) (h : n ≤ length l) where
-          pub area-refused : (why : ℕ) (ys : List ℕ) → writeAnswer (suffixFrom (r .path .count)) (a .path) (length (drop n l)) ≡ denied why → ys ≡ writeBuffer (suffixFrom (r .path .count)) (a .path) (drop n l)
-              → (denied why ≡ writeAnswer (againstArea r) a (length l)) × (take n l ++ ys ≡ writeBuffer (againstArea r) a l)
-          area-refused why ys e put = rw (ok, area-bytes) (rest-refused (headBytes (subspaceOf (r .subspace)) (r .times) (subspaceOf (a .subspace)) (a .times)) (suffixFrom (r .path .count) .encode (a .path)) l n en h why ys (rw suffix-allowed at e) (rw suffix-allowed at put))
+      module _ (l : List ℕ) (h : n ≤ length l) where
+        pub area-refused : (why : ℕ) (ys : List ℕ) → writeAnswer (suffixFrom (r .path .count)) (a .path) (length (drop n l)) ≡ denied why → ys ≡ writeBuffer (suffixFrom (r .path .count)) (a .path) (drop n l)
+            → (denied why ≡ writeAnswer (againstArea r) a (length l)) × (take n l ++ ys ≡ writeBuffer (againstArea r) a l)
+        area-refused why ys e put = rw (ok, area-bytes) (rest-refused (headBytes (subspaceOf (r .subspace)) (r .times) (subspaceOf (a .subspace)) (a .times)) (suffixFrom (r .path .count) .encode (a .path)) l n en h why ys (rw suffix-allowed at e) (rw suffix-allowed at put))
 
-          pub area-written : (m : ℕ) (ys : List ℕ) → writeAnswer (suffixFrom (r .path .count)) (a .path) (length (drop n l)) ≡ wrote m → ys ≡ writeBuffer (suffixFrom (r .path .count)) (a .path) (drop n l)
-              → (wrote (n + m) ≡ writeAnswer (againstArea r) a (length l)) × (over (headBytes (subspaceOf (r .subspace)) (r .times) (subspaceOf (a .subspace)) (a .times)) (take n l ++ ys) ≡ writeBuffer (againstArea r) a l)
-          area-written m ys e put = rw (ok, area-bytes) (rest-written (headBytes (subspaceOf (r .subspace)) (r .times) (subspaceOf (a .subspace)) (a .times)) (suffixFrom (r .path .count) .encode (a .path)) l n en h m ys (rw suffix-allowed at e) (rw suffix-allowed at put))
+        pub area-written : (m : ℕ) (ys : List ℕ) → writeAnswer (suffixFrom (r .path .count)) (a .path) (length (drop n l)) ≡ wrote m → ys ≡ writeBuffer (suffixFrom (r .path .count)) (a .path) (drop n l)
+            → (wrote (n + m) ≡ writeAnswer (againstArea r) a (length l)) × (over (headBytes (subspaceOf (r .subspace)) (r .times) (subspaceOf (a .subspace)) (a .times)) (take n l ++ ys) ≡ writeBuffer (againstArea r) a l)
+        area-written m ys e put = rw (ok, area-bytes) (rest-written (headBytes (subspaceOf (r .subspace)) (r .times) (subspaceOf (a .subspace)) (a .times)) (suffixFrom (r .path .count) .encode (a .path)) l n en h m ys (rw suffix-allowed at e) (rw suffix-allowed at put))

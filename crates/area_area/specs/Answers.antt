@@ -1,8 +1,12 @@
 -- What stands beside a reader's answer.
 use mathlib.Core.List.{[]}
+use mathlib.Core.Bool.{cond}
 use mathlib.Core.Option.{none}
 use Rattle.codec.specs.Answers.{Answer, Gives}
 use Rattle.codec.specs.declared.Decoded.{Decoded}
+use Rattle.codec.specs.declared.Decoded.the-variants as decoded
+use Rattle.path.specs.declared.Path.{Path}
+use Rattle.path.specs.Record.{wellFormed}
 use Rattle.grouping.specs.declared.Area.{Area}
 use Rattle.grouping.specs.declared.RangeEnd.the-variants.{Closed}
 use Rattle.grouping.specs.Record.{areaFrom}
@@ -19,3 +23,7 @@ GivesArea r x = Gives emptyArea (r .answer) (r .area) x
 
 unfoldable pub refusal : Decoded → DecodedArea
 refusal d = record { answer = d; area = emptyArea }
+
+-- 5 first, where the path of the reference is not well formed
+unfoldable pub earlyRefusal : Path → Decoded → DecodedArea
+earlyRefusal p d = refusal (cond (wellFormed p) d decoded.Malformed)

@@ -2,10 +2,12 @@
 use mathlib.Core.Bool.{Bool, _&&_}
 use Rattle.codec.specs.Format.{Format, verdictBy}
 use Rattle.codec.specs.Reader.{Reader, mapped, onFormed}
+use Rattle.path.specs.Record.{wellFormed}
 use Rattle.grouping.specs.declared.Area.{Area}
 use Rattle.grouping.specs.Area.{liesInside}
 use Rattle.grouping.specs.Record.{areaOf, areaFrom, wellFormedArea}
-use Rattle.area_area.specs.Area.{areaBytes, readArea}
+use Rattle.area_times.specs.declared.Header.{Header}
+use Rattle.area_area.specs.Area.{areaBytes, readParts, readArea}
 
 abbrev pub againstArea : Area → Format Area
 againstArea r = record {
@@ -15,3 +17,7 @@ againstArea r = record {
 
 unfoldable pub readAgainstArea : Bool → Area → Reader Area
 readAgainstArea canonic r = onFormed (wellFormedArea r) (mapped areaFrom (readArea canonic (areaOf r)))
+
+-- ---- inside the reader: what follows the header, 5 tested on the path of the reference alone
+unfoldable pub readPartsOf : Bool → Area → Header → Reader Area
+readPartsOf canonic r h = onFormed (wellFormed (r .path)) (mapped areaFrom (readParts canonic (areaOf r) h))

@@ -1,11 +1,16 @@
-// Reading what follows the header: the id, the times and the path.
+// Reading what follows the header: the id, the times and the path. The reference's path is tested where it is read against, and before that only
+// beside a refusal.
 ghost use mathlib.Core.Path.{_≡_};
 ghost use mathlib.Core.Bool.{true};
+ghost use Prim.Native.Nat.{_+_, _<_, _^_};
+ghost use lib.ListN.{length};
 ghost use Rattle.codec.specs.Answers.{answerOf};
-ghost use Rattle.codec.specs.Reader.{mapped};
-ghost use Rattle.grouping.specs.Record.{subspaceOf, subspaceFrom, wellFormedSubspace, areaOf, areaFrom, wellFormedArea};
-ghost use Rattle.area_area.specs.Area.{readSubspace, readParts};
-ghost use Rattle.area_area.specs.Answers.{GivesArea, refusal};
+ghost use Rattle.codec.specs.Reader.{shift, mapped};
+ghost use Rattle.path.specs.Record.{pathOf};
+ghost use Rattle.grouping.specs.Record.{subspaceOf, subspaceFrom, wellFormedSubspace, areaWith};
+ghost use Rattle.area_area.specs.Area.{readSubspace};
+ghost use Rattle.area_area.specs.Records.{readPartsOf};
+ghost use Rattle.area_area.specs.Answers.{GivesArea, refusal, earlyRefusal};
 use crate::DecodedArea;
 use crate::DecodedSubspace;
 use area_times::Header;
@@ -35,6 +40,22 @@ pub(crate) fn refuse(answer: Decoded) -> DecodedArea
             },
         },
     }
+}
+
+// A refusal before the path of the reference is tested: 5 where it is not well formed.
+pub(crate) fn refuse_early<'a>(
+    answer: Decoded,
+    of_bytes: &'a [u8],
+    of_lengths: &'a [usize],
+    of_count: usize,
+) -> DecodedArea
+    ensures { λ r. ⌜ r ≡ earlyRefusal (pathOf (now («of_bytes» .entry)) (now («of_lengths» .entry)) «of_count») answer ⌝ }
+{
+    let well = path::parts::well_formed(of_bytes, of_lengths, of_count);
+    if !well {
+        return refuse(Decoded::Malformed);
+    }
+    refuse(answer)
 }
 
 fn decode_subspace(
@@ -81,27 +102,39 @@ fn decode_subspace(
     }
 }
 
-pub(crate) fn decode_parts(
-    message: &[u8],
+// Reads what follows the header, whose byte is counted too.
+pub(crate) fn decode_parts<'a>(
+    message: &'a [u8],
     canonic: bool,
-    reference: Area,
+    of_subspace: AreaSubspace,
+    of_times: TimeRange,
+    of_bytes: &'a [u8],
+    of_lengths: &'a [usize],
+    of_count: usize,
     header: Header,
 ) -> DecodedArea
-    requires { ⌜ wellFormedArea reference ≡ true ⌝ }
-    ensures { λ r. ⌜ GivesArea r (mapped areaFrom (readParts canonic (areaOf reference) header) (now (message .entry))) ⌝ }
+    requires { ⌜ (wellFormedSubspace «of_subspace» ≡ true) × (1 + length (now message) < 2 ^ 64) ⌝ }
+    ensures { λ r. ⌜ GivesArea r (shift 1 (readPartsOf canonic (areaWith «of_subspace» (pathOf (now («of_bytes» .entry)) (now («of_lengths» .entry)) «of_count») «of_times») header (now (message .entry)))) ⌝ }
 {
-    let first = decode_subspace(message, canonic, reference.subspace, header.id_written);
+    let first = decode_subspace(message, canonic, of_subspace, header.id_written);
     let first_answer = first.answer;
     let Decoded::Consumed(a) = first_answer else {
-        return refuse(first_answer);
+        return refuse_early(first_answer, of_bytes, of_lengths, of_count);
     };
-    let second = area_times::relative_decode(&message[a..], canonic, reference.times, header);
+    let second = area_times::relative_decode(&message[a..], canonic, of_times, header);
     let second_answer = second.answer;
     let Decoded::Consumed(b) = second_answer else {
-        return refuse(second_answer);
+        return refuse_early(second_answer, of_bytes, of_lengths, of_count);
     };
     let at = a + b;
-    let third = path_relative::decode_path_extends_path(&message[at..], 0, canonic, reference.path);
+    let third = path_relative::path_decode::decode_path_extends_path(
+        &message[at..],
+        0,
+        canonic,
+        of_bytes,
+        of_lengths,
+        of_count,
+    );
     let third_answer = third.answer;
     let Decoded::Consumed(c) = third_answer else {
         return refuse(third_answer);
@@ -110,7 +143,7 @@ pub(crate) fn decode_parts(
     let path = third.path;
     let times = second.times;
     DecodedArea {
-        answer: Decoded::Consumed(a + (b + c)),
+        answer: Decoded::Consumed(1 + (a + (b + c))),
         area: Area {
             subspace: subspace,
             path: path,

@@ -1,13 +1,16 @@
 -- What the language says of a record, from what owning one tells.
+use mathlib.Core.Path.{_≡_}
 use mathlib.Core.List.{List}
 use Prim.Native.Nat.{ℕ}
 use native.Mathlib.Omega.{arith}
+use lib.ListN.{length}
 use mir.Val.{Val}
 use denote.Laws.{Is}
 use denote.Struct.Declared as struct
 use borrow.Author.Needs.{length-unmapped}
 use Rattle.path.proofs.Typed.{each-byte, typed}
 use Rattle.entry.specs.declared.Entry.{Entry}
+use Rattle.entry.specs.declared.EntryFields.{EntryFields}
 use Rattle.entry.specs.Record.{TypedEntry}
 
 pub typed-entry : (e : Entry) {vs : List Val} → Is (struct.row Rattle.entry.proofs.Entry.the-type) e vs → TypedEntry e
@@ -23,3 +26,13 @@ typed-entry e g =
       size = omega (arith, g .1 .1 .1 .1 .1 .1 .0 .1);
       digest = (length-unmapped ℕ (e .«payload_digest») 32 (d .1 .0 .1), each-byte (e .«payload_digest») (d .0) (d .1 .1));
     }
+
+-- ids of an entry's fields
+pub namespace-long : (f : EntryFields) {vs : List Val} → Is (struct.row Rattle.entry.proofs.EntryFields.the-type) f vs → length (f .«namespace_id») ≡ 32
+namespace-long f g = length-unmapped ℕ (f .«namespace_id») 32 (g .1 .1 .0 .1 .0 .1)
+
+pub digest-long : (f : EntryFields) {vs : List Val} → Is (struct.row Rattle.entry.proofs.EntryFields.the-type) f vs → length (f .«payload_digest») ≡ 32
+digest-long f g = length-unmapped ℕ (f .«payload_digest») 32 (g .1 .1 .1 .1 .1 .1 .0 .1 .0 .1)
+
+pub subspace-long : (f : EntryFields) {vs : List Val} → Is (struct.row Rattle.entry.proofs.EntryFields.the-type) f vs → length (f .«subspace_id») ≡ 32
+subspace-long f g = length-unmapped ℕ (f .«subspace_id») 32 (g .1 .1 .1 .0 .1 .0 .1)

@@ -4,6 +4,7 @@ use mathlib.Core.Bool.{Bool, cond, _&&_}
 use Prim.Native.Nat.{ℕ}
 use Rattle.codec.specs.Bytes.{TypedId}
 use Rattle.compact_u64.specs.Number.{U64}
+use Rattle.path.specs.declared.Path.{Path}
 use Rattle.path.specs.declared.Compared.{Compared}
 use Rattle.path.specs.declared.Compared.the-variants as compared
 use Rattle.path.specs.Record.{componentsOf, pathFrom, wellFormed, TypedPath}
@@ -11,6 +12,7 @@ use Rattle.path.specs.Answers.{verdict}
 use Rattle.grouping.specs.declared.Area.{Area}
 use Rattle.grouping.specs.Record.{areaOf, wellFormedArea}
 use Rattle.entry.specs.declared.Entry.{Entry}
+use Rattle.entry.specs.declared.EntryFields.{EntryFields}
 use Rattle.entry.specs.Entry.{EntryValue, liesInsideArea}
 
 -- ---- the values of a record, and the record of values
@@ -32,6 +34,26 @@ entryFrom v = record {
   timestamp = v .time;
   «payload_length» = v .size;
   «payload_digest» = v .digest;
+}
+
+-- ---- an entry by its path and what it has beside it
+abbrev pub fieldsOf : Entry → EntryFields
+fieldsOf e = record {
+  «namespace_id» = e .«namespace_id»;
+  «subspace_id» = e .«subspace_id»;
+  timestamp = e .timestamp;
+  «payload_length» = e .«payload_length»;
+  «payload_digest» = e .«payload_digest»;
+}
+
+abbrev pub entryWith : EntryFields → Path → Entry
+entryWith f path = record {
+  «namespace_id» = f .«namespace_id»;
+  «subspace_id» = f .«subspace_id»;
+  path = path;
+  timestamp = f .timestamp;
+  «payload_length» = f .«payload_length»;
+  «payload_digest» = f .«payload_digest»;
 }
 
 -- ---- well formed: what 5 tests

@@ -1,17 +1,27 @@
 // Entries: docs/FORMAT.md, "Entries". A port of entry.rs, as far as the codecs use it.
 ghost use mathlib.Core.Path.{_≡_};
-ghost use Rattle.entry.specs.Record.{wellFormedEntry, entryInside};
+ghost use Rattle.entry.specs.Record.{fieldsOf, wellFormedEntry, entryInside};
 ghost use Rattle.entry.specs.Answers.{refusal};
 use codec::Decoded;
 use grouping::Area;
-use grouping::AreaSubspace;
 use path::Compared;
 use path::Path;
+
+pub mod parts;
 
 pub struct Entry {
     pub namespace_id: [u8; 32],
     pub subspace_id: [u8; 32],
     pub path: Path,
+    pub timestamp: u64,
+    pub payload_length: u64,
+    pub payload_digest: [u8; 32],
+}
+
+// What an entry has beside its path.
+pub struct EntryFields {
+    pub namespace_id: [u8; 32],
+    pub subspace_id: [u8; 32],
     pub timestamp: u64,
     pub payload_length: u64,
     pub payload_digest: [u8; 32],
@@ -42,6 +52,21 @@ pub fn refuse(answer: Decoded) -> DecodedEntry
 }
 
 impl Entry {
+    pub fn fields(self) -> EntryFields
+        ensures { λ r. ⌜ r ≡ fieldsOf self ⌝ }
+    {
+        let namespace_id = self.namespace_id;
+        let subspace_id = self.subspace_id;
+        let payload_digest = self.payload_digest;
+        EntryFields {
+            namespace_id: namespace_id,
+            subspace_id: subspace_id,
+            timestamp: self.timestamp,
+            payload_length: self.payload_length,
+            payload_digest: payload_digest,
+        }
+    }
+
     pub fn well_formed(self) -> bool
         ensures { λ r. ⌜ r ≡ wellFormedEntry self ⌝ }
     {
@@ -52,32 +77,20 @@ impl Entry {
     pub fn lies_inside(self, namespace: [u8; 32], area: Area) -> Compared
         ensures { λ r. ⌜ r ≡ entryInside namespace area self ⌝ }
     {
-        let well = area.subspace.well_formed();
-        if !well {
-            return Compared::Malformed;
-        }
-        let prefix = area.path.is_prefix_of(self.path);
-        let Compared::Yes = prefix else {
-            return prefix;
-        };
-        let id = self.namespace_id;
-        let same = codec::same_bytes(&namespace, &id);
-        if !same {
-            return Compared::No;
-        }
-        let subspace_id = self.subspace_id;
-        let subspace = AreaSubspace {
-            any: false,
-            id: subspace_id,
-        };
-        let included = area.subspace.includes_area_subspace(subspace);
-        if !included {
-            return Compared::No;
-        }
-        let time = area.times.includes(self.timestamp);
-        if !time {
-            return Compared::No;
-        }
-        Compared::Yes
+        let fields = self.fields();
+        let path = self.path;
+        let of = area.path;
+        parts::lies_inside(
+            fields,
+            &path.bytes,
+            &path.lengths,
+            path.count,
+            namespace,
+            area.subspace,
+            area.times,
+            &of.bytes,
+            &of.lengths,
+            of.count,
+        )
     }
 }

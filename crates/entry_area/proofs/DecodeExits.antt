@@ -1,38 +1,58 @@
 -- What the readers' definitions answer at each exit of the code.
 use mathlib.Core.Path.{_≡_, refl, sym, ap, _∙_}
-use mathlib.Core.List.{List}
+use mathlib.Core.List.{List, _++_}
 use mathlib.Core.Bool.{Bool, true, false, cond, Bool·beq}
 use mathlib.Core.Option.{none, some}
 use Prim.Native.Nat.{ℕ, suc, _+_, _≤_, _<_}
 use native.Mathlib.Omega.{arith}
 use native.Mathlib.Numerals.{add-one}
-use lib.ListN.{length, drop, getD, length-drop, drop-of-length-le}
-use lib.Seq.{drop-cons, drop-drop}
-use borrow.Author.Tests.{eq-eqb, ne-eqb}
-use Rattle.codec.specs.Answers.{Answer, accepted, refused}
-use Rattle.codec.specs.Reader.{shift, named, passed, someBytes, checked, mapped}
-use Rattle.codec.proofs.Bounded.{checked-bounded, mapped-bounded}
-use Rattle.codec.proofs.Readers.{named-inv, named-refused}
+use lib.Dec.{eqb}
+use lib.ListN.{length, take, drop, getD, length-drop, drop-of-length-le}
+use lib.Seq.{drop-cons, take-length, take-append-seam}
+use borrow.Author.Tests.{eqb-true, eq-eqb, ne-eqb}
+use Rattle.codec.specs.Answers.{Answer, accepted, refused, answerOf}
+use Rattle.codec.specs.declared.Decoded.{Decoded}
+use Rattle.codec.specs.declared.Decoded.the-variants as decoded
+use Rattle.codec.specs.Reader.{Reader, shift, passed, named, someBytes, checked, mapped, onFormed}
+use Rattle.codec.proofs.Answers.{gives-refused}
+use Rattle.codec.proofs.Readers.{bind-inv, shift-inv, passed-inv, named-inv, named-refused}
+use Rattle.compact_u64.specs.Number.{readStandalone}
 use Rattle.path.specs.declared.Path.{Path}
-use Rattle.path.specs.Prefix.{isPrefix}
+use Rattle.path.specs.Prefix.{shared, isPrefix}
 use Rattle.path.specs.Record.{componentsOf, pathFrom, wellFormed}
 use Rattle.path.proofs.Record.{components-of}
-use Rattle.path_relative.specs.Against.{readAgainst}
+use Rattle.path.proofs.Components.{parts-formed, count-is}
+use Rattle.path.proofs.Prefix.{takes-prefix}
+use Rattle.path_suffix.specs.Suffix.{readSuffix}
+use Rattle.path_relative.specs.Against.{joinOk, readAgainst}
 use Rattle.path_relative.specs.Records.{readAgainstPath}
 use Rattle.path_relative.proofs.Against.{against-bounded}
+use Rattle.grouping.specs.declared.TimeRange.{TimeRange}
 use Rattle.grouping.specs.declared.AreaSubspace.{AreaSubspace}
 use Rattle.grouping.specs.declared.Area.{Area}
-use Rattle.grouping.specs.Record.{subspaceOf, areaOf, wellFormedArea}
+use Rattle.grouping.specs.Record.{subspaceOf, areaOf, wellFormedSubspace, wellFormedArea}
+use Rattle.entry.specs.declared.Entry.{Entry}
 use Rattle.entry.specs.Entry.{EntryValue}
 use Rattle.entry.specs.Record.{entryFrom}
+use Rattle.entry.specs.Answers.{zeroEntry, GivesEntry, refusal}
 use Rattle.entry_area.proofs.Id.{id-bounded}
-use Rattle.entry_area.proofs.Entry.{parts-bounded}
 use Rattle.entry_end.specs.declared.Header.{Header}
 use Rattle.entry_end.specs.declared.End.{End}
 use Rattle.entry_end.specs.Header.{unpackHeader}
 use Rattle.entry_end.specs.End.{readEnd}
-use Rattle.entry_area.specs.Entry.{readId, readParts, readEntry}
-use Rattle.entry_area.specs.Records.{readAgainstNamespaceArea}
+use Rattle.entry_end.proofs.Reading.{end-bounded}
+use Rattle.entry_area.specs.Entry.{readId, readRest, readParts, readEntry}
+use Rattle.entry_area.specs.Records.{readRestOf, readPartsOf, sharesAll, readAgainstNamespaceArea}
+
+-- ---- a refusal before the path of the area is tested
+pub gives-early : (p : Path) (d : Decoded) (k : ℕ) (x : Answer Entry) → answerOf d zeroEntry ≡ refused k → (wellFormed p ≡ false → x ≡ refused 5) → (wellFormed p ≡ true → x ≡ refused k)
+    → GivesEntry (refusal (cond (wellFormed p) d decoded.Malformed)) x
+unfolding refusal
+gives-early p d k x e unformed formed = go (wellFormed p) refl
+  where
+    go : (b : Bool) → wellFormed p ≡ b → GivesEntry (refusal (cond (wellFormed p) d decoded.Malformed)) x
+    go true w = rw w (gives-refused k e (formed w))
+    go false w = rw w (gives-refused 5 refl (unformed w))
 
 -- ---- the id
 module _ (r : AreaSubspace) (written : Bool) (s : List ℕ) where
@@ -57,91 +77,140 @@ same-flags true false e = let z : false ≡ true = e in cc
 same-flags false true e = let z : false ≡ true = e in cc
 same-flags false false e = refl
 
--- ---- the path
-against-is : (canonic : Bool) (r : Path) → wellFormed r ≡ true → (t : List ℕ) → readAgainstPath canonic r t ≡ named pathFrom (readAgainst canonic (componentsOf r) t)
-unfolding readAgainstPath
-against-is canonic r w t = rw w
+-- ---- a path against one all of whose components are told to be shared
+module _ (canonic : Bool) (r : List (List ℕ)) (s : List ℕ) where
+  abbrev joined : ℕ → Reader (List (List ℕ))
+  joined k = mapped (λ cs. take k r ++ cs) (readSuffix canonic (joinOk r k))
 
-module _ (canonic : Bool) (r : Path) (w : wellFormed r ≡ true) (s : List ℕ) where
-  pub path-refused : (k : ℕ) → readAgainstPath canonic r s ≡ refused k → mapped pathFrom (checked (isPrefix (componentsOf r)) (readAgainst canonic (componentsOf r))) s ≡ refused k
-  path-refused k e = rw (named-refused pathFrom (readAgainst canonic (componentsOf r) s) k (sym (against-is canonic r w s) ∙ e))
+  abbrev fresh : ℕ → List (List ℕ) → Bool
+  fresh k p = cond canonic (eqb (shared r p) k) true
 
-  module _ (p : Path) (n : ℕ) (e : readAgainstPath canonic r s ≡ accepted p n) where
-    judged : (b : Bool) → isPrefix (componentsOf r) (componentsOf p) ≡ b
-        → mapped pathFrom (checked (isPrefix (componentsOf r)) (readAgainst canonic (componentsOf r))) s ≡ passed b (accepted p n)
-    judged b i =
-        let (cs, f, q) = named-inv pathFrom (readAgainst canonic (componentsOf r) s) p n (sym (against-is canonic r w s) ∙ e) in
-        let j : isPrefix (componentsOf r) cs ≡ b = sym (ap (isPrefix (componentsOf r)) (ap componentsOf (sym q) ∙ components-of cs)) ∙ i in
-        rw (f, j) (go b cs ∙ ap (λ (x : Path). passed b (accepted x n)) q)
+  told-prefix : (cs : List (List ℕ)) (b : ℕ) → readAgainst canonic r s ≡ accepted cs b → sharesAll canonic (length r) s ≡ true → isPrefix r cs ≡ true
+  unfolding readAgainst sharesAll
+  told-prefix cs b e t =
+      let (k, m, f, g) = bind-inv (readStandalone canonic s) (λ k n. shift n (checked (fresh k) (joined k) (drop n s))) cs b e in
+      let (j, x, y) = shift-inv m (checked (fresh k) (joined k) (drop m s)) cs b g in
+      let (ds, l, u, v) = bind-inv (joined k (drop m s)) (λ a n. passed (fresh k a) (accepted a n)) cs j x in
+      let (ok, same, n) = passed-inv (fresh k ds) ds l cs j v in
+      let (rest, w, z) = named-inv (λ cs. take k r ++ cs) (readSuffix canonic (joinOk r k) (drop m s)) ds l u in
+      all-shared k rest ds (eqb-true k (length r) (rw f at t)) z same
+    where
+      all-shared : (k : ℕ) (rest ds : List (List ℕ)) → k ≡ length r → take k r ++ rest ≡ ds → ds ≡ cs → isPrefix r cs ≡ true
+      all-shared k rest ds all whole same = rw (← same, ← whole, all, take-length) (takes-prefix r (r ++ rest) (take-append-seam r rest))
+
+-- ---- what follows the id
+module _ (canonic : Bool) (n i : List ℕ) (r : Path) (times : TimeRange) (h : Header) (s : List ℕ) where
+  pub rest-refused : (k : ℕ) → readAgainstPath canonic r s ≡ refused k → readRestOf canonic n i r times h s ≡ refused k
+  unfolding readRestOf readRest readAgainstPath
+  rest-refused k e = go (wellFormed r) e
+    where
+      go : (b : Bool) → onFormed b (mapped pathFrom (readAgainst canonic (componentsOf r))) s ≡ refused k → onFormed b (mapped entryFrom (readRest canonic n i (componentsOf r) times h)) s ≡ refused k
+      go true f = rw (named-refused pathFrom (readAgainst canonic (componentsOf r) s) k f)
+      go false f = let z : _≡_ {A = ℕ} 5 k = cc in ap (λ (n : ℕ). refused n) z
+
+  module _ (p : Path) (b : ℕ) (e : readAgainstPath canonic r s ≡ accepted p b) where
+    -- the area's path is well formed, since a path was read against it
+    pub formed : (wellFormed r ≡ true) × (cs : List (List ℕ)) × (readAgainst canonic (componentsOf r) s ≡ accepted cs b) × (pathFrom cs ≡ p)
+    unfolding readAgainstPath
+    formed = go (wellFormed r) e
       where
-        go : (b : Bool) (cs : List (List ℕ)) → named pathFrom (passed b (accepted cs n)) ≡ passed b (accepted (pathFrom cs) n)
-        go true cs = refl
-        go false cs = refl
+        go : (w : Bool) → onFormed w (mapped pathFrom (readAgainst canonic (componentsOf r))) s ≡ accepted p b
+            → (w ≡ true) × (cs : List (List ℕ)) × (readAgainst canonic (componentsOf r) s ≡ accepted cs b) × (pathFrom cs ≡ p)
+        go true f =
+            let (cs, l, q) = named-inv pathFrom (readAgainst canonic (componentsOf r) s) p b f in
+            (refl, cs, l, q)
+        go false f = let z : _≡_ {A = ℕ} 0 1 = cc in absurd (omega arith)
 
-    pub path-outside : isPrefix (componentsOf r) (componentsOf p) ≡ false → mapped pathFrom (checked (isPrefix (componentsOf r)) (readAgainst canonic (componentsOf r))) s ≡ refused 2
-    path-outside i = judged false i
+    pub path-inside : b ≤ length s
+    path-inside = against-bounded (componentsOf r) canonic .bound s _ _ (formed .2)
 
-    pub path-read : isPrefix (componentsOf r) (componentsOf p) ≡ true → mapped pathFrom (checked (isPrefix (componentsOf r)) (readAgainst canonic (componentsOf r))) s ≡ accepted p n
-    path-read i = judged true i
+    judged : (cs : List (List ℕ)) → pathFrom cs ≡ p → isPrefix (componentsOf r) cs ≡ isPrefix (componentsOf r) (componentsOf p)
+    judged cs q = ap (isPrefix (componentsOf r)) (sym (components-of cs) ∙ ap componentsOf q)
+
+    pub shared-prefix : sharesAll canonic (r .count) s ≡ true → isPrefix (componentsOf r) (componentsOf p) ≡ true
+    shared-prefix t =
+        let (w, cs, f, q) = formed in
+        sym (judged cs q) ∙ told-prefix canonic (componentsOf r) s cs b f (rw (count-is r (parts-formed w)) t)
+
+    pub rest-outside : isPrefix (componentsOf r) (componentsOf p) ≡ false → readRestOf canonic n i r times h s ≡ refused 2
+    unfolding readRestOf readRest
+    rest-outside o =
+        let (w, cs, f, q) = formed in
+        rw (w, f, judged cs q ∙ o)
+
+    module _ (o : isPrefix (componentsOf r) (componentsOf p) ≡ true) where
+      pub rest-end : (k : ℕ) → readEnd canonic times h (drop b s) ≡ refused k → readRestOf canonic n i r times h s ≡ refused k
+      unfolding readRestOf readRest
+      rest-end k g =
+          let (w, cs, f, q) = formed in
+          rw (w, f, judged cs q ∙ o, g)
+
+      module _ (z : End) (c : ℕ) (g : readEnd canonic times h (drop b s) ≡ accepted z c) where
+        pub rest-inside : b + c ≤ length s
+        rest-inside = omega (arith, path-inside, end-bounded times h canonic .bound (drop b s) z c g, length-drop b s)
+
+        pub rest-read : readRestOf canonic n i r times h s
+            ≡ accepted (record { «namespace_id» = n; «subspace_id» = i; path = p; timestamp = z .timestamp; «payload_length» = z .«payload_length»; «payload_digest» = z .«payload_digest» }) (b + c)
+        unfolding readRestOf readRest entryFrom
+        rest-read =
+            let (w, cs, f, q) = formed in
+            rw (w, f, judged cs q ∙ o, g, q)
 
 -- ---- what follows the header
-
 module _ (canonic : Bool) (n : List ℕ) (r : Area) (h : Header) (s : List ℕ) where
-  pub parts-id : (k : ℕ) → readId (subspaceOf (r .subspace)) (h .«id_written») s ≡ refused k → mapped entryFrom (readParts canonic n (areaOf r) h) s ≡ refused k
-  unfolding readParts
-  parts-id k e = rw e
+  pub parts-malformed : wellFormed (r .path) ≡ false → readPartsOf canonic n r h s ≡ refused 5
+  unfolding readPartsOf
+  parts-malformed w = rw w
+
+  pub parts-id : (k : ℕ) → readId (subspaceOf (r .subspace)) (h .«id_written») s ≡ refused k → wellFormed (r .path) ≡ true → readPartsOf canonic n r h s ≡ refused k
+  unfolding readPartsOf readParts
+  parts-id k e w = rw (w, e)
 
   module _ (i : List ℕ) (a : ℕ) (e : readId (subspaceOf (r .subspace)) (h .«id_written») s ≡ accepted i a) where
     pub id-inside : a ≤ length s
     id-inside = id-bounded (subspaceOf (r .subspace)) (h .«id_written») .bound s i a e
 
-    pub parts-path : (k : ℕ) → mapped pathFrom (checked (isPrefix (componentsOf (r .path))) (readAgainst canonic (componentsOf (r .path)))) (drop a s) ≡ refused k
-        → mapped entryFrom (readParts canonic n (areaOf r) h) s ≡ refused k
-    unfolding readParts
-    parts-path k f = rw (e, named-refused pathFrom (checked (isPrefix (componentsOf (r .path))) (readAgainst canonic (componentsOf (r .path))) (drop a s)) k f)
+    pub parts-rest : shift 1 (readPartsOf canonic n r h s) ≡ shift (1 + a) (readRestOf canonic n i (r .path) (r .times) h (drop a s))
+    unfolding readPartsOf readRestOf readParts
+    parts-rest = whole (wellFormed (r .path))
+      where
+        go : (x : Answer EntryValue) → shift 1 (named entryFrom (shift a x)) ≡ shift (1 + a) (named entryFrom x)
+        go (accepted v m) = ap (λ (k : ℕ). accepted (entryFrom v) k) (omega arith)
+        go (refused k) = refl
 
-    module _ (p : Path) (b : ℕ) (f : mapped pathFrom (checked (isPrefix (componentsOf (r .path))) (readAgainst canonic (componentsOf (r .path)))) (drop a s) ≡ accepted p b) where
-      pub path-inside : a + b ≤ length s
-      path-inside =
-          omega (arith, id-inside, mapped-bounded pathFrom _ (checked-bounded (isPrefix (componentsOf (r .path))) _ (against-bounded (componentsOf (r .path)) canonic)) .bound (drop a s) p b f, length-drop a s)
-
-      pub parts-end : (k : ℕ) → readEnd canonic (r .times) h (drop (a + b) s) ≡ refused k → mapped entryFrom (readParts canonic n (areaOf r) h) s ≡ refused k
-      unfolding readParts
-      parts-end k g =
-          let (cs, l, q) = named-inv pathFrom (checked (isPrefix (componentsOf (r .path))) (readAgainst canonic (componentsOf (r .path))) (drop a s)) p b f in
-          rw (e, l, drop-drop, g)
-
-      module _ (z : End) (c : ℕ) (g : readEnd canonic (r .times) h (drop (a + b) s) ≡ accepted z c) where
-        pub parts-read : mapped entryFrom (readParts canonic n (areaOf r) h) s
-            ≡ accepted (record { «namespace_id» = n; «subspace_id» = i; path = p; timestamp = z .timestamp; «payload_length» = z .«payload_length»; «payload_digest» = z .«payload_digest» }) (a + (b + c))
-        unfolding readParts entryFrom
-        parts-read =
-            let (cs, l, q) = named-inv pathFrom (checked (isPrefix (componentsOf (r .path))) (readAgainst canonic (componentsOf (r .path))) (drop a s)) p b f in
-            rw (e, l, drop-drop, g, q)
-
-        pub parts-inside : a + (b + c) ≤ length s
-        parts-inside = mapped-bounded entryFrom _ (parts-bounded n (areaOf r) h canonic) .bound s _ _ parts-read
+        whole : (b : Bool) → shift 1 (onFormed b (mapped entryFrom (readParts canonic n (areaOf r) h)) s)
+            ≡ shift (1 + a) (onFormed b (mapped entryFrom (readRest canonic n i (componentsOf (r .path)) (r .times) h)) (drop a s))
+        whole true = rw e (go (readRest canonic n i (componentsOf (r .path)) (r .times) h (drop a s)))
+        whole false = refl
 
 -- ---- an entry
-pub entry-malformed : (canonic : Bool) (n : List ℕ) (r : Area) (s : List ℕ) → wellFormedArea r ≡ false → readAgainstNamespaceArea canonic n r s ≡ refused 5
-unfolding readAgainstNamespaceArea
-entry-malformed canonic n r s w = rw w
+pub no-subspace : (canonic : Bool) (n : List ℕ) (r : Area) (s : List ℕ) → wellFormedSubspace (r .subspace) ≡ false → readAgainstNamespaceArea canonic n r s ≡ refused 5
+unfolding readAgainstNamespaceArea wellFormedArea
+no-subspace canonic n r s w = rw w
 
-module _ (canonic : Bool) (n : List ℕ) (r : Area) (w : wellFormedArea r ≡ true) (s : List ℕ) (i : ℕ) where
-  pub entry-none : length s ≤ i → readAgainstNamespaceArea canonic n r (drop i s) ≡ refused 1
-  unfolding readAgainstNamespaceArea readEntry
-  entry-none h = rw (w, drop-of-length-le s h)
+module _ (canonic : Bool) (n : List ℕ) (r : Area) (id : wellFormedSubspace (r .subspace) ≡ true) (s : List ℕ) (i : ℕ) where
+  pub no-path : wellFormed (r .path) ≡ false → readAgainstNamespaceArea canonic n r (drop i s) ≡ refused 5
+  unfolding readAgainstNamespaceArea wellFormedArea
+  no-path w = rw (id, w)
+
+  pub entry-none : length s ≤ i → wellFormed (r .path) ≡ true → readAgainstNamespaceArea canonic n r (drop i s) ≡ refused 1
+  unfolding readAgainstNamespaceArea wellFormedArea readEntry
+  entry-none h w = rw (id, w, drop-of-length-le s h)
 
   module _ (h : i < length s) where
-    pub entry-spare : (unpackHeader (getD s i 0) .spare ≡ 0 → ⊥) → readAgainstNamespaceArea canonic n r (drop i s) ≡ refused 2
-    unfolding readAgainstNamespaceArea readEntry
-    entry-spare e = rw (w, drop-cons s i 0 h, ne-eqb (unpackHeader (getD s i 0) .spare) 0 e)
+    pub entry-spare : (unpackHeader (getD s i 0) .spare ≡ 0 → ⊥) → wellFormed (r .path) ≡ true → readAgainstNamespaceArea canonic n r (drop i s) ≡ refused 2
+    unfolding readAgainstNamespaceArea wellFormedArea readEntry
+    entry-spare e w = rw (id, w, drop-cons s i 0 h, ne-eqb (unpackHeader (getD s i 0) .spare) 0 e)
 
-    pub entry-parts : unpackHeader (getD s i 0) .spare ≡ 0 → readAgainstNamespaceArea canonic n r (drop i s)
-        ≡ shift 1 (mapped entryFrom (readParts canonic n (areaOf r) (unpackHeader (getD s i 0))) (drop (i + 1) s))
-    unfolding readAgainstNamespaceArea readEntry
-    entry-parts e = rw (w, drop-cons s i 0 h, eq-eqb (unpackHeader (getD s i 0) .spare) 0 e, add-one i) (go (readParts canonic n (areaOf r) (unpackHeader (getD s i 0)) (drop (suc i) s)))
+    pub entry-parts : unpackHeader (getD s i 0) .spare ≡ 0 → readAgainstNamespaceArea canonic n r (drop i s) ≡ shift 1 (readPartsOf canonic n r (unpackHeader (getD s i 0)) (drop (i + 1) s))
+    unfolding readAgainstNamespaceArea wellFormedArea readEntry readPartsOf
+    entry-parts e = rw id (whole (wellFormed (r .path)))
       where
         go : (x : Answer EntryValue) → named entryFrom (shift 1 x) ≡ shift 1 (named entryFrom x)
         go (accepted v n) = refl
         go (refused k) = refl
+
+        whole : (b : Bool) → onFormed b (mapped entryFrom (readEntry canonic n (areaOf r))) (drop i s)
+            ≡ shift 1 (onFormed b (mapped entryFrom (readParts canonic n (areaOf r) (unpackHeader (getD s i 0)))) (drop (i + 1) s))
+        whole true = rw (drop-cons s i 0 h, eq-eqb (unpackHeader (getD s i 0) .spare) 0 e, add-one i) (go (readParts canonic n (areaOf r) (unpackHeader (getD s i 0)) (drop (suc i) s)))
+        whole false = refl

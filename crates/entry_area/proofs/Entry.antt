@@ -11,18 +11,17 @@ use Rattle.codec.specs.Answers.{refused}
 use Rattle.codec.specs.Bytes.{sameBytes, TypedId}
 use Rattle.codec.specs.Header.{readHeader, HeaderAs}
 use Rattle.codec.specs.Reader.{checked}
-use Rattle.codec.specs.Reads.{Reads, ReadsBack, Relaxes, Bounded, Tested, Mapped, Joined}
+use Rattle.codec.specs.Reads.{Reads, ReadsBack, Relaxes, Tested, Mapped, Joined}
 use Rattle.codec.proofs.Tests.{and-left, and-right}
 use Rattle.codec.proofs.SameBytes.{same-eq, same-refl}
 use Rattle.codec.proofs.Header.{header-reads}
 use Rattle.codec.proofs.Readers.{reads-as, then-reads, guard-reads, checked-reads, mapped-reads}
 use Rattle.codec.proofs.Relaxes.{relaxes-back, relaxes-self, then-relaxes, guard-relaxes, checked-relaxes, mapped-relaxes}
-use Rattle.codec.proofs.Bounded.{then-bounded, checked-bounded, mapped-bounded}
 use Rattle.path.specs.Limits.{PathOk}
 use Rattle.path.specs.Prefix.{isPrefix}
 use Rattle.path.proofs.Limits.{typed-of}
 use Rattle.path_relative.specs.Against.{againstBytes, readAgainst, AgainstAs}
-use Rattle.path_relative.proofs.Against.{against-reads, against-relaxes, against-bounded}
+use Rattle.path_relative.proofs.Against.{against-reads, against-relaxes}
 use Rattle.grouping.specs.Range.{TypedRange, includesTime}
 use Rattle.grouping.specs.Area.{AreaValue, TypedSubspace, includesSubspace}
 use Rattle.entry.specs.Entry.{EntryValue, liesInsideArea}
@@ -31,10 +30,10 @@ use Rattle.entry_end.specs.Header.{unpackHeader, packHeader, HeaderFits}
 use Rattle.entry_end.specs.End.{headerOf, endFrom}
 use Rattle.entry_end.specs.Relations.{EndAs}
 use Rattle.entry_end.proofs.HeaderLayout.{header-layout, header-fits}
-use Rattle.entry_end.proofs.Reading.{end-reads, end-relaxes, end-bounded}
-use Rattle.entry_area.specs.Entry.{isAny, entryHeader, idBytes, endBytes, restBytes, entryBytes, readId, valueFrom, readParts, readEntry}
+use Rattle.entry_end.proofs.Reading.{end-reads, end-relaxes}
+use Rattle.entry_area.specs.Entry.{isAny, entryHeader, idBytes, endBytes, restBytes, entryBytes, readId, valueFrom, readRest, readParts, readEntry}
 use Rattle.entry_area.specs.Relations.{IdAs, EntryAs}
-use Rattle.entry_area.proofs.Id.{id-reads, id-bounded}
+use Rattle.entry_area.proofs.Id.{id-reads}
 
 -- ---- lies inside, part by part
 pub record Inside (n : List ℕ) (r : AreaValue) (v : EntryValue) : Type 0 where
@@ -133,7 +132,7 @@ module _ (n : List ℕ) (r : AreaValue) where
       }
 
   pub entry-reads : TypedId n → TypedSubspace (r .subspace) → TypedRange (r .times) → PathOk (r .path) → Reads (readEntry true n r) (EntryAs n r)
-  unfolding readEntry readParts Rel PartsRel
+  unfolding readEntry readParts readRest Rel PartsRel
   entry-reads id sub times path = reads-as _ _ _
       (then-reads (readHeader unpackHeader) (HeaderAs HeaderFits packHeader) _ _ (header-reads HeaderFits unpackHeader packHeader header-layout) (λ h e x.
       guard-reads (eqb (h .spare) 0) _ _ (λ ok.
@@ -143,7 +142,7 @@ module _ (n : List ℕ) (r : AreaValue) where
       (entry-there id) entry-back
 
   pub entry-relaxes : Relaxes (readEntry true n r) (readEntry false n r)
-  unfolding readEntry readParts
+  unfolding readEntry readParts readRest
   entry-relaxes =
       then-relaxes (readHeader unpackHeader) (readHeader unpackHeader) _ _ (relaxes-self (readHeader unpackHeader)) (λ h.
       guard-relaxes (eqb (h .spare) 0) (eqb (h .spare) 0) _ _ (λ ok. ok) (λ ok.
@@ -151,13 +150,6 @@ module _ (n : List ℕ) (r : AreaValue) where
       then-relaxes (checked (isPrefix (r .path)) (readAgainst true (r .path))) (checked (isPrefix (r .path)) (readAgainst false (r .path))) _ _
       (checked-relaxes (isPrefix (r .path)) (isPrefix (r .path)) _ _ (λ p q. q) (against-relaxes (r .path))) (λ p.
       mapped-relaxes (valueFrom n s p) _ _ (end-relaxes (r .times) h)))))
-
-  pub parts-bounded : (h : Header) (canonic : Bool) → Bounded (readParts canonic n r h)
-  unfolding readParts
-  parts-bounded h canonic =
-      then-bounded (readId (r .subspace) (h .«id_written»)) _ (id-bounded (r .subspace) (h .«id_written»)) (λ s.
-      then-bounded (checked (isPrefix (r .path)) (readAgainst canonic (r .path))) _ (checked-bounded (isPrefix (r .path)) _ (against-bounded (r .path) canonic)) (λ p.
-      mapped-bounded (valueFrom n s p) _ (end-bounded (r .times) h canonic)))
 
   pub entry-empty : (canonic : Bool) → readEntry canonic n r [] ≡ refused 1
   unfolding readEntry

@@ -1,5 +1,6 @@
 pub mod Id
 pub mod Entry
 pub mod Records
+pub mod Tail
 pub mod Writing
 pub mod DecodeExits

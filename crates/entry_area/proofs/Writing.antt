@@ -15,19 +15,19 @@ use Rattle.path.specs.Record.{wellFormed}
 use Rattle.path.specs.declared.Compared.the-variants as compared
 use Rattle.path.specs.Answers.{verdict, prefixOf}
 use Rattle.path_suffix.specs.Suffix.{suffixFrom}
-use Rattle.path_relative.proofs.Writing.{Common, rest-allowed, rest-short, extends-common}
+use Rattle.path_relative.proofs.Writing.{Common, rest-allowed, suffix-within, extends-common}
 use Rattle.grouping.specs.declared.TimeRange.{TimeRange}
 use Rattle.grouping.specs.declared.AreaSubspace.{AreaSubspace}
 use Rattle.grouping.specs.declared.Area.{Area}
-use Rattle.grouping.specs.Record.{subspaceOf, areaOf, wellFormedSubspace, wellFormedArea, TypedArea}
+use Rattle.grouping.specs.Record.{subspaceOf, areaOf, wellFormedSubspace, wellFormedArea}
 use Rattle.entry.specs.declared.Entry.{Entry}
 use Rattle.entry.specs.Entry.{liesInsideArea}
-use Rattle.entry.specs.Record.{entryOf, wellFormedEntry, entryInside, TypedEntry}
+use Rattle.entry.specs.Record.{entryOf, fieldsOf, wellFormedEntry, entryInside}
 use Rattle.entry_end.specs.declared.End.{End}
 use Rattle.entry_end.specs.Header.{packHeader}
 use Rattle.entry_end.specs.End.{headerOf}
 use Rattle.entry_area.specs.Entry.{isAny, idBytes, entryBytes, startOf, headBytes, endOf}
-use Rattle.entry_area.specs.Records.{againstNamespaceArea}
+use Rattle.entry_area.specs.Records.{endIn, knownBytes, againstNamespaceArea}
 use Rattle.entry_area.proofs.Entry.{inside}
 
 -- ---- the id
@@ -50,10 +50,6 @@ module _ (s : AreaSubspace) (t : TimeRange) (id : List ℕ) (e : End) {b : ℕ} 
 
   pub start-one : s .any ≡ false → startOf t (subspaceOf s) id e ≡ b ∷ []
   start-one f = ap (λ (l : List ℕ). packHeader (headerOf (isAny (subspaceOf s)) t (e .timestamp) (e .«payload_length»)) ∷ l) (id-one s id f) ∙ ap (λ (h : ℕ). h ∷ []) (sym head)
-
--- the fields after the path
-abbrev pub endIn : Entry → End
-endIn e = record { timestamp = e .timestamp; «payload_length» = e .«payload_length»; «payload_digest» = e .«payload_digest» }
 
 pub head-long : (s : AreaSubspace) (t : TimeRange) (id : List ℕ) (e : End) (k : ℕ) → 1 + (length (idBytes (subspaceOf s) id) + length (standaloneBytes k)) ≡ length (headBytes t (subspaceOf s) id e k)
 head-long s t id e k = omega (arith, length-append (startOf t (subspaceOf s) id e) (standaloneBytes k))
@@ -84,30 +80,22 @@ module _ (n : List ℕ) (r : Area) (e : Entry) where
         let we : wellFormed (e .path) ≡ true = and-right (wellFormedArea r) _ (v .0) in
         rw (wr, we, inside n (areaOf r) (entryOf e) (v .1) .prefix)
 
-    module _ (t : TypedArea r) (u : TypedEntry e) where
-      -- the area's components are those that the path shares with it
-      shares : Common (r .path) (e .path) (r .path .count)
-      shares = extends-common (r .path) (e .path) (t .path) (u .path) prefixed
+    -- the area's components are those that the path shares with it
+    shares : Common (r .path) (e .path) (r .path .count)
+    shares = extends-common (r .path) (e .path) prefixed
 
-      pub suffix-allowed : suffixFrom (r .path .count) .check (e .path) ≡ allowed
-      suffix-allowed = rest-allowed (r .path) (e .path) (r .path .count) (u .path) shares
+    pub suffix-allowed : suffixFrom (r .path .count) .check (e .path) ≡ allowed
+    suffix-allowed = rest-allowed (r .path) (e .path) (r .path .count) shares
 
-      pub suffix-short : length (suffixFrom (r .path .count) .encode (e .path)) ≤ 1000
-      suffix-short = rest-short (r .path) (e .path) (r .path .count) (u .path) shares
+    pub suffix-short : length (suffixFrom (r .path .count) .encode (e .path)) ≤ 1000
+    suffix-short = suffix-within (e .path) (r .path .count) suffix-allowed
 
-      -- ---- the bytes
-      pub entry-bytes : againstNamespaceArea n r .encode e
-          ≡ (headBytes (r .times) (subspaceOf (r .subspace)) (e .«subspace_id») (endIn e) (r .path .count) ++ suffixFrom (r .path .count) .encode (e .path)) ++ endOf (r .times) (endIn e)
-      unfolding entryBytes
-      entry-bytes =
-          let s = startOf (r .times) (subspaceOf (r .subspace)) (e .«subspace_id») (endIn e) in
-          let k = standaloneBytes (r .path .count) in
-          let x = suffixFrom (r .path .count) .encode (e .path) in
-          let y = endOf (r .times) (endIn e) in
-          rw (shares .is) (ap (λ (l : List ℕ). s ++ l) (append-assoc k x y) ∙ sym (append-assoc s k (x ++ y)) ∙ sym (append-assoc (s ++ k) x y))
-
-      pub parts-long : length (headBytes (r .times) (subspaceOf (r .subspace)) (e .«subspace_id») (endIn e) (r .path .count)) + length (suffixFrom (r .path .count) .encode (e .path)) + length (endOf (r .times) (endIn e)) ≡ length (againstNamespaceArea n r .encode e)
-      parts-long =
-          let h = headBytes (r .times) (subspaceOf (r .subspace)) (e .«subspace_id») (endIn e) (r .path .count) in
-          let x = suffixFrom (r .path .count) .encode (e .path) in
-          omega (arith, ap length entry-bytes, length-append (h ++ x) (endOf (r .times) (endIn e)), length-append h x)
+    -- ---- the bytes
+    pub entry-bytes : againstNamespaceArea n r .encode e ≡ knownBytes (r .times) (subspaceOf (r .subspace)) (fieldsOf e) (e .path) (r .path .count)
+    unfolding entryBytes
+    entry-bytes =
+        let s = startOf (r .times) (subspaceOf (r .subspace)) (e .«subspace_id») (endIn (fieldsOf e)) in
+        let k = standaloneBytes (r .path .count) in
+        let x = suffixFrom (r .path .count) .encode (e .path) in
+        let y = endOf (r .times) (endIn (fieldsOf e)) in
+        rw (shares .is) (ap (λ (l : List ℕ). s ++ l) (append-assoc k x y) ∙ sym (append-assoc s k (x ++ y)))

@@ -76,12 +76,17 @@ valueFrom namespace subspace path end = record {
   digest = end .«payload_digest»;
 }
 
+-- what follows the id: a path that the area's is a prefix of, then the fields after it
+unfoldable pub readRest : Bool → List ℕ → List ℕ → List (List ℕ) → TimeRange → Header → Reader EntryValue
+readRest canonic n subspace r times h =
+    andThen (checked (isPrefix r) (readAgainst canonic r)) (λ path.
+    mapped (valueFrom n subspace path) (
+    readEnd canonic times h))
+
 unfoldable pub readParts : Bool → List ℕ → AreaValue → Header → Reader EntryValue
 readParts canonic n r h =
     andThen (readId (r .subspace) (h .«id_written»)) (λ subspace.
-    andThen (checked (isPrefix (r .path)) (readAgainst canonic (r .path))) (λ path.
-    mapped (valueFrom n subspace path) (
-    readEnd canonic (r .times) h)))
+    readRest canonic n subspace (r .path) (r .times) h)
 
 -- bits 6 and 7 are tested before anything else
 unfoldable pub readEntry : Bool → List ℕ → AreaValue → Reader EntryValue

@@ -1,137 +1,156 @@
 -- What the readers' definitions answer at each exit of the code.
-use mathlib.Core.Path.{_≡_, refl, sym, ap, _∙_}
+use mathlib.Core.Path.{_≡_, refl, ap}
 use mathlib.Core.List.{List}
-use mathlib.Core.Bool.{true, false}
-use Prim.Native.Nat.{ℕ, suc, _+_, _≤_, _<_}
+use mathlib.Core.Bool.{Bool, true, false, cond}
+use Prim.Native.Nat.{ℕ, _+_, _≤_, _<_}
 use native.Mathlib.Omega.{arith}
 use native.Mathlib.Numerals.{add-one}
+use lib.Dec.{leb}
+use borrow.Author.Tests.{leb-true, leb-false}
 use lib.ListN.{length, drop, getD, length-drop, drop-of-length-le}
 use lib.Seq.{drop-cons, drop-drop}
-use Rattle.codec.specs.Answers.{Answer, accepted, refused}
-use Rattle.codec.specs.Reader.{shift, named, someBytes, mapped}
-use Rattle.codec.proofs.Bounded.{mapped-bounded}
+use Rattle.codec.specs.Answers.{accepted, refused}
+use Rattle.codec.specs.Reader.{someBytes, mapped, onFormed}
+use Rattle.codec.specs.declared.Decoded.{Decoded}
+use Rattle.codec.specs.declared.Decoded.the-variants as decoded
+use Rattle.codec.proofs.Answers.{NoValue, gives-refused}
+use Rattle.codec.proofs.Bounded.{someBytes-bounded}
 use Rattle.codec.proofs.Readers.{named-inv, named-refused}
 use Rattle.path.specs.declared.Path.{Path}
 use Rattle.path.specs.Record.{componentsOf, pathFrom, wellFormed}
 use Rattle.path_relative.specs.Against.{readAgainst}
 use Rattle.path_relative.specs.Records.{readAgainstPath}
+use Rattle.path_relative.proofs.Against.{against-bounded}
 use Rattle.entry.specs.declared.Entry.{Entry}
-use Rattle.entry.specs.Entry.{EntryValue}
 use Rattle.entry.specs.Record.{entryOf, entryFrom, wellFormedEntry}
+use Rattle.entry.specs.Answers.{GivesEntry, refusal}
 use Rattle.entry_numbers.specs.declared.Header.{Header}
 use Rattle.entry_numbers.specs.declared.Numbers.{Numbers}
 use Rattle.entry_numbers.specs.Header.{unpackHeader}
 use Rattle.entry_numbers.specs.Numbers.{readNumbers}
 use Rattle.entry_numbers.proofs.Reading.{numbers-bounded}
 use Rattle.entry_entry.specs.declared.Ids.{Ids}
-use Rattle.entry_entry.specs.declared.End.{End}
-use Rattle.entry_entry.specs.Entry.{readId, idsFrom, readIds, readEnd, readParts, readEntry}
-use Rattle.entry_entry.specs.Records.{readAgainstEntry, endOf, readEndOf}
-use Rattle.entry_entry.proofs.Entry.{ids-bounded, end-bounded, parts-bounded}
+use Rattle.entry_entry.specs.declared.Head.{Head}
+use Rattle.entry_entry.specs.Entry.{readId, idsFrom, readIds, headFrom, readHead, readEntry}
+use Rattle.entry_entry.specs.Records.{readAgainstEntry}
+use Rattle.entry_entry.proofs.Entry.{ids-bounded, head-bounded}
 
 -- ---- the ids
-module _ (r : EntryValue) (h : Header) (s : List ℕ) where
-  pub ids-first : (k : ℕ) → readId (h .«namespace_written») (r .namespace) s ≡ refused k → readIds r h s ≡ refused k
+module _ (namespace subspace : List ℕ) (h : Header) (s : List ℕ) where
+  pub ids-first : (k : ℕ) → readId (h .«namespace_written») namespace s ≡ refused k → readIds namespace subspace h s ≡ refused k
   unfolding readIds
   ids-first k e = rw e
 
-  module _ (n : List ℕ) (a : ℕ) (e : readId (h .«namespace_written») (r .namespace) s ≡ accepted n a) where
-    pub ids-second : (k : ℕ) → readId (h .«subspace_written») (r .subspace) (drop a s) ≡ refused k → readIds r h s ≡ refused k
+  module _ (n : List ℕ) (a : ℕ) (e : readId (h .«namespace_written») namespace s ≡ accepted n a) where
+    pub ids-second : (k : ℕ) → readId (h .«subspace_written») subspace (drop a s) ≡ refused k → readIds namespace subspace h s ≡ refused k
     unfolding readIds
     ids-second k f = rw (e, f)
 
-    module _ (i : List ℕ) (b : ℕ) (f : readId (h .«subspace_written») (r .subspace) (drop a s) ≡ accepted i b) where
-      pub ids-read : readIds r h s ≡ accepted (idsFrom n i) (a + b)
+    module _ (i : List ℕ) (b : ℕ) (f : readId (h .«subspace_written») subspace (drop a s) ≡ accepted i b) where
+      pub ids-read : readIds namespace subspace h s ≡ accepted (idsFrom n i) (a + b)
       unfolding readIds
       ids-read = rw (e, f)
 
       pub ids-inside : a + b ≤ length s
-      ids-inside = ids-bounded r h .bound s _ _ ids-read
+      ids-inside = ids-bounded namespace subspace h .bound s _ _ ids-read
 
--- ---- the path and the digest
-module _ (r : Path) (w : wellFormed r ≡ true) (s : List ℕ) where
-  against-is : readAgainstPath false r s ≡ named pathFrom (readAgainst false (componentsOf r) s)
-  unfolding readAgainstPath
-  against-is = rw w
+-- ---- what comes before the path
+module _ (namespace subspace : List ℕ) (time : ℕ) (s : List ℕ) (i : ℕ) where
+  pub head-none : length s ≤ i → readHead namespace subspace time (drop i s) ≡ refused 1
+  unfolding readHead
+  head-none l = rw (drop-of-length-le s l)
 
-  pub end-path : (k : ℕ) → readAgainstPath false r s ≡ refused k → readEndOf r s ≡ refused k
-  unfolding readEndOf readEnd
-  end-path k e = rw (named-refused pathFrom (readAgainst false (componentsOf r) s) k (sym against-is ∙ e))
+  module _ (l : i < length s) where
+    pub head-ids : (k : ℕ) → readIds namespace subspace (unpackHeader (getD s i 0)) (drop (i + 1) s) ≡ refused k → readHead namespace subspace time (drop i s) ≡ refused k
+    unfolding readHead
+    head-ids k e = rw (drop-cons s i 0 l, ← add-one i, e)
 
-  module _ (p : Path) (a : ℕ) (e : readAgainstPath false r s ≡ accepted p a) where
-    pub end-digest : (k : ℕ) → someBytes 32 (drop a s) ≡ refused k → readEndOf r s ≡ refused k
-    unfolding readEndOf readEnd
-    end-digest k f =
-        let (cs, l, q) = named-inv pathFrom (readAgainst false (componentsOf r) s) p a (sym against-is ∙ e) in
-        rw (l, f)
+    module _ (ids : Ids) (a : ℕ) (e : readIds namespace subspace (unpackHeader (getD s i 0)) (drop (i + 1) s) ≡ accepted ids a) where
+      pub first-inside : i + 1 + a ≤ length s
+      first-inside = omega (arith, ids-bounded namespace subspace (unpackHeader (getD s i 0)) .bound (drop (i + 1) s) _ _ e, length-drop (i + 1) s)
 
-    module _ (d : List ℕ) (b : ℕ) (f : someBytes 32 (drop a s) ≡ accepted d b) where
-      pub end-read : readEndOf r s ≡ accepted (record { path = p; «payload_digest» = d }) (a + b)
-      unfolding readEndOf readEnd
-      end-read =
-          let (cs, l, q) = named-inv pathFrom (readAgainst false (componentsOf r) s) p a (sym against-is ∙ e) in
-          rw (l, f, q)
+      pub head-numbers : (k : ℕ) → readNumbers time (unpackHeader (getD s i 0)) (drop (i + 1 + a) s) ≡ refused k → readHead namespace subspace time (drop i s) ≡ refused k
+      unfolding readHead
+      head-numbers k f = rw (drop-cons s i 0 l, ← add-one i, e, drop-drop, f)
 
-      pub end-inside : a + b ≤ length s
-      unfolding readEndOf
-      end-inside = mapped-bounded endOf _ (end-bounded (componentsOf r)) .bound s _ _ end-read
+      module _ (n : Numbers) (b : ℕ) (f : readNumbers time (unpackHeader (getD s i 0)) (drop (i + 1 + a) s) ≡ accepted n b) where
+        pub head-read : readHead namespace subspace time (drop i s) ≡ accepted (headFrom ids n) (1 + (a + b))
+        unfolding readHead
+        head-read = rw (drop-cons s i 0 l, ← add-one i, e, drop-drop, f)
 
--- ---- what follows the header
-abbrev joined : Ids → Numbers → End → Entry
-joined i n z = record {
-  «namespace_id» = i .«namespace_id»;
-  «subspace_id» = i .«subspace_id»;
-  path = z .path;
-  timestamp = n .timestamp;
-  «payload_length» = n .«payload_length»;
-  «payload_digest» = z .«payload_digest»;
-}
+        pub second-inside : i + (1 + (a + b)) ≤ length s
+        second-inside = omega (arith, first-inside, numbers-bounded time (unpackHeader (getD s i 0)) .bound (drop (i + 1 + a) s) n b f, length-drop (i + 1 + a) s)
 
-module _ (r : Entry) (h : Header) (s : List ℕ) where
-  pub parts-ids : (k : ℕ) → readIds (entryOf r) h s ≡ refused k → mapped entryFrom (readParts (entryOf r) h) s ≡ refused k
-  unfolding readParts
-  parts-ids k e = rw e
-
-  module _ (i : Ids) (a : ℕ) (e : readIds (entryOf r) h s ≡ accepted i a) where
-    pub first-inside : a ≤ length s
-    first-inside = ids-bounded (entryOf r) h .bound s i a e
-
-    pub parts-numbers : (k : ℕ) → readNumbers (r .timestamp) h (drop a s) ≡ refused k → mapped entryFrom (readParts (entryOf r) h) s ≡ refused k
-    unfolding readParts
-    parts-numbers k f = rw (e, f)
-
-    module _ (n : Numbers) (b : ℕ) (f : readNumbers (r .timestamp) h (drop a s) ≡ accepted n b) where
-      pub second-inside : a + b ≤ length s
-      second-inside = omega (arith, first-inside, numbers-bounded (r .timestamp) h .bound (drop a s) n b f, length-drop a s)
-
-      pub parts-end : (k : ℕ) → readEndOf (r .path) (drop (a + b) s) ≡ refused k → mapped entryFrom (readParts (entryOf r) h) s ≡ refused k
-      unfolding readParts readEndOf
-      parts-end k g = rw (e, f, drop-drop, named-refused endOf (readEnd (componentsOf (r .path)) (drop (a + b) s)) k g)
-
-      module _ (z : End) (c : ℕ) (g : readEndOf (r .path) (drop (a + b) s) ≡ accepted z c) where
-        pub parts-read : mapped entryFrom (readParts (entryOf r) h) s ≡ accepted (joined i n z) (a + (b + c))
-        unfolding readParts readEndOf entryFrom
-        parts-read =
-            let (v, l, q) = named-inv endOf (readEnd (componentsOf (r .path)) (drop (a + b) s)) z c g in
-            rw (e, f, drop-drop, l) (ap (λ (x : End). accepted (joined i n x) (a + (b + c))) q)
-
-        pub parts-inside : a + (b + c) ≤ length s
-        parts-inside = mapped-bounded entryFrom _ (parts-bounded (entryOf r) h) .bound s _ _ parts-read
+  -- bytes were read, so the place is inside
+  pub head-inside : (h : Head) (a : ℕ) → readHead namespace subspace time (drop i s) ≡ accepted h a → i + a ≤ length s
+  head-inside h a e = omega (arith, head-bounded namespace subspace time .bound (drop i s) h a e, length-drop i s, there)
+    where
+      there : i ≤ length s
+      there = go (leb (length s) i) refl
+        where
+          go : (b : Bool) → leb (length s) i ≡ b → i ≤ length s
+          go true l = let f = head-none (leb-true (length s) i l) in let z : _≡_ {A = ℕ} 0 1 = cc in absurd (omega arith)
+          go false l = omega (arith, leb-false (length s) i l)
 
 -- ---- an entry
-pub entry-malformed : (r : Entry) (s : List ℕ) → wellFormedEntry r ≡ false → readAgainstEntry r s ≡ refused 5
-unfolding readAgainstEntry
-entry-malformed r s w = rw w
+abbrev joined : Head → Path → List ℕ → Entry
+joined h p d = record {
+  «namespace_id» = h .ids .«namespace_id»;
+  «subspace_id» = h .ids .«subspace_id»;
+  path = p;
+  timestamp = h .numbers .timestamp;
+  «payload_length» = h .numbers .«payload_length»;
+  «payload_digest» = d;
+}
 
-module _ (r : Entry) (w : wellFormedEntry r ≡ true) (s : List ℕ) (i : ℕ) where
-  pub entry-none : length s ≤ i → readAgainstEntry r (drop i s) ≡ refused 1
-  unfolding readAgainstEntry readEntry
-  entry-none h = rw (w, drop-of-length-le s h)
-
-  pub entry-parts : i < length s → readAgainstEntry r (drop i s) ≡ shift 1 (mapped entryFrom (readParts (entryOf r) (unpackHeader (getD s i 0))) (drop (i + 1) s))
-  unfolding readAgainstEntry readEntry
-  entry-parts h = rw (w, drop-cons s i 0 h, add-one i) (go (readParts (entryOf r) (unpackHeader (getD s i 0)) (drop (suc i) s)))
+module _ (r : Entry) (s : List ℕ) (i : ℕ) where
+  pub entry-unread : (d : Decoded) (x : NoValue d) → readHead (r .«namespace_id») (r .«subspace_id») (r .timestamp) (drop i s) ≡ refused (x .why)
+      → GivesEntry (refusal (cond (wellFormed (r .path)) d decoded.Malformed)) (readAgainstEntry r (drop i s))
+  unfolding readAgainstEntry readEntry wellFormedEntry refusal
+  entry-unread d x e = go (wellFormed (r .path))
     where
-      go : (x : Answer EntryValue) → named entryFrom (shift 1 x) ≡ shift 1 (named entryFrom x)
-      go (accepted v n) = refl
-      go (refused k) = refl
+      go : (b : Bool) → GivesEntry (refusal (cond b d decoded.Malformed)) (onFormed b (mapped entryFrom (readEntry (entryOf r))) (drop i s))
+      go true = gives-refused (x .why) (x .beside _) (rw e)
+      go false = gives-refused 5 refl refl
+
+  module _ (h : Head) (a : ℕ) (e : readHead (r .«namespace_id») (r .«subspace_id») (r .timestamp) (drop i s) ≡ accepted h a) where
+    pub entry-path : (k : ℕ) → readAgainstPath false (r .path) (drop (i + a) s) ≡ refused k → readAgainstEntry r (drop i s) ≡ refused k
+    unfolding readAgainstEntry readEntry readAgainstPath wellFormedEntry
+    entry-path k f = go (wellFormed (r .path)) f
+      where
+        go : (b : Bool) → onFormed b (mapped pathFrom (readAgainst false (componentsOf (r .path)))) (drop (i + a) s) ≡ refused k
+            → onFormed b (mapped entryFrom (readEntry (entryOf r))) (drop i s) ≡ refused k
+        go true f = rw (e, drop-drop, named-refused pathFrom (readAgainst false (componentsOf (r .path)) (drop (i + a) s)) k f)
+        go false f = let z : _≡_ {A = ℕ} 5 k = cc in ap (λ (n : ℕ). refused n) z
+
+    module _ (p : Path) (b : ℕ) (f : readAgainstPath false (r .path) (drop (i + a) s) ≡ accepted p b) where
+      -- the reference is well formed, since a path was read against its own
+      formed : (wellFormed (r .path) ≡ true) × (cs : List (List ℕ)) × (readAgainst false (componentsOf (r .path)) (drop (i + a) s) ≡ accepted cs b) × (pathFrom cs ≡ p)
+      unfolding readAgainstPath
+      formed = go (wellFormed (r .path)) f
+        where
+          go : (w : Bool) → onFormed w (mapped pathFrom (readAgainst false (componentsOf (r .path)))) (drop (i + a) s) ≡ accepted p b
+              → (w ≡ true) × (cs : List (List ℕ)) × (readAgainst false (componentsOf (r .path)) (drop (i + a) s) ≡ accepted cs b) × (pathFrom cs ≡ p)
+          go true f =
+              let (cs, l, q) = named-inv pathFrom (readAgainst false (componentsOf (r .path)) (drop (i + a) s)) p b f in
+              (refl, cs, l, q)
+          go false f = let z : _≡_ {A = ℕ} 0 1 = cc in absurd (omega arith)
+
+      pub path-inside : i + a + b ≤ length s
+      path-inside = omega (arith, head-inside (r .«namespace_id») (r .«subspace_id») (r .timestamp) s i h a e, against-bounded (componentsOf (r .path)) false .bound (drop (i + a) s) _ _ (formed .2), length-drop (i + a) s)
+
+      pub entry-digest : (k : ℕ) → someBytes 32 (drop (i + a + b) s) ≡ refused k → readAgainstEntry r (drop i s) ≡ refused k
+      unfolding readAgainstEntry readEntry wellFormedEntry
+      entry-digest k g =
+          let (w, cs, l, q) = formed in
+          rw (w, e, drop-drop, l, drop-drop, g)
+
+      module _ (d : List ℕ) (c : ℕ) (g : someBytes 32 (drop (i + a + b) s) ≡ accepted d c) where
+        pub entry-read : readAgainstEntry r (drop i s) ≡ accepted (joined h p d) (a + (b + c))
+        unfolding readAgainstEntry readEntry wellFormedEntry entryFrom
+        entry-read =
+            let (w, cs, l, q) = formed in
+            rw (w, e, drop-drop, l, drop-drop, g, q)
+
+        pub digest-inside : i + a + b + c ≤ length s
+        digest-inside = omega (arith, path-inside, someBytes-bounded 32 .bound (drop (i + a + b) s) d c g, length-drop (i + a + b) s)

@@ -1,6 +1,6 @@
 -- What the writers' definitions say at each step of the code.
 use mathlib.Core.Path.{_≡_, refl}
-use mathlib.Core.List.{List, []}
+use mathlib.Core.List.{List, [], _∷_, _++_}
 use mathlib.Core.Bool.{Bool, true, false, _&&_}
 use Prim.Native.Nat.{ℕ, _+_, _≤_}
 use native.Mathlib.Omega.{arith}
@@ -8,16 +8,17 @@ use lib.ListN.{length, length-append}
 use Rattle.codec.specs.Format.{allowed}
 use Rattle.codec.proofs.Tests.{and-right}
 use Rattle.codec.proofs.Lawful.{verdict-allowed}
-use Rattle.path.specs.Record.{componentsOf}
+use Rattle.path.specs.Record.{componentsOf, wellFormed}
+use Rattle.path.proofs.Components.{parts-formed, count-is, total-small}
 use Rattle.path_relative.specs.Against.{againstBytes}
 use Rattle.path_relative.specs.Records.{againstPath}
 use Rattle.path_relative.proofs.Against.{against-short}
 use Rattle.entry.specs.declared.Entry.{Entry}
-use Rattle.entry.specs.Record.{entryOf, wellFormedEntry, TypedEntry}
-use Rattle.entry.proofs.Record.{apart-entry}
+use Rattle.entry.specs.Record.{fieldsOf, wellFormedEntry}
+use Rattle.entry_numbers.specs.Header.{packHeader}
 use Rattle.entry_numbers.specs.Numbers.{numbersBytes}
-use Rattle.entry_entry.specs.Entry.{idWritten, idBytes, idsBytes, endBytes, restBytes, entryBytes}
-use Rattle.entry_entry.specs.Records.{againstEntry}
+use Rattle.entry_entry.specs.Entry.{idWritten, idBytes, entryBytes}
+use Rattle.entry_entry.specs.Records.{againstEntry, headerWith, idsWith, restWith, partsWith}
 
 -- ---- an id
 module _ (r id : List ℕ) {b : Bool} (w : b ≡ idWritten r id) where
@@ -35,14 +36,20 @@ module _ (r e : Entry) where
   unfolding wellFormedEntry
   path-check = refl
 
-  pub path-short : againstEntry r .check e ≡ allowed → TypedEntry e → length (againstPath (r .path) .encode (e .path)) ≤ 900
-  path-short ok t =
-      let formed = verdict-allowed (wellFormedEntry r && wellFormedEntry e) true ok .0 in
-      let p = apart-entry e t (and-right (wellFormedEntry r) (wellFormedEntry e) formed) .ok in
-      omega (arith, against-short (componentsOf (r .path)) (componentsOf (e .path)), p .total, p .count)
+  pub path-short : againstEntry r .check e ≡ allowed → length (againstPath (r .path) .encode (e .path)) ≤ 900
+  unfolding wellFormedEntry
+  path-short ok =
+      let formed = verdict-allowed (wellFormed (r .path) && wellFormed (e .path)) true ok .0 in
+      let f = parts-formed (and-right (wellFormed (r .path)) (wellFormed (e .path)) formed) in
+      omega (arith, against-short (componentsOf (r .path)) (componentsOf (e .path)), total-small (e .path) f, count-is (e .path) f, f .well .count)
 
-  pub entry-long : (i m p : ℕ) → i ≡ length (idsBytes (entryOf r) (entryOf e)) → m ≡ length (numbersBytes (r .timestamp) (e .timestamp) (e .«payload_length»)) → p ≡ length (againstPath (r .path) .encode (e .path)) → length (e .«payload_digest») ≡ 32
-      → 1 + (i + (m + (p + 32))) ≡ length (againstEntry r .encode e)
+  -- by the bytes of the path
+  pub entry-bytes : packHeader (headerWith (fieldsOf r) (fieldsOf e)) ∷ partsWith (fieldsOf r) (fieldsOf e) (againstPath (r .path) .encode (e .path)) ≡ againstEntry r .encode e
   unfolding entryBytes
-  entry-long i m p ei em ep ed =
-      omega (arith, ei, em, ep, ed, length-append (idsBytes (entryOf r) (entryOf e)) (restBytes (entryOf r) (entryOf e)), length-append (numbersBytes (r .timestamp) (e .timestamp) (e .«payload_length»)) (endBytes (entryOf r) (entryOf e)), length-append (againstBytes (componentsOf (r .path)) (componentsOf (e .path))) (e .«payload_digest»))
+  entry-bytes = refl
+
+  pub entry-long : (p : ℕ) → p ≡ length (againstPath (r .path) .encode (e .path)) → length (e .«payload_digest») ≡ 32
+      → 1 + (length (idsWith (fieldsOf r) (fieldsOf e)) + (length (numbersBytes (r .timestamp) (e .timestamp) (e .«payload_length»)) + (p + 32))) ≡ length (againstEntry r .encode e)
+  unfolding entryBytes
+  entry-long p ep ed =
+      omega (arith, ep, ed, length-append (idsWith (fieldsOf r) (fieldsOf e)) (restWith (fieldsOf r) (fieldsOf e) (againstPath (r .path) .encode (e .path))), length-append (numbersBytes (r .timestamp) (e .timestamp) (e .«payload_length»)) (againstPath (r .path) .encode (e .path) ++ e .«payload_digest»), length-append (againstBytes (componentsOf (r .path)) (componentsOf (e .path))) (e .«payload_digest»))

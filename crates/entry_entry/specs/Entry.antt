@@ -12,6 +12,7 @@ use Rattle.entry_numbers.specs.declared.Numbers.{Numbers}
 use Rattle.entry_numbers.specs.Header.{unpackHeader, packHeader}
 use Rattle.entry_numbers.specs.Numbers.{headerOf, numbersBytes, readNumbers}
 use Rattle.entry_entry.specs.declared.Ids.{Ids}
+use Rattle.entry_entry.specs.declared.Head.{Head}
 
 -- ---- writing: header, namespace and subspace if they differ, time difference, payload length, path, digest
 unfoldable pub idWritten : List ℕ → List ℕ → Bool
@@ -29,11 +30,8 @@ idsBytes r v = idBytes (r .namespace) (v .namespace) ++ idBytes (r .subspace) (v
 abbrev pub endBytes : EntryValue → EntryValue → List ℕ
 endBytes r v = againstBytes (r .path) (v .path) ++ v .digest
 
-abbrev pub restBytes : EntryValue → EntryValue → List ℕ
-restBytes r v = numbersBytes (r .time) (v .time) (v .size) ++ endBytes r v
-
 abbrev pub partsBytes : EntryValue → EntryValue → List ℕ
-partsBytes r v = idsBytes r v ++ restBytes r v
+partsBytes r v = idsBytes r v ++ (numbersBytes (r .time) (v .time) (v .size) ++ endBytes r v)
 
 unfoldable pub entryBytes : EntryValue → EntryValue → List ℕ
 entryBytes r v = packHeader (entryHeader r v) ∷ partsBytes r v
@@ -45,42 +43,36 @@ readId written r = choose written (someBytes 32) (give r)
 abbrev pub idsFrom : List ℕ → List ℕ → Ids
 idsFrom namespace subspace = record { «namespace_id» = namespace; «subspace_id» = subspace }
 
-unfoldable pub readIds : EntryValue → Header → Reader Ids
-readIds r h =
-    andThen (readId (h .«namespace_written») (r .namespace)) (λ namespace.
-    mapped (idsFrom namespace) (
-    readId (h .«subspace_written») (r .subspace)))
+unfoldable pub readIds : List ℕ → List ℕ → Header → Reader Ids
+readIds namespace subspace h =
+    andThen (readId (h .«namespace_written») namespace) (λ n.
+    mapped (idsFrom n) (
+    readId (h .«subspace_written») subspace))
 
--- the path and the digest
-pub record EndValue : Type 0 where
-  pub path : List (List ℕ)
-  pub digest : List ℕ
+-- what comes before the path, against the reference's ids and time
+abbrev pub headFrom : Ids → Numbers → Head
+headFrom ids numbers = record { ids = ids; numbers = numbers }
 
-abbrev pub endFrom : List (List ℕ) → List ℕ → EndValue
-endFrom path digest = record { path = path; digest = digest }
+unfoldable pub readHead : List ℕ → List ℕ → ℕ → Reader Head
+readHead namespace subspace time =
+    andThen (readHeader unpackHeader) (λ h.
+    andThen (readIds namespace subspace h) (λ ids.
+    mapped (headFrom ids) (
+    readNumbers time h)))
 
-unfoldable pub readEnd : List (List ℕ) → Reader EndValue
-readEnd r =
-    andThen (readAgainst false r) (λ path.
-    mapped (endFrom path) (
-    someBytes 32))
-
-abbrev pub valueFrom : Ids → Numbers → EndValue → EntryValue
-valueFrom ids numbers end = record {
-  namespace = ids .«namespace_id»;
-  subspace = ids .«subspace_id»;
-  path = end .path;
-  time = numbers .timestamp;
-  size = numbers .«payload_length»;
-  digest = end .digest;
+abbrev pub valueFrom : Head → List (List ℕ) → List ℕ → EntryValue
+valueFrom head path digest = record {
+  namespace = head .ids .«namespace_id»;
+  subspace = head .ids .«subspace_id»;
+  path = path;
+  time = head .numbers .timestamp;
+  size = head .numbers .«payload_length»;
+  digest = digest;
 }
 
-unfoldable pub readParts : EntryValue → Header → Reader EntryValue
-readParts r h =
-    andThen (readIds r h) (λ ids.
-    andThen (readNumbers (r .time) h) (λ numbers.
-    mapped (valueFrom ids numbers) (
-    readEnd (r .path))))
-
 unfoldable pub readEntry : EntryValue → Reader EntryValue
-readEntry r = andThen (readHeader unpackHeader) (λ h. readParts r h)
+readEntry r =
+    andThen (readHead (r .namespace) (r .subspace) (r .time)) (λ head.
+    andThen (readAgainst false (r .path)) (λ path.
+    mapped (valueFrom head path) (
+    someBytes 32)))

@@ -1,13 +1,15 @@
 -- docs/FORMAT.md, "Entries against an entry": the same, as the code holds entries. 5 is tested on the reference and on the entry; nothing lies outside.
+use mathlib.Core.List.{List, _++_}
 use mathlib.Core.Bool.{true, _&&_}
+use Prim.Native.Nat.{ℕ}
 use Rattle.codec.specs.Format.{Format, verdictBy}
 use Rattle.codec.specs.Reader.{Reader, mapped, onFormed}
-use Rattle.path.specs.declared.Path.{Path}
-use Rattle.path.specs.Record.{componentsOf, pathFrom}
 use Rattle.entry.specs.declared.Entry.{Entry}
+use Rattle.entry.specs.declared.EntryFields.{EntryFields}
 use Rattle.entry.specs.Record.{entryOf, entryFrom, wellFormedEntry}
-use Rattle.entry_entry.specs.declared.End.{End}
-use Rattle.entry_entry.specs.Entry.{EndValue, entryBytes, readEnd, readEntry}
+use Rattle.entry_numbers.specs.declared.Header.{Header}
+use Rattle.entry_numbers.specs.Numbers.{headerOf, numbersBytes}
+use Rattle.entry_entry.specs.Entry.{idWritten, idBytes, entryBytes, readEntry}
 
 abbrev pub againstEntry : Entry → Format Entry
 againstEntry r = record {
@@ -18,9 +20,21 @@ againstEntry r = record {
 unfoldable pub readAgainstEntry : Entry → Reader Entry
 readAgainstEntry r = onFormed (wellFormedEntry r) (mapped entryFrom (readEntry (entryOf r)))
 
--- ---- inside the reader: the path and the digest
-abbrev pub endOf : EndValue → End
-endOf v = record { path = pathFrom (v .path); «payload_digest» = v .digest }
+-- ---- inside the writer: the header, and what follows it, by the bytes of the path
+abbrev pub headerWith : EntryFields → EntryFields → Header
+headerWith r f =
+    headerOf
+    (idWritten (r .«namespace_id») (f .«namespace_id»))
+    (idWritten (r .«subspace_id») (f .«subspace_id»))
+    (r .timestamp)
+    (f .timestamp)
+    (f .«payload_length»)
 
-unfoldable pub readEndOf : Path → Reader End
-readEndOf r = mapped endOf (readEnd (componentsOf r))
+abbrev pub idsWith : EntryFields → EntryFields → List ℕ
+idsWith r f = idBytes (r .«namespace_id») (f .«namespace_id») ++ idBytes (r .«subspace_id») (f .«subspace_id»)
+
+abbrev pub restWith : EntryFields → EntryFields → List ℕ → List ℕ
+restWith r f path = numbersBytes (r .timestamp) (f .timestamp) (f .«payload_length») ++ (path ++ f .«payload_digest»)
+
+abbrev pub partsWith : EntryFields → EntryFields → List ℕ → List ℕ
+partsWith r f path = idsWith r f ++ restWith r f path

@@ -1,24 +1,22 @@
-// Reading what follows the header: the ids, the time and the payload length, the path and the digest.
+// Reading what comes before the path: the header, the ids, the time and the payload length.
 ghost use mathlib.Core.Path.{_≡_};
-ghost use mathlib.Core.Bool.{true};
+ghost use mathlib.Core.Bool.{cond};
 ghost use lib.ListN.{drop};
 ghost use Rattle.codec.specs.Answers.{answerOf};
-ghost use Rattle.codec.specs.Reader.{mapped};
-ghost use Rattle.path.specs.Record.{wellFormed};
-ghost use Rattle.entry.specs.Record.{entryOf, entryFrom, wellFormedEntry};
-ghost use Rattle.entry.specs.Answers.{GivesEntry};
-ghost use Rattle.entry_entry.specs.Entry.{readId, readIds, readParts};
-ghost use Rattle.entry_entry.specs.Records.{readEndOf};
-use crate::DecodedEnd;
+ghost use Rattle.codec.specs.declared.Decoded.the-variants as decoded;
+ghost use Rattle.path.specs.Record.{pathOf, wellFormed};
+ghost use Rattle.entry.specs.Answers.{refusal};
+ghost use Rattle.entry_entry.specs.Entry.{readId, readIds, readHead};
+use crate::DecodedHead;
 use crate::DecodedIds;
-use crate::End;
+use crate::Head;
 use crate::Ids;
 use codec::Decoded;
 use codec::DecodedId;
 use entry::DecodedEntry;
-use entry::Entry;
+use entry::EntryFields;
 use entry_numbers::Header;
-use path::Path;
+use entry_numbers::Numbers;
 
 // An id is the reference's unless it is written.
 fn decode_id(message: &[u8], start: usize, written: bool, reference: [u8; 32]) -> DecodedId
@@ -45,16 +43,16 @@ fn no_ids(answer: Decoded) -> DecodedIds
     }
 }
 
-fn decode_ids(message: &[u8], header: Header, reference: Entry) -> DecodedIds
-    ensures { λ r. ⌜ answerOf (r .answer) (r .ids) ≡ readIds (entryOf reference) header (now (message .entry)) ⌝ }
+fn decode_ids(message: &[u8], header: Header, of: EntryFields) -> DecodedIds
+    ensures { λ r. ⌜ answerOf (r .answer) (r .ids) ≡ readIds (of .«namespace_id») (of .«subspace_id») header (now (message .entry)) ⌝ }
 {
-    let namespace_id = reference.namespace_id;
+    let namespace_id = of.namespace_id;
     let first = decode_id(message, 0, header.namespace_written, namespace_id);
     let first_answer = first.answer;
     let Decoded::Consumed(a) = first_answer else {
         return no_ids(first_answer);
     };
-    let subspace_id = reference.subspace_id;
+    let subspace_id = of.subspace_id;
     let second = decode_id(message, a, header.subspace_written, subspace_id);
     let second_answer = second.answer;
     let Decoded::Consumed(b) = second_answer else {
@@ -71,80 +69,66 @@ fn decode_ids(message: &[u8], header: Header, reference: Entry) -> DecodedIds
     }
 }
 
-fn no_end(answer: Decoded) -> DecodedEnd
+fn no_head(answer: Decoded) -> DecodedHead
     ensures { λ r. ⌜ r .answer ≡ answer ⌝ }
 {
-    let path = Path::new_empty();
-    DecodedEnd {
+    DecodedHead {
         answer: answer,
-        end: End {
-            path: path,
-            payload_digest: [0u8; 32],
+        head: Head {
+            ids: Ids {
+                namespace_id: [0u8; 32],
+                subspace_id: [0u8; 32],
+            },
+            numbers: Numbers {
+                timestamp: 0,
+                payload_length: 0,
+            },
         },
     }
 }
 
-fn decode_end(message: &[u8], reference: Path) -> DecodedEnd
-    requires { ⌜ wellFormed reference ≡ true ⌝ }
-    ensures { λ r. ⌜ answerOf (r .answer) (r .end) ≡ readEndOf reference (now (message .entry)) ⌝ }
+pub(crate) fn decode_head(message: &[u8], start: usize, of: EntryFields) -> DecodedHead
+    ensures { λ r. ⌜ answerOf (r .answer) (r .head) ≡ readHead (of .«namespace_id») (of .«subspace_id») (of .timestamp) (drop start (now (message .entry))) ⌝ }
 {
-    let first = path_relative::relative_decode(message, 0, false, reference);
-    let first_answer = first.answer;
-    let Decoded::Consumed(a) = first_answer else {
-        return no_end(first_answer);
-    };
-    let second = codec::decode_id(message, a);
-    let second_answer = second.answer;
-    let Decoded::Consumed(b) = second_answer else {
-        return no_end(second_answer);
-    };
-    let path = first.path;
-    let digest = second.id;
-    DecodedEnd {
-        answer: Decoded::Consumed(a + b),
-        end: End {
-            path: path,
-            payload_digest: digest,
-        },
+    if message.len() <= start {
+        return no_head(Decoded::EndOfInput);
     }
-}
-
-pub(crate) fn decode_parts(message: &[u8], header: Header, reference: Entry) -> DecodedEntry
-    requires { ⌜ wellFormedEntry reference ≡ true ⌝ }
-    ensures { λ r. ⌜ GivesEntry r (mapped entryFrom (readParts (entryOf reference) header) (now (message .entry))) ⌝ }
-{
-    let first = decode_ids(message, header, reference);
+    let header = entry_numbers::entry_header::unpack(message[start]);
+    let at = start + 1;
+    let first = decode_ids(&message[at..], header, of);
     let first_answer = first.answer;
     let Decoded::Consumed(a) = first_answer else {
-        return entry::refuse(first_answer);
+        return no_head(first_answer);
     };
-    let second = entry_numbers::relative_decode(&message[a..], header, reference.timestamp);
+    let next = at + a;
+    let second = entry_numbers::relative_decode(&message[next..], header, of.timestamp);
     let second_answer = second.answer;
     let Decoded::Consumed(b) = second_answer else {
-        return entry::refuse(second_answer);
-    };
-    let at = a + b;
-    let third = decode_end(&message[at..], reference.path);
-    let third_answer = third.answer;
-    let Decoded::Consumed(c) = third_answer else {
-        return entry::refuse(third_answer);
+        return no_head(second_answer);
     };
     let ids = first.ids;
-    let namespace = ids.namespace_id;
-    let subspace = ids.subspace_id;
     let numbers = second.numbers;
-    let end = third.end;
-    let path = end.path;
-    let digest = end.payload_digest;
-    DecodedEntry {
-        answer: Decoded::Consumed(a + (b + c)),
-        entry: Entry {
-            namespace_id: namespace,
-            subspace_id: subspace,
-            path: path,
-            timestamp: numbers.timestamp,
-            payload_length: numbers.payload_length,
-            payload_digest: digest,
+    DecodedHead {
+        answer: Decoded::Consumed(1 + (a + b)),
+        head: Head {
+            ids: ids,
+            numbers: numbers,
         },
     }
+}
+
+// A refusal before the path was looked at: 5 comes first.
+pub(crate) fn refuse_head<'a>(
+    answer: Decoded,
+    bytes: &'a [u8],
+    lengths: &'a [usize],
+    count: usize,
+) -> DecodedEntry
+    ensures { λ r. ⌜ r ≡ refusal (cond (wellFormed (pathOf (now (bytes .entry)) (now (lengths .entry)) count)) answer decoded.Malformed) ⌝ }
+{
+    let well = path::parts::well_formed(bytes, lengths, count);
+    if !well {
+        return entry::refuse(Decoded::Malformed);
+    }
+    entry::refuse(answer)
 }

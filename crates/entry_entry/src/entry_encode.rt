@@ -1,15 +1,17 @@
 // Writing the parts of an entry; their lengths.
 ghost use mathlib.Core.Path.{_≡_};
-ghost use Prim.Native.Nat.{_≤_};
+ghost use mathlib.Core.List.{_∷_, _++_};
+ghost use Prim.Native.Nat.{_+_, _≤_};
 ghost use lib.ListN.{length};
 ghost use Rattle.codec.specs.Format.{allowed, over};
-ghost use Rattle.path_relative.specs.Records.{againstPath};
-ghost use Rattle.entry.specs.Record.{entryOf};
+ghost use Rattle.path.specs.Record.{pathOf};
+ghost use Rattle.path_relative.specs.Records.{sharedFrom};
 ghost use Rattle.entry_numbers.specs.Header.{packHeader};
-ghost use Rattle.entry_entry.specs.Entry.{idWritten, entryHeader, idBytes, idsBytes, endBytes, restBytes, partsBytes};
-ghost use Rattle.entry_entry.specs.Records.{againstEntry};
+ghost use Rattle.entry_numbers.specs.Numbers.{numbersBytes};
+ghost use Rattle.entry_entry.specs.Entry.{idWritten, idBytes};
+ghost use Rattle.entry_entry.specs.Records.{headerWith, idsWith, restWith, partsWith};
 use codec::Encoded;
-use entry::Entry;
+use entry::EntryFields;
 
 fn id_written(id: [u8; 32], reference: [u8; 32]) -> bool
     ensures { λ r. ⌜ r ≡ idWritten reference id ⌝ }
@@ -17,21 +19,21 @@ fn id_written(id: [u8; 32], reference: [u8; 32]) -> bool
     !codec::same_bytes(&id, &reference)
 }
 
-fn header_byte(entry: Entry, reference: Entry) -> u8
-    ensures { λ r. ⌜ r ≡ packHeader (entryHeader (entryOf reference) (entryOf entry)) ⌝ }
+fn header_byte(fields: EntryFields, of: EntryFields) -> u8
+    ensures { λ r. ⌜ r ≡ packHeader (headerWith of fields) ⌝ }
 {
-    let namespace_id = entry.namespace_id;
-    let reference_namespace = reference.namespace_id;
-    let namespace_written = id_written(namespace_id, reference_namespace);
-    let subspace_id = entry.subspace_id;
-    let reference_subspace = reference.subspace_id;
-    let subspace_written = id_written(subspace_id, reference_subspace);
+    let namespace_id = fields.namespace_id;
+    let of_namespace = of.namespace_id;
+    let namespace_written = id_written(namespace_id, of_namespace);
+    let subspace_id = fields.subspace_id;
+    let of_subspace = of.subspace_id;
+    let subspace_written = id_written(subspace_id, of_subspace);
     entry_numbers::header_byte(
         namespace_written,
         subspace_written,
-        entry.timestamp,
-        entry.payload_length,
-        reference.timestamp,
+        fields.timestamp,
+        fields.payload_length,
+        of.timestamp,
     )
 }
 
@@ -47,15 +49,29 @@ fn id_len(id: [u8; 32], reference: [u8; 32]) -> usize
 }
 
 // How many bytes the ids take.
-pub(crate) fn ids_len(entry: Entry, reference: Entry) -> usize
-    ensures { λ r. ⌜ (r ≡ length (idsBytes (entryOf reference) (entryOf entry))) × (r ≤ 64) ⌝ }
+fn ids_len(fields: EntryFields, of: EntryFields) -> usize
+    ensures { λ r. ⌜ (r ≡ length (idsWith of fields)) × (r ≤ 64) ⌝ }
 {
-    let namespace_id = entry.namespace_id;
-    let reference_namespace = reference.namespace_id;
-    let a = id_len(namespace_id, reference_namespace);
-    let subspace_id = entry.subspace_id;
-    let reference_subspace = reference.subspace_id;
-    a + id_len(subspace_id, reference_subspace)
+    let namespace_id = fields.namespace_id;
+    let of_namespace = of.namespace_id;
+    let a = id_len(namespace_id, of_namespace);
+    let subspace_id = fields.subspace_id;
+    let of_subspace = of.subspace_id;
+    a + id_len(subspace_id, of_subspace)
+}
+
+// How many bytes an entry takes whose path takes `path` bytes.
+pub(crate) fn entry_len(fields: EntryFields, of: EntryFields, path: usize) -> usize
+    requires { ⌜ path ≤ 2000 ⌝ }
+    ensures { λ r. ⌜ r ≡ 1 + (length (idsWith of fields) + (length (numbersBytes (of .timestamp) (fields .timestamp) (fields .«payload_length»)) + (path + 32))) ⌝ }
+{
+    let a = ids_len(fields, of);
+    let b = entry_numbers::relative_len_of_encoding(
+        fields.timestamp,
+        fields.payload_length,
+        of.timestamp,
+    );
+    1 + (a + (b + (path + 32)))
 }
 
 fn put_id(buffer: &mut [u8], id: [u8; 32], reference: [u8; 32]) -> usize
@@ -71,64 +87,95 @@ fn put_id(buffer: &mut [u8], id: [u8; 32], reference: [u8; 32]) -> usize
 }
 
 // The ids.
-fn put_ids(buffer: &mut [u8], entry: Entry, reference: Entry) -> usize
-    requires { ⌜ length (idsBytes (entryOf reference) (entryOf entry)) ≤ length (now buffer) ⌝ }
-    ensures { λ r. ⌜ (r ≡ length (idsBytes (entryOf reference) (entryOf entry))) × (now (buffer .exit) ≡ over (idsBytes (entryOf reference) (entryOf entry)) (now (buffer .entry))) ⌝ }
+fn put_ids(buffer: &mut [u8], fields: EntryFields, of: EntryFields) -> usize
+    requires { ⌜ length (idsWith of fields) ≤ length (now buffer) ⌝ }
+    ensures { λ r. ⌜ (r ≡ length (idsWith of fields)) × (now (buffer .exit) ≡ over (idsWith of fields) (now (buffer .entry))) ⌝ }
 {
-    let namespace_id = entry.namespace_id;
-    let reference_namespace = reference.namespace_id;
-    let a = put_id(buffer, namespace_id, reference_namespace);
-    let subspace_id = entry.subspace_id;
-    let reference_subspace = reference.subspace_id;
-    a + put_id(&mut buffer[a..], subspace_id, reference_subspace)
+    let namespace_id = fields.namespace_id;
+    let of_namespace = of.namespace_id;
+    let a = put_id(buffer, namespace_id, of_namespace);
+    let subspace_id = fields.subspace_id;
+    let of_subspace = of.subspace_id;
+    a + put_id(&mut buffer[a..], subspace_id, of_subspace)
 }
 
-// The path and the digest.
-fn put_end(buffer: &mut [u8], entry: Entry, reference: Entry)
-    requires { ⌜ (againstPath (reference .path) .check (entry .path) ≡ allowed) × (length (endBytes (entryOf reference) (entryOf entry)) ≤ length (now buffer)) ⌝ }
-    ensures { λ _. ⌜ now (buffer .exit) ≡ over (endBytes (entryOf reference) (entryOf entry)) (now (buffer .entry)) ⌝ }
+// The path, `k` components of which are shared, and the digest.
+fn put_end<'a>(
+    buffer: &mut [u8],
+    digest: [u8; 32],
+    bytes: &'a [u8],
+    lengths: &'a [usize],
+    count: usize,
+    k: usize,
+)
+    requires { ⌜ (sharedFrom k .check (pathOf (now bytes) (now lengths) count) ≡ allowed) × (length (sharedFrom k .encode (pathOf (now bytes) (now lengths) count) ++ digest) ≤ length (now buffer)) ⌝ }
+    ensures { λ _. ⌜ now (buffer .exit) ≡ over (sharedFrom k .encode (pathOf (now (bytes .entry)) (now (lengths .entry)) count) ++ digest) (now (buffer .entry)) ⌝ }
 {
-    let whole = path_relative::relative_encode(buffer, entry.path, reference.path);
+    let whole = path_relative::parts::encode_shared(buffer, bytes, lengths, count, k);
     let Encoded::Length(n) = whole else {
         return;
     };
-    let digest = entry.payload_digest;
     codec::put_bytes(&mut buffer[n..], &digest);
 }
 
 // What follows the ids.
-fn put_rest(buffer: &mut [u8], entry: Entry, reference: Entry)
-    requires { ⌜ (againstPath (reference .path) .check (entry .path) ≡ allowed) × (length (restBytes (entryOf reference) (entryOf entry)) ≤ length (now buffer)) ⌝ }
-    ensures { λ _. ⌜ now (buffer .exit) ≡ over (restBytes (entryOf reference) (entryOf entry)) (now (buffer .entry)) ⌝ }
+fn put_rest<'a>(
+    buffer: &mut [u8],
+    fields: EntryFields,
+    of: EntryFields,
+    bytes: &'a [u8],
+    lengths: &'a [usize],
+    count: usize,
+    k: usize,
+)
+    requires { ⌜ (sharedFrom k .check (pathOf (now bytes) (now lengths) count) ≡ allowed) × (length (restWith of fields (sharedFrom k .encode (pathOf (now bytes) (now lengths) count))) ≤ length (now buffer)) ⌝ }
+    ensures { λ _. ⌜ now (buffer .exit) ≡ over (restWith of fields (sharedFrom k .encode (pathOf (now (bytes .entry)) (now (lengths .entry)) count))) (now (buffer .entry)) ⌝ }
 {
     let n = entry_numbers::relative_len_of_encoding(
-        entry.timestamp,
-        entry.payload_length,
-        reference.timestamp,
+        fields.timestamp,
+        fields.payload_length,
+        of.timestamp,
     );
     entry_numbers::relative_encode(
         buffer,
-        entry.timestamp,
-        entry.payload_length,
-        reference.timestamp,
+        fields.timestamp,
+        fields.payload_length,
+        of.timestamp,
     );
-    put_end(&mut buffer[n..], entry, reference);
+    let digest = fields.payload_digest;
+    put_end(&mut buffer[n..], digest, bytes, lengths, count, k);
 }
 
 // What follows the header.
-fn put_parts(buffer: &mut [u8], entry: Entry, reference: Entry)
-    requires { ⌜ (againstPath (reference .path) .check (entry .path) ≡ allowed) × (length (partsBytes (entryOf reference) (entryOf entry)) ≤ length (now buffer)) ⌝ }
-    ensures { λ _. ⌜ now (buffer .exit) ≡ over (partsBytes (entryOf reference) (entryOf entry)) (now (buffer .entry)) ⌝ }
+fn put_parts<'a>(
+    buffer: &mut [u8],
+    fields: EntryFields,
+    of: EntryFields,
+    bytes: &'a [u8],
+    lengths: &'a [usize],
+    count: usize,
+    k: usize,
+)
+    requires { ⌜ (sharedFrom k .check (pathOf (now bytes) (now lengths) count) ≡ allowed) × (length (partsWith of fields (sharedFrom k .encode (pathOf (now bytes) (now lengths) count))) ≤ length (now buffer)) ⌝ }
+    ensures { λ _. ⌜ now (buffer .exit) ≡ over (partsWith of fields (sharedFrom k .encode (pathOf (now (bytes .entry)) (now (lengths .entry)) count))) (now (buffer .entry)) ⌝ }
 {
-    let n = put_ids(buffer, entry, reference);
-    put_rest(&mut buffer[n..], entry, reference);
+    let n = put_ids(buffer, fields, of);
+    put_rest(&mut buffer[n..], fields, of, bytes, lengths, count, k);
 }
 
-// Writes a well-formed entry.
-pub(crate) fn put_entry(buffer: &mut [u8], entry: Entry, reference: Entry)
-    requires { ⌜ (againstEntry reference .check entry ≡ allowed) × (length (againstEntry reference .encode entry) ≤ length (now buffer)) ⌝ }
-    ensures { λ _. ⌜ now (buffer .exit) ≡ over (againstEntry reference .encode entry) (now (buffer .entry)) ⌝ }
+// Writes an entry, `k` components of whose path are shared.
+pub(crate) fn put_entry<'a>(
+    buffer: &mut [u8],
+    fields: EntryFields,
+    of: EntryFields,
+    bytes: &'a [u8],
+    lengths: &'a [usize],
+    count: usize,
+    k: usize,
+)
+    requires { ⌜ (sharedFrom k .check (pathOf (now bytes) (now lengths) count) ≡ allowed) × (1 + length (partsWith of fields (sharedFrom k .encode (pathOf (now bytes) (now lengths) count))) ≤ length (now buffer)) ⌝ }
+    ensures { λ _. ⌜ now (buffer .exit) ≡ over (packHeader (headerWith of fields) ∷ partsWith of fields (sharedFrom k .encode (pathOf (now (bytes .entry)) (now (lengths .entry)) count))) (now (buffer .entry)) ⌝ }
 {
-    buffer[0] = header_byte(entry, reference);
-    put_parts(&mut buffer[1..], entry, reference);
+    buffer[0] = header_byte(fields, of);
+    put_parts(&mut buffer[1..], fields, of, bytes, lengths, count, k);
 }

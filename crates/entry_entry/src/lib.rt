@@ -9,10 +9,11 @@ use codec::Decoded;
 use codec::Encoded;
 use entry::DecodedEntry;
 use entry::Entry;
-use path::Path;
+use entry_numbers::Numbers;
 
 mod entry_decode;
 mod entry_encode;
+pub mod parts;
 
 pub struct Ids {
     pub namespace_id: [u8; 32],
@@ -24,68 +25,65 @@ pub struct DecodedIds {
     pub ids: Ids,
 }
 
-// The path and the payload digest.
-pub struct End {
-    pub path: Path,
-    pub payload_digest: [u8; 32],
+// What comes before the path.
+pub struct Head {
+    pub ids: Ids,
+    pub numbers: Numbers,
 }
 
-pub struct DecodedEnd {
+pub struct DecodedHead {
     pub answer: Decoded,
-    pub end: End,
+    pub head: Head,
 }
 
 // Reads an entry against a reference.
 pub fn relative_decode(message: &[u8], start: usize, reference: Entry) -> DecodedEntry
     ensures { λ r. ⌜ GivesEntry r (readAgainstEntry reference (drop start (now (message .entry)))) ⌝ }
 {
-    let well = reference.well_formed();
-    if !well {
-        return entry::refuse(Decoded::Malformed);
-    }
-    if message.len() <= start {
-        return entry::refuse(Decoded::EndOfInput);
-    }
-    let header = entry_numbers::entry_header::unpack(message[start]);
-    let at = start + 1;
-    let read = entry_decode::decode_parts(&message[at..], header, reference);
-    let answer = read.answer;
-    let Decoded::Consumed(n) = answer else {
-        return read;
-    };
-    let entry = read.entry;
-    DecodedEntry {
-        answer: Decoded::Consumed(1 + n),
-        entry: entry,
-    }
+    let of = reference.fields();
+    parts::relative_decode(
+        message,
+        start,
+        of,
+        &reference.path.bytes,
+        &reference.path.lengths,
+        reference.path.count,
+    )
 }
 
 // How many bytes an entry against a reference takes.
 pub fn relative_len_of_encoding(entry: Entry, reference: Entry) -> Encoded
     ensures { λ r. ⌜ outcomeOf r ≡ lengthAnswer (againstEntry reference) entry ⌝ }
 {
-    let path = path_relative::relative_len_of_encoding(entry.path, reference.path);
-    let Encoded::Length(n) = path else {
-        return path;
-    };
-    let a = entry_encode::ids_len(entry, reference);
-    let b = entry_numbers::relative_len_of_encoding(
-        entry.timestamp,
-        entry.payload_length,
-        reference.timestamp,
-    );
-    Encoded::Length(1 + (a + (b + (n + 32))))
+    let fields = entry.fields();
+    let of = reference.fields();
+    parts::relative_len_of_encoding(
+        fields,
+        &entry.path.bytes,
+        &entry.path.lengths,
+        entry.path.count,
+        of,
+        &reference.path.bytes,
+        &reference.path.lengths,
+        reference.path.count,
+    )
 }
 
 // Writes an entry against a reference.
 pub fn relative_encode(buffer: &mut [u8], entry: Entry, reference: Entry) -> Encoded
     ensures { λ r. ⌜ (outcomeOf r ≡ writeAnswer (againstEntry reference) entry (length (now (buffer .entry)))) × (now (buffer .exit) ≡ writeBuffer (againstEntry reference) entry (now (buffer .entry))) ⌝ }
 {
-    let whole = relative_len_of_encoding(entry, reference);
-    let answer = codec::in_room(whole, buffer.len());
-    let Encoded::Length(_) = answer else {
-        return answer;
-    };
-    entry_encode::put_entry(buffer, entry, reference);
-    answer
+    let fields = entry.fields();
+    let of = reference.fields();
+    parts::relative_encode(
+        buffer,
+        fields,
+        &entry.path.bytes,
+        &entry.path.lengths,
+        entry.path.count,
+        of,
+        &reference.path.bytes,
+        &reference.path.lengths,
+        reference.path.count,
+    )
 }

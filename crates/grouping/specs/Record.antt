@@ -7,11 +7,13 @@ use Prim.Native.Nat.{ℕ}
 use lib.ListN.{length, replicate}
 use Rattle.codec.specs.Answers.{AllBytes}
 use Rattle.codec.specs.Bytes.{sameBytes}
+use Rattle.path.specs.declared.Path.{Path}
 use Rattle.path.specs.declared.Compared.{Compared}
 use Rattle.path.specs.declared.Compared.the-variants as compared
 use Rattle.path.specs.Record.{componentsOf, pathFrom, wellFormed, TypedPath}
 use Rattle.path.specs.Answers.{verdict}
 use Rattle.grouping.specs.declared.AreaSubspace.{AreaSubspace}
+use Rattle.grouping.specs.declared.TimeRange.{TimeRange}
 use Rattle.grouping.specs.declared.Area.{Area}
 use Rattle.grouping.specs.Range.{TypedRange}
 use Rattle.grouping.specs.Area.{AreaValue, includesSubspace, includesArea, liesInside}
@@ -26,6 +28,10 @@ subspaceFrom (some id) = record { any = false; id = id }
 
 abbrev pub areaOf : Area → AreaValue
 areaOf a = record { subspace = subspaceOf (a .subspace); path = componentsOf (a .path); times = a .times }
+
+-- a record of these parts
+abbrev pub areaWith : AreaSubspace → Path → TimeRange → Area
+areaWith subspace path times = record { subspace = subspace; path = path; times = times }
 
 unfoldable pub areaFrom : AreaValue → Area
 areaFrom v = record { subspace = subspaceFrom (v .subspace); path = pathFrom (v .path); times = v .times }

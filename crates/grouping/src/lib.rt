@@ -4,6 +4,7 @@ ghost use Rattle.grouping.specs.Record.{wellFormedSubspace, subspaceIncl
 use path::Compared;
 use path::Path;
 
+pub mod parts;
 mod range;
 
 // Where a range of times ends: before a time, or nowhere.
@@ -71,47 +72,39 @@ impl Area {
     pub fn includes_area(self, area: Area) -> Compared
         ensures { λ r. ⌜ r ≡ areaIncludes self area ⌝ }
     {
-        let well = self.subspace.well_formed();
-        if !well {
-            return Compared::Malformed;
-        }
-        let area_well = area.subspace.well_formed();
-        if !area_well {
-            return Compared::Malformed;
-        }
-        let prefix = self.path.is_prefix_of(area.path);
-        let Compared::Yes = prefix else {
-            return prefix;
-        };
-        let subspace = self.subspace.includes_area_subspace(area.subspace);
-        if !subspace {
-            return Compared::No;
-        }
-        let times = self.times.includes_range(area.times);
-        if !times {
-            return Compared::No;
-        }
-        Compared::Yes
+        let path = self.path;
+        let other = area.path;
+        parts::includes(
+            self.subspace,
+            self.times,
+            &path.bytes,
+            &path.lengths,
+            path.count,
+            area.subspace,
+            area.times,
+            &other.bytes,
+            &other.lengths,
+            other.count,
+        )
     }
 
     // Whether an area lies inside: it is included, and its start and end lie between the start and the end.
     pub fn contains(self, area: Area) -> Compared
         ensures { λ r. ⌜ r ≡ areaInside self area ⌝ }
     {
-        let included = self.includes_area(area);
-        let Compared::Yes = included else {
-            return included;
-        };
-        let first = self.times.bounds(area.times.start);
-        if !first {
-            return Compared::No;
-        }
-        let times = area.times;
-        let end = times.end;
-        let last = self.times.bounds(end.value());
-        if !last {
-            return Compared::No;
-        }
-        Compared::Yes
+        let path = self.path;
+        let other = area.path;
+        parts::contains(
+            self.subspace,
+            self.times,
+            &path.bytes,
+            &path.lengths,
+            path.count,
+            area.subspace,
+            area.times,
+            &other.bytes,
+            &other.lengths,
+            other.count,
+        )
     }
 }

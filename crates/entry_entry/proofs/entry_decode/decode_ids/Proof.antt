@@ -5,7 +5,6 @@ use lib.ListN.{drop}
 use Rattle.codec.specs.Answers.{accepted, answerOf}
 use Rattle.codec.specs.declared.Decoded.{Decoded}
 use Rattle.codec.proofs.Answers.{no-value}
-use Rattle.entry.specs.Record.{entryOf}
 use Rattle.entry_entry.specs.Entry.{readId}
 use Rattle.entry_entry.proofs.DecodeExits.{ids-first, ids-second, ids-read, ids-inside}
 use borrow.Author.Needs.{needs}
@@ -13,11 +12,11 @@ use Rattle.entry_entry.proofs.entry_decode.decode_ids.Statement.{statem
 use Rattle.entry_entry.proofs.entry_decode.decode_ids.Tie as tie
 
 first-is : (c : tie.After-known-told) → let a = c .before .before .before .before .before .before .args in
-    readId (a .header .«namespace_written») (a .reference .«namespace_id») (now (a .message)) ≡ accepted (c .before .before .before .decode-id .result .id) (c .before .first-answer .given .0 .0)
+    readId (a .header .«namespace_written») (a .of .«namespace_id») (now (a .message)) ≡ accepted (c .before .before .before .decode-id .result .id) (c .before .first-answer .given .0 .0)
 first-is c = sym (c .before .before .before .decode-id .ensures) ∙ ap (λ (d : Decoded). answerOf d (c .before .before .before .decode-id .result .id)) (c .before .first-answer .given .1)
 
 second-is : (c : tie.After-known-told2) → let a = c .before .before .before .before .before .before .before .before .before .before .before .args in
-    readId (a .header .«subspace_written») (a .reference .«subspace_id») (drop (c .before .before .before .before .before .before .first-answer .given .0 .0) (now (a .message))) ≡ accepted (c .before .before .before .decode-id2 .result .id) (c .before .second-answer .given .0 .0)
+    readId (a .header .«subspace_written») (a .of .«subspace_id») (drop (c .before .before .before .before .before .before .first-answer .given .0 .0) (now (a .message))) ≡ accepted (c .before .before .before .decode-id2 .result .id) (c .before .second-answer .given .0 .0)
 second-is c = sym (c .before .before .before .decode-id2 .ensures) ∙ ap (λ (d : Decoded). answerOf d (c .before .before .before .decode-id2 .result .id)) (c .before .second-answer .given .1)
 
 decode-id-requires : tie.Need-decode-id-requires
@@ -33,7 +32,7 @@ returns : tie.Need-returns
 returns c =
     let a = c .before .before .before .before .before .args in
     let x = no-value (c .before .before .decode-id .result .answer) (c .before .match .keys2) in
-    rw (c .no-ids .ensures) (x .beside _ ∙ sym (ids-first (entryOf (a .reference)) (a .header) (now (a .message)) (x .why) (sym (c .before .before .decode-id .ensures) ∙ x .beside _)))
+    rw (c .no-ids .ensures) (x .beside _ ∙ sym (ids-first (a .of .«namespace_id») (a .of .«subspace_id») (a .header) (now (a .message)) (x .why) (sym (c .before .before .decode-id .ensures) ∙ x .beside _)))
 
 decode-id-requires-2 : tie.Need-decode-id-requires-2
 decode-id-requires-2 c κs = search needs
@@ -48,17 +47,17 @@ returns-2 : tie.Need-returns-2
 returns-2 c =
     let a = c .before .before .before .before .before .before .before .before .before .before .args in
     let x = no-value (c .before .before .decode-id2 .result .answer) (c .before .match2 .keys2) in
-    rw (c .no-ids2 .ensures) (x .beside _ ∙ sym (ids-second (entryOf (a .reference)) (a .header) (now (a .message)) _ _ (first-is (c .before .before .before .before)) (x .why) (sym (c .before .before .decode-id2 .ensures) ∙ x .beside _)))
+    rw (c .no-ids2 .ensures) (x .beside _ ∙ sym (ids-second (a .of .«namespace_id») (a .of .«subspace_id») (a .header) (now (a .message)) _ _ (first-is (c .before .before .before .before)) (x .why) (sym (c .before .before .decode-id2 .ensures) ∙ x .beside _)))
 
 add-t14 : tie.Need-add-t14
 add-t14 c =
     let a = c .before .before .before .before .before .before .before .before .before .before .before .before .before .args in
-    omega (arith, ids-inside (entryOf (a .reference)) (a .header) (now (a .message)) _ _ (first-is (c .before .before .before .before .before .before .before)) _ _ (second-is (c .before .before)))
+    omega (arith, ids-inside (a .of .«namespace_id») (a .of .«subspace_id») (a .header) (now (a .message)) _ _ (first-is (c .before .before .before .before .before .before .before)) _ _ (second-is (c .before .before)))
 
 returns-3 : tie.Need-returns-3
 returns-3 c =
     let a = c .before .before .before .before .before .before .before .before .before .before .before .before .before .args in
-    sym (ids-read (entryOf (a .reference)) (a .header) (now (a .message)) _ _ (first-is (c .before .before .before .before .before .before .before)) _ _ (second-is (c .before .before)))
+    sym (ids-read (a .of .«namespace_id») (a .of .«subspace_id») (a .header) (now (a .message)) _ _ (first-is (c .before .before .before .before .before .before .before)) _ _ (second-is (c .before .before)))
 
 pub decode-ids-spec : {M : Type 1} → statement M
 decode-ids-spec =

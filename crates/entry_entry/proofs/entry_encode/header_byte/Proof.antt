@@ -16,5 +16,4 @@ returns c = rw (← (c .before .id-written2 .ensures), ← (c .before .before .b
 
 pub header-byte-spec : {M : Type 1} → statement M
 header-byte-spec =
-    tie.close
-    (tie.spec id-written-requires id-written-requires-2 header-byte-requires returns)
+    tie.close (tie.spec id-written-requires id-written-requires-2 header-byte-requires returns)

@@ -1,3 +1,4 @@
+use borrow.Author.Needs.{needs}
 use mathlib.Core.Path.{_∙_}
 use Prim.Native.Nat.{_+_, _≤_}
 use native.Mathlib.Omega.{arith}
@@ -5,15 +6,14 @@ use denote.Ref.{now}
 use lib.ListN.{length, length-append, length-drop}
 use Rattle.codec.proofs.Lending.{over-then, to-end, put-end}
 use Rattle.entry_entry.specs.Entry.{idBytes}
-use borrow.Author.Needs.{needs}
 use Rattle.entry_entry.proofs.entry_encode.put_ids.Statement.{statement}
 use Rattle.entry_entry.proofs.entry_encode.put_ids.Tie as tie
 
 -- the parts fit
-parts : (c : tie.Start) → let a = c .args in length (idBytes (a .reference .«namespace_id») (a .entry .«namespace_id»)) + length (idBytes (a .reference .«subspace_id») (a .entry .«subspace_id»)) ≤ length (now (a .buffer))
+parts : (c : tie.Start) → let a = c .args in length (idBytes (a .of .«namespace_id») (a .fields .«namespace_id»)) + length (idBytes (a .of .«subspace_id») (a .fields .«subspace_id»)) ≤ length (now (a .buffer))
 parts c =
     let a = c .args in
-    omega (arith, c .pre, length-append (idBytes (a .reference .«namespace_id») (a .entry .«namespace_id»)) (idBytes (a .reference .«subspace_id») (a .entry .«subspace_id»)))
+    omega (arith, c .pre, length-append (idBytes (a .of .«namespace_id») (a .fields .«namespace_id»)) (idBytes (a .of .«subspace_id») (a .fields .«subspace_id»)))
 
 put-id-requires : tie.Need-put-id-requires
 put-id-requires c κs = omega (arith, parts (c .before .before .before .before))
@@ -42,8 +42,8 @@ returns : tie.Need-returns
 returns c =
     let a = c .before .before .before .before .before .before .before .before .before .before .before .before .before .args in
     let l = now (a .buffer) in
-    let x = idBytes (a .reference .«namespace_id») (a .entry .«namespace_id») in
-    let y = idBytes (a .reference .«subspace_id») (a .entry .«subspace_id») in
+    let x = idBytes (a .of .«namespace_id») (a .fields .«namespace_id») in
+    let y = idBytes (a .of .«subspace_id») (a .fields .«subspace_id») in
     let n = c .before .before .before .before .before .before .before .before .put-id in
     let w = c .before .before .put-id2 in
     let rest = rw (to-end (n .result) (n .last .0)) at (w .ensures .1) in (

@@ -1,27 +1,32 @@
+use borrow.Author.Needs.{needs}
 use mathlib.Core.Path.{_∙_}
-use Prim.Native.Nat.{_+_, _≤_}
+use mathlib.Core.List.{List}
+use Prim.Native.Nat.{ℕ, _+_, _≤_}
 use native.Mathlib.Omega.{arith}
 use denote.Ref.{now}
 use lib.ListN.{length, length-append, length-drop}
 use Rattle.codec.proofs.Lending.{over-then, to-end, put-end}
-use Rattle.entry.specs.Record.{entryOf}
-use Rattle.entry_entry.specs.Entry.{idsBytes, restBytes}
-use borrow.Author.Needs.{needs}
+use Rattle.path.specs.Record.{pathOf}
+use Rattle.path_relative.specs.Records.{sharedFrom}
+use Rattle.entry_entry.specs.Records.{idsWith, restWith}
 use Rattle.entry_entry.proofs.entry_encode.put_parts.Statement.{statement}
 use Rattle.entry_entry.proofs.entry_encode.put_parts.Tie as tie
 
+abbrev bytes : tie.Start → List ℕ
+bytes c = sharedFrom (c .args .k) .encode (pathOf (now (c .args .bytes)) (now (c .args .lengths)) (c .args .count))
+
 -- the parts fit
-parts : (c : tie.Start) → let a = c .args in length (idsBytes (entryOf (a .reference)) (entryOf (a .entry))) + length (restBytes (entryOf (a .reference)) (entryOf (a .entry))) ≤ length (now (a .buffer))
-parts c = let a = c .args in omega (arith, c .pre .1, length-append (idsBytes (entryOf (a .reference)) (entryOf (a .entry))) (restBytes (entryOf (a .reference)) (entryOf (a .entry))))
+parts : (c : tie.Start) → let a = c .args in length (idsWith (a .of) (a .fields)) + length (restWith (a .of) (a .fields) (bytes c)) ≤ length (now (a .buffer))
+parts c = let a = c .args in omega (arith, c .pre .1, length-append (idsWith (a .of) (a .fields)) (restWith (a .of) (a .fields) (bytes c)))
 
 put-ids-requires : tie.Need-put-ids-requires
-put-ids-requires c κs = omega (arith, parts (c .before .before))
+put-ids-requires c κs = omega (arith, parts (c .before .before .before .before))
 
 sub-put-rest : tie.Need-sub-put-rest
-sub-put-rest c = omega (arith, parts (c .before .before .before .before .before), c .before .before .put-ids .ensures .0, c .before .before .put-ids .kept .0)
+sub-put-rest c = omega (arith, parts (c .before .before .before .before .before .before .before), c .before .before .put-ids .ensures .0, c .before .before .put-ids .kept .0)
 
 part-put-rest-start : tie.Need-part-put-rest-start
-part-put-rest-start c = omega (arith, parts (c .before .before .before .before .before), c .before .before .put-ids .ensures .0, c .before .before .put-ids .kept .0)
+part-put-rest-start c = omega (arith, parts (c .before .before .before .before .before .before .before), c .before .before .put-ids .ensures .0, c .before .before .put-ids .kept .0)
 
 part-put-rest-end : tie.Need-part-put-rest-end
 part-put-rest-end c = search needs
@@ -29,19 +34,19 @@ part-put-rest-end c = search needs
 put-rest-requires : tie.Need-put-rest-requires
 put-rest-requires c κs =
     let n = c .before .before .before .put-ids in
-    (c .before .before .before .before .before .before .pre .0, rw (to-end (n .result) (n .last .0), length-drop) (omega (arith, parts (c .before .before .before .before .before .before), n .ensures .0, n .kept .0)))
+    (c .before .before .before .before .before .before .before .before .pre .0, rw (to-end (n .result) (n .last .0), length-drop) (omega (arith, parts (c .before .before .before .before .before .before .before .before), n .ensures .0, n .kept .0)))
 
 same-length : tie.Need-same-length
 same-length c = search needs
 
 returns : tie.Need-returns
 returns c =
-    let a = c .before .before .before .before .before .before .before .before .before .args in
-    let l = now (a .buffer) in
+    let s = c .before .before .before .before .before .before .before .before .before .before .before in
+    let l = now (s .args .buffer) in
     let n = c .before .before .before .before .before .before .put-ids in
     let w = c .before .before .put-rest in
     let rest = rw (to-end (n .result) (n .last .0)) at (w .ensures) in
-    put-end (n .result) (n .last .0) (w .last .0) ∙ rw (rest, n .ensures .1, n .ensures .0) (over-then l (idsBytes (entryOf (a .reference)) (entryOf (a .entry))) (restBytes (entryOf (a .reference)) (entryOf (a .entry))))
+    put-end (n .result) (n .last .0) (w .last .0) ∙ rw (rest, n .ensures .1, n .ensures .0) (over-then l (idsWith (s .args .of) (s .args .fields)) (restWith (s .args .of) (s .args .fields) (bytes s)))
 
 pub put-parts-spec : {M : Type 1} → statement M
 put-parts-spec =

@@ -1,24 +1,28 @@
 use mathlib.Core.Path.{_≡_, _∙_}
-use Prim.Native.Nat.{_+_, _≤_}
+use mathlib.Core.List.{List, _++_}
+use Prim.Native.Nat.{ℕ, _+_, _≤_}
 use native.Mathlib.Omega.{arith}
 use denote.Ref.{now}
 use lib.ListN.{length, length-append, length-drop}
 use Rattle.codec.specs.Format.{over}
 use Rattle.codec.proofs.Lending.{put-over, over-then, to-end, put-end}
-use Rattle.entry.specs.Record.{entryOf}
+use Rattle.path.specs.Record.{pathOf}
+use Rattle.path_relative.specs.Records.{sharedFrom}
 use Rattle.entry_numbers.specs.Numbers.{numbersBytes}
-use Rattle.entry_entry.specs.Entry.{endBytes}
 use borrow.Author.Needs.{needs}
 use Rattle.entry_entry.proofs.entry_encode.put_rest.Statement.{statement}
 use Rattle.entry_entry.proofs.entry_encode.put_rest.Tie as tie
 
+abbrev bytes : tie.Start → List ℕ
+bytes c = sharedFrom (c .args .k) .encode (pathOf (now (c .args .bytes)) (now (c .args .lengths)) (c .args .count))
+
 -- the parts fit
-parts : (c : tie.Start) → let a = c .args in length (numbersBytes (a .reference .timestamp) (a .entry .timestamp) (a .entry .«payload_length»)) + length (endBytes (entryOf (a .reference)) (entryOf (a .entry))) ≤ length (now (a .buffer))
-parts c = let a = c .args in omega (arith, c .pre .1, length-append (numbersBytes (a .reference .timestamp) (a .entry .timestamp) (a .entry .«payload_length»)) (endBytes (entryOf (a .reference)) (entryOf (a .entry))))
+parts : (c : tie.Start) → let a = c .args in length (numbersBytes (a .of .timestamp) (a .fields .timestamp) (a .fields .«payload_length»)) + length (bytes c ++ a .fields .«payload_digest») ≤ length (now (a .buffer))
+parts c = let a = c .args in omega (arith, c .pre .1, length-append (numbersBytes (a .of .timestamp) (a .fields .timestamp) (a .fields .«payload_length»)) (bytes c ++ a .fields .«payload_digest»))
 
 -- the numbers' bytes are in the buffer
 inside : (c : tie.After-slice-known2) → c .before .before .before .before .relative-len-of-encoding .result ≤ length (c .before .before .relative-encode .last .0)
-inside c = omega (arith, parts (c .before .before .before .before .before .before), c .before .before .before .before .relative-len-of-encoding .ensures .0, c .before .before .relative-encode .kept .0)
+inside c = omega (arith, parts (c .before .before .before .before .before .before .before .before), c .before .before .before .before .relative-len-of-encoding .ensures .0, c .before .before .relative-encode .kept .0)
 
 relative-len-of-encoding-requires : tie.Need-relative-len-of-encoding-requires
 relative-len-of-encoding-requires c κs = search needs
@@ -27,34 +31,35 @@ relative-encode-requires : tie.Need-relative-encode-requires
 relative-encode-requires c κs = search needs
 
 sub-put-end : tie.Need-sub-put-end
-sub-put-end c = inside c
+sub-put-end c = inside (c .before)
 
 part-put-end-start : tie.Need-part-put-end-start
-part-put-end-start c = inside c
+part-put-end-start c = inside (c .before)
 
 part-put-end-end : tie.Need-part-put-end-end
 part-put-end-end c = search needs
 
 put-end-requires : tie.Need-put-end-requires
 put-end-requires c κs =
-    let n = c .before .before .before .before .before .relative-len-of-encoding in
-    let p = c .before .before .before .relative-encode in
-    (c .before .before .before .before .before .before .before .pre .0, rw (to-end (n .result) (p .last .0), length-drop) (omega (arith, parts (c .before .before .before .before .before .before .before), n .ensures .0, p .kept .0)))
+    let n = c .before .before .before .before .before .before .relative-len-of-encoding in
+    let p = c .before .before .before .before .relative-encode in
+    (c .before .before .before .before .before .before .before .before .before .before .pre .0, rw (to-end (n .result) (p .last .0), length-drop) (omega (arith, parts (c .before .before .before .before .before .before .before .before .before .before), n .ensures .0, p .kept .0)))
 
 same-length : tie.Need-same-length
 same-length c = search needs
 
 returns : tie.Need-returns
 returns c =
-    let a = c .before .before .before .before .before .before .before .before .before .before .args in
+    let s = c .before .before .before .before .before .before .before .before .before .before .before .before .before in
+    let a = s .args in
     let l = now (a .buffer) in
-    let n = c .before .before .before .before .before .before .before .before .relative-len-of-encoding in
-    let p = c .before .before .before .before .before .before .relative-encode in
+    let n = c .before .before .before .before .before .before .before .before .before .relative-len-of-encoding in
+    let p = c .before .before .before .before .before .before .before .relative-encode in
     let w = c .before .before .put-end in
-    let x = numbersBytes (a .reference .timestamp) (a .entry .timestamp) (a .entry .«payload_length») in
-    let first : p .last .0 ≡ over x l = p .ensures .1 ∙ put-over x l (omega (arith, parts (c .before .before .before .before .before .before .before .before .before .before))) in
+    let x = numbersBytes (a .of .timestamp) (a .fields .timestamp) (a .fields .«payload_length») in
+    let first : p .last .0 ≡ over x l = p .ensures .1 ∙ put-over x l (omega (arith, parts s)) in
     let rest = rw (to-end (n .result) (p .last .0)) at (w .ensures) in
-    put-end (n .result) (p .last .0) (w .last .0) ∙ rw (rest, first, n .ensures .0) (over-then l x (endBytes (entryOf (a .reference)) (entryOf (a .entry))))
+    put-end (n .result) (p .last .0) (w .last .0) ∙ rw (rest, first, n .ensures .0) (over-then l x (bytes s ++ a .fields .«payload_digest»))
 
 pub put-rest-spec : {M : Type 1} → statement M
 put-rest-spec =

@@ -1,0 +1,131 @@
+use mathlib.Core.Path.{_≡_, sym, ap, _∙_}
+use native.Mathlib.Omega.{arith}
+use denote.Ref.{now}
+use lib.ListN.{length, drop}
+use Rattle.codec.specs.Answers.{outcomeOf, wrote}
+use Rattle.codec.specs.Format.{allowed, writeAnswer}
+use Rattle.codec.proofs.Lending.{put-barred, put-wrote, no-length, to-end, put-end}
+use Rattle.path.specs.Record.{pathOf}
+use Rattle.path_suffix.specs.Suffix.{suffixFrom}
+use Rattle.grouping.specs.declared.Area.{Area}
+use Rattle.grouping.specs.Record.{areaWith}
+use Rattle.area_area.specs.Records.{againstArea}
+use Rattle.area_area.proofs.Writing.{contained, not-contained, unformed, suffix-short, area-full, area-refused, area-written}
+use borrow.Author.Needs.{needs}
+use Rattle.area_area.proofs.parts.relative_encode.Statement.{statement}
+use Rattle.area_area.proofs.parts.relative_encode.Tie as tie
+
+abbrev area : tie.Start → Area
+area c = areaWith (c .args .subspace) (pathOf (now (c .args .bytes)) (now (c .args .lengths)) (c .args .count)) (c .args .times)
+
+abbrev reference : tie.Start → Area
+reference c = areaWith (c .args .of-subspace) (pathOf (now (c .args .of-bytes)) (now (c .args .of-lengths)) (c .args .of-count)) (c .args .of-times)
+
+allows : (c : tie.After-enum-told) → let s = c .before .before .before .before .before .before .before .before in againstArea (reference s) .check (area s) ≡ allowed
+allows c = let s = c .before .before .before .before .before .before .before .before in contained (reference s) (area s) (sym (c .before .before .contains .ensures) ∙ c .enum-told .given .1)
+
+-- what the suffix was answered
+answer-of : (c : tie.After-known-told) → let s = c .before .before .before .before .before .before .before .before .before .before .before .before .before .before .before .before .before in writeAnswer (suffixFrom (s .args .of-count)) (area s .path) (length (drop (c .before .before .before .before .before .before .before .before .head-len .result) (now (s .args .buffer)))) ≡ wrote (c .before .suffix .given .0 .0)
+answer-of c = sym (rw (to-end (c .before .before .before .before .before .before .before .before .head-len .result) (now (c .before .before .before .before .before .before .before .before .before .before .before .before .before .before .before .before .before .args .buffer))) at (c .before .before .before .before .before .encode-suffix .ensures .0)) ∙ ap outcomeOf (c .before .suffix .given .1)
+
+contains-requires : tie.Need-contains-requires
+contains-requires c κs = search needs
+
+enum-told : tie.Need-enum-told
+enum-told c = search needs
+
+head-len-requires : tie.Need-head-len-requires
+head-len-requires c κs = search needs
+
+returns : tie.Need-returns
+returns c =
+    let s = c .before .before .before .before .before .before .before .before .before .before in
+    area-full (reference s) (area s) (allows (c .before .before)) _ (c .before .head-len .ensures .0) (now (s .args .buffer)) (omega (arith, c .if1 .taken))
+
+sub-encode-suffix : tie.Need-sub-encode-suffix
+sub-encode-suffix c = search needs
+
+part-encode-suffix-start : tie.Need-part-encode-suffix-start
+part-encode-suffix-start c = search needs
+
+part-encode-suffix-end : tie.Need-part-encode-suffix-end
+part-encode-suffix-end c = search needs
+
+encode-suffix-requires : tie.Need-encode-suffix-requires
+encode-suffix-requires c κs = search needs
+
+enum-known-suffix : tie.Need-enum-known-suffix
+enum-known-suffix c = search needs
+
+same-length : tie.Need-same-length
+same-length c = search needs
+
+returns-2 : tie.Need-returns-2
+returns-2 c =
+    let s = c .before .before .before .before .before .before .before .before .before .before .before .before .before .before .before in
+    let n = c .before .before .before .before .before .before .head-len in
+    let l = now (s .args .buffer) in
+    let w = c .before .before .before .encode-suffix in
+    let none = no-length (w .result) (c .match2 .keys2) in
+    let answer = rw (to-end (n .result) l) at (w .ensures .0) in
+    let bytes = rw (to-end (n .result) l) at (w .ensures .1) in
+    let done = area-refused (reference s) (area s) (allows (c .before .before .before .before .before .before .before)) (n .result) (n .ensures .0) l (c .before .before .before .before .before .if1 .left) (none .why) (w .last .0) (sym answer ∙ none .is) bytes in
+    (none .is ∙ done .0, put-end (n .result) l (w .last .0) ∙ done .1)
+
+put-head-requires : tie.Need-put-head-requires
+put-head-requires c κs = search needs
+
+add-t17 : tie.Need-add-t17
+add-t17 c =
+    let s = c .before .before .before .before .before .before .before .before .before .before .before .before .before .before .before .before .before .before .before .before .before in
+    let f = suffixFrom (s .args .of-count) in
+    omega (arith, put-wrote (f .check (area s .path)) (f .encode (area s .path)) _ _ (answer-of (c .before .before .before .before)) .long, suffix-short (reference s) (area s) (allows (c .before .before .before .before .before .before .before .before .before .before .before .before .before)), c .before .before .before .before .before .before .before .before .before .before .before .before .head-len .ensures .1)
+
+enum-told-2 : tie.Need-enum-told-2
+enum-told-2 c = search needs
+
+enum-told-3 : tie.Need-enum-told-3
+enum-told-3 c = search needs
+
+same-length-2 : tie.Need-same-length-2
+same-length-2 c = search needs
+
+returns-3 : tie.Need-returns-3
+returns-3 c =
+    let s = c .before .before .before .before .before .before .before .before .before .before .before .before .before .before .before .before .before .before .before .before .before in
+    let n = c .before .before .before .before .before .before .before .before .before .before .before .before .head-len in
+    let l = now (s .args .buffer) in
+    let w = c .before .before .before .before .before .before .before .before .before .encode-suffix in
+    let bytes = rw (to-end (n .result) l) at (w .ensures .1) in
+    let done = area-written (reference s) (area s) (allows (c .before .before .before .before .before .before .before .before .before .before .before .before .before)) (n .result) (n .ensures .0) l (c .before .before .before .before .before .before .before .before .before .before .before .if1 .left) _ (w .last .0) (answer-of (c .before .before .before .before)) bytes in
+    (done .0, rw (put-end (n .result) l (w .last .0)) at (c .before .before .put-head .ensures) ∙ done .1)
+
+returns-4 : tie.Need-returns-4
+returns-4 c = let s = c .before .before .before .before .before .before .before .before in put-barred (againstArea (reference s) .check (area s)) _ (now (s .args .buffer)) 3 (not-contained (reference s) (area s) (sym (c .before .before .contains .ensures) ∙ c .enum-told2 .given .1))
+
+returns-5 : tie.Need-returns-5
+returns-5 c = let s = c .before .before .before .before .before .before .before .before in put-barred (againstArea (reference s) .check (area s)) _ (now (s .args .buffer)) 5 (unformed (reference s) (area s) (sym (c .before .before .contains .ensures) ∙ c .enum-told3 .given .1))
+
+pub relative-encode-spec : {M : Type 1} → statement M
+relative-encode-spec =
+    tie.close
+    (tie.spec
+    contains-requires
+    enum-told
+    head-len-requires
+    returns
+    sub-encode-suffix
+    part-encode-suffix-start
+    part-encode-suffix-end
+    encode-suffix-requires
+    enum-known-suffix
+    same-length
+    returns-2
+    put-head-requires
+    add-t17
+    enum-told-2
+    enum-told-3
+    same-length-2
+    returns-3
+    returns-4
+    returns-5)

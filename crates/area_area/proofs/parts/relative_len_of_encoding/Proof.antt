@@ -1,0 +1,87 @@
+use mathlib.Core.Path.{_≡_, sym, ap, _∙_}
+use native.Mathlib.Omega.{arith}
+use denote.Ref.{now}
+use lib.ListN.{length}
+use Rattle.codec.specs.Answers.{outcomeOf}
+use Rattle.codec.specs.Format.{allowed}
+use Rattle.codec.proofs.Lending.{length-allowed, length-barred, length-wrote, length-not-denied, no-length}
+use Rattle.path.specs.Record.{pathOf}
+use Rattle.path_suffix.specs.Suffix.{suffixFrom}
+use Rattle.grouping.specs.declared.Area.{Area}
+use Rattle.grouping.specs.Record.{areaWith}
+use Rattle.area_area.specs.Records.{againstArea}
+use Rattle.area_area.proofs.Writing.{contained, not-contained, unformed, suffix-allowed, suffix-short, area-long}
+use borrow.Author.Needs.{needs}
+use Rattle.area_area.proofs.parts.relative_len_of_encoding.Statement.{statement}
+use Rattle.area_area.proofs.parts.relative_len_of_encoding.Tie as tie
+
+abbrev area : tie.Start → Area
+area c = areaWith (c .args .subspace) (pathOf (now (c .args .bytes)) (now (c .args .lengths)) (c .args .count)) (c .args .times)
+
+abbrev reference : tie.Start → Area
+reference c = areaWith (c .args .of-subspace) (pathOf (now (c .args .of-bytes)) (now (c .args .of-lengths)) (c .args .of-count)) (c .args .of-times)
+
+allows : (c : tie.After-enum-told) → let s = c .before .before .before .before .before .before .before in againstArea (reference s) .check (area s) ≡ allowed
+allows c = let s = c .before .before .before .before .before .before .before in contained (reference s) (area s) (sym (c .before .before .contains .ensures) ∙ c .enum-told .given .1)
+
+suffix-is : (c : tie.After-known-told) → let s = c .before .before .before .before .before .before .before .before .before .before .before in c .before .suffix .given .0 .0 ≡ length (suffixFrom (s .args .of-count) .encode (area s .path))
+suffix-is c = let s = c .before .before .before .before .before .before .before .before .before .before .before in length-wrote (suffixFrom (s .args .of-count)) (area s .path) _ (sym (c .before .before .before .suffix-len .ensures) ∙ ap outcomeOf (c .before .suffix .given .1)) .1
+
+contains-requires : tie.Need-contains-requires
+contains-requires c κs = search needs
+
+enum-told : tie.Need-enum-told
+enum-told c = search needs
+
+suffix-len-requires : tie.Need-suffix-len-requires
+suffix-len-requires c κs = search needs
+
+enum-known-suffix : tie.Need-enum-known-suffix
+enum-known-suffix c = search needs
+
+returns : tie.Need-returns
+returns c =
+    let s = c .before .before .before .before .before .before .before .before .before in
+    let none = no-length (c .before .suffix-len .result) (c .match2 .keys2) in
+    absurd (length-not-denied (suffixFrom (s .args .of-count)) (area s .path) (none .why) (suffix-allowed (reference s) (area s) (allows (c .before .before))) (sym (c .before .suffix-len .ensures) ∙ none .is))
+
+head-len-requires : tie.Need-head-len-requires
+head-len-requires c κs = search needs
+
+add-t16 : tie.Need-add-t16
+add-t16 c = let s = c .before .before .before .before .before .before .before .before .before .before .before .before in omega (arith, suffix-is (c .before), suffix-short (reference s) (area s) (allows (c .before .before .before .before .before)), c .head-len .ensures .1)
+
+enum-told-2 : tie.Need-enum-told-2
+enum-told-2 c = search needs
+
+enum-told-3 : tie.Need-enum-told-3
+enum-told-3 c = search needs
+
+returns-2 : tie.Need-returns-2
+returns-2 c =
+    let s = c .before .before .before .before .before .before .before .before .before .before .before .before in
+    let ok = allows (c .before .before .before .before .before) in
+    length-allowed (againstArea (reference s)) (area s) _ ok (area-long (reference s) (area s) ok _ (c .head-len .ensures .0) _ (suffix-is (c .before)))
+
+returns-3 : tie.Need-returns-3
+returns-3 c = let s = c .before .before .before .before .before .before .before in length-barred (againstArea (reference s)) (area s) 3 (not-contained (reference s) (area s) (sym (c .before .before .contains .ensures) ∙ c .enum-told2 .given .1))
+
+returns-4 : tie.Need-returns-4
+returns-4 c = let s = c .before .before .before .before .before .before .before in length-barred (againstArea (reference s)) (area s) 5 (unformed (reference s) (area s) (sym (c .before .before .contains .ensures) ∙ c .enum-told3 .given .1))
+
+pub relative-len-of-encoding-spec : {M : Type 1} → statement M
+relative-len-of-encoding-spec =
+    tie.close
+    (tie.spec
+    contains-requires
+    enum-told
+    suffix-len-requires
+    enum-known-suffix
+    returns
+    head-len-requires
+    add-t16
+    enum-told-2
+    enum-told-3
+    returns-2
+    returns-3
+    returns-4)

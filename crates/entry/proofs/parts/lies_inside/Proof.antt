@@ -1,0 +1,95 @@
+use mathlib.Core.Path.{_≡_, sym, _∙_}
+use mathlib.Core.Bool.{true, _&&_}
+use mathlib.Core.Option.{some}
+use denote.Ref.{now}
+use borrow.Author.Tests.{not-true, not-false}
+use Rattle.codec.specs.Bytes.{sameBytes}
+use Rattle.path.specs.Record.{pathOf}
+use Rattle.path.specs.Answers.{verdict}
+use Rattle.grouping.specs.declared.Area.{Area}
+use Rattle.grouping.specs.Range.{includesTime}
+use Rattle.grouping.specs.Area.{includesSubspace}
+use Rattle.grouping.specs.Record.{areaWith, subspaceOf, wellFormedSubspace, subspaceIncludes}
+use Rattle.entry.specs.declared.Entry.{Entry}
+use Rattle.entry.specs.Record.{entryWith, entryInside}
+use Rattle.entry.proofs.Compare.{area-malformed, not-prefix, prefix-told}
+use borrow.Author.Needs.{needs}
+use Rattle.entry.proofs.parts.lies_inside.Statement.{statement}
+use Rattle.entry.proofs.parts.lies_inside.Tie as tie
+
+abbrev area : tie.Start → Area
+area c = areaWith (c .args .of-subspace) (pathOf (now (c .args .of-bytes)) (now (c .args .of-lengths)) (c .args .of-count)) (c .args .of-times)
+
+abbrev entry : tie.Start → Entry
+entry c = entryWith (c .args .fields) (pathOf (now (c .args .bytes)) (now (c .args .lengths)) (c .args .count))
+
+well : (c : tie.Else1) → wellFormedSubspace (c .before .before .before .before .before .before .args .of-subspace) ≡ true
+well c = sym (c .before .well-formed .ensures) ∙ not-false _ (c .if1 .left)
+
+told : (c : tie.After-enum-told) → let s = c .before .before .before .before .before .before .before .before .before in let e = entry s in entryInside (s .args .t5) (area s) e
+    ≡ verdict (sameBytes (s .args .t5) (e .«namespace_id») && (includesSubspace (subspaceOf (s .args .of-subspace)) (some (e .«subspace_id»)) && includesTime (s .args .of-times) (e .timestamp)))
+told c = let s = c .before .before .before .before .before .before .before .before .before in prefix-told (s .args .t5) (area s) (entry s) (well (c .before .before .before)) (sym (c .before .before .is-prefix-of .ensures) ∙ c .enum-told .given .1)
+
+well-formed-requires : tie.Need-well-formed-requires
+well-formed-requires c κs = search needs
+
+returns : tie.Need-returns
+returns c = let s = c .before .before .before .before .before .before in sym (area-malformed (s .args .t5) (area s) (entry s) (sym (c .before .well-formed .ensures) ∙ not-true _ (c .if1 .taken)))
+
+is-prefix-of-requires : tie.Need-is-prefix-of-requires
+is-prefix-of-requires c κs = search needs
+
+enum-told : tie.Need-enum-told
+enum-told c = search needs
+
+returns-2 : tie.Need-returns-2
+returns-2 c = let s = c .before .before .before .before .before .before .before .before in not-prefix (s .args .t5) (area s) (entry s) (well (c .before .before)) (c .before .is-prefix-of .result) (c .before .is-prefix-of .ensures) (c .match .keys2)
+
+slice-aggregate-same-bytes : tie.Need-slice-aggregate-same-bytes
+slice-aggregate-same-bytes c = search needs
+
+slice-aggregate-same-bytes-2 : tie.Need-slice-aggregate-same-bytes-2
+slice-aggregate-same-bytes-2 c = search needs
+
+same-bytes-requires : tie.Need-same-bytes-requires
+same-bytes-requires c κs = search needs
+
+returns-3 : tie.Need-returns-3
+returns-3 c = sym (told (c .before .before .before .before .before) ∙ rw (sym (c .before .same-bytes .ensures) ∙ not-true _ (c .if2 .taken)))
+
+includes-area-subspace-requires : tie.Need-includes-area-subspace-requires
+includes-area-subspace-requires c κs = search needs
+
+returns-4 : tie.Need-returns-4
+unfolding subspaceIncludes
+returns-4 c = sym (told (c .before .before .before .before .before .before .before .before) ∙ rw ((sym (c .before .before .before .before .same-bytes .ensures) ∙ not-false _ (c .before .before .before .if2 .left)), (sym (c .before .includes-area-subspace .ensures) ∙ not-true _ (c .if3 .taken))))
+
+includes-requires : tie.Need-includes-requires
+includes-requires c κs = search needs
+
+returns-5 : tie.Need-returns-5
+unfolding subspaceIncludes
+returns-5 c = sym (told (c .before .before .before .before .before .before .before .before .before .before) ∙ rw ((sym (c .before .before .before .before .before .before .same-bytes .ensures) ∙ not-false _ (c .before .before .before .before .before .if2 .left)), (sym (c .before .before .before .includes-area-subspace .ensures) ∙ not-false _ (c .before .before .if3 .left)), (sym (c .before .includes .ensures) ∙ not-true _ (c .if4 .taken))))
+
+returns-6 : tie.Need-returns-6
+unfolding subspaceIncludes
+returns-6 c = sym (told (c .before .before .before .before .before .before .before .before .before .before) ∙ rw ((sym (c .before .before .before .before .before .before .same-bytes .ensures) ∙ not-false _ (c .before .before .before .before .before .if2 .left)), (sym (c .before .before .before .includes-area-subspace .ensures) ∙ not-false _ (c .before .before .if3 .left)), (sym (c .before .includes .ensures) ∙ not-false _ (c .if4 .left))))
+
+pub lies-inside-spec : {M : Type 1} → statement M
+lies-inside-spec =
+    tie.close
+    (tie.spec
+    well-formed-requires
+    returns
+    is-prefix-of-requires
+    enum-told
+    returns-2
+    slice-aggregate-same-bytes
+    slice-aggregate-same-bytes-2
+    same-bytes-requires
+    returns-3
+    includes-area-subspace-requires
+    returns-4
+    includes-requires
+    returns-5
+    returns-6)

@@ -1,0 +1,212 @@
+use mathlib.Core.Path.{_≡_, refl, sym, ap, _∙_}
+use mathlib.Core.List.{[], _∷_}
+use mathlib.Core.Bool.{Bool, true, false, cond}
+use mathlib.Core.Logic.{⊎-elim}
+use Prim.Native.Nat.{ℕ, _+_, _≤_}
+use native.Mathlib.Omega.{arith}
+use denote.Ref.{now}
+use denote.Enum.Declared as declared
+use types.Run.{OneOf}
+use lib.ListN.{length, drop, length-drop}
+use lib.Seq.{drop-drop}
+use Rattle.codec.specs.Answers.{accepted, answerOf}
+use Rattle.codec.specs.Reader.{shift}
+use Rattle.codec.specs.declared.Decoded.{Decoded}
+use Rattle.codec.proofs.Answers.{gives-refused, gives-accepted, no-value}
+use Rattle.codec.proofs.Bytes.{AllBytes·drop}
+use Rattle.codec.proofs.Lending.{to-end}
+use Rattle.path.specs.declared.Path.{Path}
+use Rattle.path.specs.declared.Compared.{Compared}
+use Rattle.path.specs.declared.Compared.the-variants as compared
+use Rattle.path.specs.Answers.{verdict, prefixOf}
+use Rattle.path.specs.Prefix.{isPrefix}
+use Rattle.path.specs.Record.{componentsOf, pathOf, wellFormed}
+use Rattle.path.proofs.Components.{parts-formed}
+use Rattle.path_relative.specs.Records.{readAgainstPath}
+use Rattle.path_relative.proofs.Yields.{against-path-yields}
+use Rattle.entry.specs.Answers.{refusal}
+use Rattle.entry_end.specs.End.{readEnd}
+use Rattle.entry_area.proofs.DecodeExits.{rest-refused, formed, path-inside, shared-prefix, rest-outside, rest-end, rest-inside, rest-read}
+use borrow.Author.Needs.{needs}
+use Rattle.entry_area.proofs.entry_decode.decode_rest.Statement.{statement}
+use Rattle.entry_area.proofs.entry_decode.decode_rest.Tie as tie
+
+abbrev reference : tie.Start → Path
+reference s = pathOf (now (s .args .bytes)) (now (s .args .lengths)) (s .args .count)
+
+path-told : (c : tie.After-relative-decode) → let s = c .before .before .before .before .before in
+    answerOf (c .relative-decode .result .answer) (c .relative-decode .result .path) ≡ readAgainstPath (s .args .canonic) (reference s) (drop (s .args .start) (now (s .args .message)))
+path-told c = rw (to-end (c .before .before .before .before .before .args .start) (now (c .before .before .before .before .before .args .message))) at (c .relative-decode .ensures .answer)
+
+-- a path was read, and it is well formed
+path-is : (c : tie.After-known-told) → let a = c .before .before .before .before .before .before .before .before .args in
+    readAgainstPath (a .canonic) (reference (c .before .before .before .before .before .before .before .before)) (drop (a .start) (now (a .message))) ≡ accepted (c .before .before .before .relative-decode .result .path) (c .before .answer .given .0 .0)
+path-is c = sym (path-told (c .before .before .before)) ∙ ap (λ (d : Decoded). answerOf d (c .before .before .before .relative-decode .result .path)) (c .before .answer .given .1)
+
+path-in : (c : tie.After-known-told) → c .before .before .before .before .before .before .before .before .args .start + c .before .answer .given .0 .0 ≤ length (now (c .before .before .before .before .before .before .before .before .args .message))
+path-in c =
+    let s = c .before .before .before .before .before .before .before .before in
+    omega (arith, path-inside (s .args .canonic) (s .args .namespace) (s .args .id) (reference s) (s .args .times) (s .args .header) (drop (s .args .start) (now (s .args .message))) _ _ (path-is c), length-drop (s .args .start) (now (s .args .message)), s .pre .0)
+
+reference-well : (c : tie.After-known-told) → wellFormed (reference (c .before .before .before .before .before .before .before .before)) ≡ true
+reference-well c =
+    let s = c .before .before .before .before .before .before .before .before in
+    formed (s .args .canonic) (s .args .namespace) (s .args .id) (reference s) (s .args .times) (s .args .header) (drop (s .args .start) (now (s .args .message))) _ _ (path-is c) .0
+
+path-well : (c : tie.After-known-told) → wellFormed (c .before .before .before .relative-decode .result .path) ≡ true
+path-well c =
+    let s = c .before .before .before .before .before .before .before .before in
+    let f = parts-formed (reference-well c) in
+    against-path-yields (reference s) (record { bytes = f .bytes; lengths = f .lengths; small = λ i. omega (arith, c .before .before .before .before .before .before .shared-slice-known2 .given i) }) (reference-well c) (s .args .canonic)
+    .holds (drop (s .args .start) (now (s .args .message))) _ _ (AllBytes·drop (s .args .start) (now (s .args .message)) (λ i. omega (arith, c .before .before .before .before .before .before .before .shared-slice-known .given i))) (path-is c) .1
+
+told : (x : Compared) (t b : Bool) → (t ≡ true → b ≡ true) → x ≡ cond t compared.Yes (verdict b) → x ≡ verdict b
+told x true b f e = rw (f refl) e
+told x false b f e = e
+
+-- whether the area's path is its prefix
+prefixed : (c : tie.After-is-prefix) → c .is-prefix .result ≡ verdict (isPrefix (componentsOf (reference (c .before .before .before .before .before .before .before .before .before .before .before .before .before .before))) (componentsOf (c .before .before .before .before .before .before .before .before .before .relative-decode .result .path)))
+unfolding prefixOf
+prefixed c =
+    let k = c .before .before .before .before .before .before in
+    let s = k .before .before .before .before .before .before .before .before in
+    told _ _ _ (shared-prefix (s .args .canonic) (s .args .namespace) (s .args .id) (reference s) (s .args .times) (s .args .header) (drop (s .args .start) (now (s .args .message))) _ _ (path-is k)) (rw (reference-well k, path-well k) at (c .is-prefix .ensures))
+
+yes : (b : Bool) → compared.Yes ≡ verdict b → b ≡ true
+yes true e = refl
+yes false e = let z : _≡_ {A = ℕ} 0 1 = cc in absurd (omega arith)
+
+not-yes : (b : Bool) (x : Compared) → x ≡ verdict b → OneOf (1 ∷ 2 ∷ []) (declared.tagOf Rattle.path.proofs.Compared.the-type x) → b ≡ false
+not-yes true compared.Yes e h = absurd (⊎-elim (λ z. omega arith) (λ z. omega arith) h)
+not-yes true compared.No e h = let z : _≡_ {A = ℕ} 0 1 = cc in absurd (omega arith)
+not-yes true compared.Malformed e h = let z : _≡_ {A = ℕ} 0 1 = cc in absurd (omega arith)
+not-yes false x e h = refl
+
+is-prefix : (c : tie.After-enum-told) → isPrefix (componentsOf (reference (c .before .before .before .before .before .before .before .before .before .before .before .before .before .before .before .before))) (componentsOf (c .before .before .before .before .before .before .before .before .before .before .before .relative-decode .result .path)) ≡ true
+is-prefix c = yes _ (sym (c .enum-told .given .1) ∙ prefixed (c .before .before))
+
+-- the fields after it
+end-told : (c : tie.After-relative-decode2) → let a = c .before .before .before .before .before .before .before .before .before .before .before .before .before .before .before .before .before .before .args in
+    answerOf (c .relative-decode2 .result .answer) (c .relative-decode2 .result .end) ≡ readEnd (a .canonic) (a .times) (a .header) (drop (c .before .before .before .before .before .before .before .before .before .before .before .answer .given .0 .0) (drop (a .start) (now (a .message))))
+end-told c =
+    let a = c .before .before .before .before .before .before .before .before .before .before .before .before .before .before .before .before .before .before .args in
+    rw (drop-drop) (rw (to-end (a .start + c .before .before .before .before .before .before .before .before .before .before .before .answer .given .0 .0) (now (a .message))) at (c .relative-decode2 .ensures .answer))
+
+end-is : (c : tie.After-known-told2) → let a = c .before .before .before .before .before .before .before .before .before .before .before .before .before .before .before .before .before .before .before .before .before .args in
+    readEnd (a .canonic) (a .times) (a .header) (drop (c .before .before .before .before .before .before .before .before .before .before .before .before .before .before .answer .given .0 .0) (drop (a .start) (now (a .message)))) ≡ accepted (c .before .before .before .relative-decode2 .result .end) (c .before .last-answer .given .0 .0)
+end-is c = sym (end-told (c .before .before .before)) ∙ ap (λ (d : Decoded). answerOf d (c .before .before .before .relative-decode2 .result .end)) (c .before .last-answer .given .1)
+
+inside : (c : tie.After-known-told2) → c .before .before .before .before .before .before .before .before .before .before .before .before .before .before .before .before .before .before .before .before .before .args .start + (c .before .before .before .before .before .before .before .before .before .before .before .before .before .before .answer .given .0 .0 + c .before .last-answer .given .0 .0) ≤ length (now (c .before .before .before .before .before .before .before .before .before .before .before .before .before .before .before .before .before .before .before .before .before .args .message))
+inside c =
+    let s = c .before .before .before .before .before .before .before .before .before .before .before .before .before .before .before .before .before .before .before .before .before in
+    omega (arith, rest-inside (s .args .canonic) (s .args .namespace) (s .args .id) (reference s) (s .args .times) (s .args .header) (drop (s .args .start) (now (s .args .message))) _ _ (path-is (c .before .before .before .before .before .before .before .before .before .before .before .before .before)) (is-prefix (c .before .before .before .before .before)) _ _ (end-is c), length-drop (s .args .start) (now (s .args .message)), s .pre .0)
+
+sub-relative-decode : tie.Need-sub-relative-decode
+sub-relative-decode c = omega (arith, c .before .before .before .pre .0)
+
+part-relative-decode-start : tie.Need-part-relative-decode-start
+part-relative-decode-start c = omega (arith, c .before .before .before .pre .0)
+
+part-relative-decode-end : tie.Need-part-relative-decode-end
+part-relative-decode-end c = search needs
+
+relative-decode-requires : tie.Need-relative-decode-requires
+relative-decode-requires c κs = search needs
+
+enum-known-answer : tie.Need-enum-known-answer
+enum-known-answer c = search needs
+
+refuse-requires : tie.Need-refuse-requires
+refuse-requires c κs = search needs
+
+returns : tie.Need-returns
+unfolding refusal
+returns c =
+    let s = c .before .before .before .before .before .before .before in
+    let x = no-value (c .before .before .relative-decode .result .answer) (c .before .match .keys2) in
+    rw (c .refuse .ensures) (gives-refused (x .why) (x .beside _) (rw (rest-refused (s .args .canonic) (s .args .namespace) (s .args .id) (reference s) (s .args .times) (s .args .header) (drop (s .args .start) (now (s .args .message))) (x .why) (sym (path-told (c .before .before)) ∙ x .beside _))))
+
+is-prefix-requires : tie.Need-is-prefix-requires
+is-prefix-requires c κs = search needs
+
+enum-told : tie.Need-enum-told
+enum-told c = search needs
+
+refuse-requires-2 : tie.Need-refuse-requires-2
+refuse-requires-2 c κs = search needs
+
+returns-2 : tie.Need-returns-2
+unfolding refusal
+returns-2 c =
+    let s = c .before .before .before .before .before .before .before .before .before .before .before .before .before .before .before .before in
+    rw (c .refuse2 .ensures) (gives-refused 2 refl (rw (rest-outside (s .args .canonic) (s .args .namespace) (s .args .id) (reference s) (s .args .times) (s .args .header) (drop (s .args .start) (now (s .args .message))) _ _ (path-is (c .before .before .before .before .before .before .before .before)) (not-yes _ _ (prefixed (c .before .before)) (c .before .match2 .keys2)))))
+
+add-at : tie.Need-add-at
+add-at c = omega (arith, path-in (c .before .before .before .before .before .before .before .before), c .before .before .before .before .before .before .before .before .before .before .before .before .before .before .before .before .pre .1)
+
+sub-relative-decode-2 : tie.Need-sub-relative-decode-2
+sub-relative-decode-2 c = path-in (c .before .before .before .before .before .before .before .before)
+
+part-relative-decode-start-2 : tie.Need-part-relative-decode-start-2
+part-relative-decode-start-2 c = omega (arith, path-in (c .before .before .before .before .before .before .before .before))
+
+part-relative-decode-end-2 : tie.Need-part-relative-decode-end-2
+part-relative-decode-end-2 c = search needs
+
+relative-decode-requires-2 : tie.Need-relative-decode-requires-2
+relative-decode-requires-2 c κs = search needs
+
+enum-known-last-answer : tie.Need-enum-known-last-answer
+enum-known-last-answer c = search needs
+
+refuse-requires-3 : tie.Need-refuse-requires-3
+refuse-requires-3 c κs = search needs
+
+returns-3 : tie.Need-returns-3
+unfolding refusal
+returns-3 c =
+    let s = c .before .before .before .before .before .before .before .before .before .before .before .before .before .before .before .before .before .before .before .before in
+    let x = no-value (c .before .before .relative-decode2 .result .answer) (c .before .match3 .keys2) in
+    rw (c .refuse3 .ensures) (gives-refused (x .why) (x .beside _) (rw (rest-end (s .args .canonic) (s .args .namespace) (s .args .id) (reference s) (s .args .times) (s .args .header) (drop (s .args .start) (now (s .args .message))) _ _ (path-is (c .before .before .before .before .before .before .before .before .before .before .before .before)) (is-prefix (c .before .before .before .before)) (x .why) (sym (end-told (c .before .before)) ∙ x .beside _))))
+
+add-t24 : tie.Need-add-t24
+add-t24 c = omega (arith, inside (c .before .before .before), c .before .before .before .before .before .before .before .before .before .before .before .before .before .before .before .before .before .before .before .before .before .before .before .before .pre .1)
+
+add-t35 : tie.Need-add-t35
+add-t35 c = omega (arith, inside (c .before .before .before), c .before .before .before .before .before .before .before .before .before .before .before .before .before .before .before .before .before .before .before .before .before .before .before .before .pre .1)
+
+add-t36 : tie.Need-add-t36
+add-t36 c = omega (arith, inside (c .before .before .before), c .before .before .before .before .before .before .before .before .before .before .before .before .before .before .before .before .before .before .before .before .before .before .before .before .pre .1)
+
+returns-4 : tie.Need-returns-4
+returns-4 c =
+    let s = c .before .before .before .before .before .before .before .before .before .before .before .before .before .before .before .before .before .before .before .before .before .before .before .before in
+    gives-accepted (ap (shift (1 + s .args .start)) (rest-read (s .args .canonic) (s .args .namespace) (s .args .id) (reference s) (s .args .times) (s .args .header) (drop (s .args .start) (now (s .args .message))) _ _ (path-is (c .before .before .before .before .before .before .before .before .before .before .before .before .before .before .before .before)) (is-prefix (c .before .before .before .before .before .before .before .before)) _ _ (end-is (c .before .before .before))))
+
+pub decode-rest-spec : {M : Type 1} → statement M
+decode-rest-spec =
+    tie.close
+    (tie.spec
+    sub-relative-decode
+    part-relative-decode-start
+    part-relative-decode-end
+    relative-decode-requires
+    enum-known-answer
+    refuse-requires
+    returns
+    is-prefix-requires
+    enum-told
+    refuse-requires-2
+    returns-2
+    add-at
+    sub-relative-decode-2
+    part-relative-decode-start-2
+    part-relative-decode-end-2
+    relative-decode-requires-2
+    enum-known-last-answer
+    refuse-requires-3
+    returns-3
+    add-t24
+    add-t35
+    add-t36
+    returns-4)

@@ -1,0 +1,27 @@
+use mathlib.Core.Path.{sym, ap, _∙_}
+use Prim.Native.Nat.{ℕ}
+use Rattle.compact_u64.specs.Answers.{numberAnswer}
+use Rattle.compact_u64.proofs.Exits.{refused-number}
+use Rattle.entry_area.specs.Records.{sharesAll}
+use borrow.Author.Needs.{needs}
+use Rattle.entry_area.proofs.entry_decode.shares_all.Statement.{statement}
+use Rattle.entry_area.proofs.entry_decode.shares_all.Tie as tie
+
+decode-requires : tie.Need-decode-requires
+decode-requires c κs = search needs
+
+enum-known-number : tie.Need-enum-known-number
+enum-known-number c = search needs
+
+returns : tie.Need-returns
+unfolding sharesAll
+returns c =
+    let x = refused-number {A = ℕ} 0 (c .before .decode .result) (c .match .keys2) in
+    rw (sym (c .before .decode .ensures) ∙ x .number)
+
+returns-2 : tie.Need-returns-2
+unfolding sharesAll
+returns-2 c = rw (sym (c .before .before .before .decode .ensures) ∙ ap numberAnswer (c .before .number .given .1))
+
+pub shares-all-spec : {M : Type 1} → statement M
+shares-all-spec = tie.close (tie.spec decode-requires enum-known-number returns returns-2)

@@ -1,0 +1,125 @@
+use mathlib.Core.Path.{_≡_, refl, sym, ap, _∙_}
+use mathlib.Core.List.{List, _++_}
+use Prim.Native.Nat.{ℕ, _+_}
+use native.Mathlib.Omega.{arith}
+use denote.Ref.{now}
+use lib.ListN.{length, take, length-append}
+use Rattle.codec.specs.Answers.{outcomeOf, wrote}
+use Rattle.codec.specs.Format.{allowed, over, putAnswer, putBuffer}
+use Rattle.codec.proofs.Lending.{no-length, put-full, put-wrote, put-end-long, to-end, put-end}
+use Rattle.path.specs.Record.{pathOf}
+use Rattle.path_relative.proofs.Writing.{rest-refused, rest-written}
+use Rattle.grouping.specs.Record.{subspaceOf}
+use Rattle.entry.proofs.Typed.{subspace-long}
+use Rattle.entry_area.specs.Entry.{headBytes}
+use Rattle.entry_area.specs.Records.{endIn, tailBytes}
+use Rattle.entry_area.proofs.Writing.{head-long}
+use borrow.Author.Needs.{needs}
+use Rattle.entry_area.proofs.parts.put_known.Statement.{statement}
+use Rattle.entry_area.proofs.parts.put_known.Tie as tie
+
+-- what stands before the suffix, and the suffix with what stands after it
+abbrev head : tie.Start → List ℕ
+head c = headBytes (c .args .of-times) (subspaceOf (c .args .of-subspace)) (c .args .fields .«subspace_id») (endIn (c .args .fields)) (c .args .k)
+
+abbrev tail : tie.Start → List ℕ
+tail c = tailBytes (c .args .of-times) (endIn (c .args .fields)) (pathOf (now (c .args .bytes)) (now (c .args .lengths)) (c .args .count)) (c .args .k)
+
+head-is : (c : tie.After-head-len) → c .head-len .result ≡ length (head (c .before .before .before .before .before))
+head-is c =
+    let s = c .before .before .before .before .before in
+    let id = s .args .fields .«subspace_id» in
+    c .head-len .ensures .0 id (subspace-long (s .args .fields) (s .good .1 .0)) ∙ head-long (s .args .of-subspace) (s .args .of-times) id (endIn (s .args .fields)) (s .args .k)
+
+-- the tail written after the place of the head, then the head
+written : (c : tie.After-known-told)
+    → let s = c .before .before .before .before .before .before .before .before .before .before .before .before .before in let l = now (s .args .buffer) in let a = c .before .before .before .before .before .before .before .before .head-len .result in
+    (wrote (a + c .before .rest .given .0 .0) ≡ putAnswer allowed (head s ++ tail s) (length l)) × (over (head s) (take a l ++ c .before .before .before .before .before .put-rest .last .0) ≡ putBuffer allowed (head s ++ tail s) l)
+written c =
+    let s = c .before .before .before .before .before .before .before .before .before .before .before .before .before in
+    let a = c .before .before .before .before .before .before .before .before .head-len .result in
+    let l = now (s .args .buffer) in
+    let w = c .before .before .before .before .before .put-rest in
+    let answer = rw (to-end a l, c .before .before .before .before .before .before .before .before .before .end-of .ensures) at (w .ensures .0) in
+    let bytes = rw (to-end a l, c .before .before .before .before .before .before .before .before .before .end-of .ensures) at (w .ensures .1) in
+    rest-written (head s) (tail s) l a (head-is (c .before .before .before .before .before .before .before .before)) (c .before .before .before .before .before .before .before .if1 .left) _ (w .last .0) (sym answer ∙ ap outcomeOf (c .before .rest .given .1)) bytes
+
+end-of-requires : tie.Need-end-of-requires
+end-of-requires c κs = search needs
+
+head-len-requires : tie.Need-head-len-requires
+head-len-requires c κs = search needs
+
+returns : tie.Need-returns
+returns c =
+    let s = c .before .before .before .before .before .before in
+    put-full allowed (head s ++ tail s) (now (s .args .buffer)) refl _ refl (omega (arith, c .if1 .taken, head-is (c .before), length-append (head s) (tail s)))
+
+sub-put-rest : tie.Need-sub-put-rest
+sub-put-rest c = search needs
+
+part-put-rest-start : tie.Need-part-put-rest-start
+part-put-rest-start c = search needs
+
+part-put-rest-end : tie.Need-part-put-rest-end
+part-put-rest-end c = search needs
+
+put-rest-requires : tie.Need-put-rest-requires
+put-rest-requires c κs = search needs
+
+enum-known-rest : tie.Need-enum-known-rest
+enum-known-rest c = search needs
+
+same-length : tie.Need-same-length
+same-length c = search needs
+
+returns-2 : tie.Need-returns-2
+returns-2 c =
+    let s = c .before .before .before .before .before .before .before .before .before .before .before in
+    let a = c .before .before .before .before .before .before .head-len .result in
+    let l = now (s .args .buffer) in
+    let w = c .before .before .before .put-rest in
+    let none = no-length (w .result) (c .match .keys2) in
+    let answer = rw (to-end a l, c .before .before .before .before .before .before .before .end-of .ensures) at (w .ensures .0) in
+    let bytes = rw (to-end a l, c .before .before .before .before .before .before .before .end-of .ensures) at (w .ensures .1) in
+    let done = rest-refused (head s) (tail s) l a (head-is (c .before .before .before .before .before .before)) (c .before .before .before .before .before .if1 .left) (none .why) (w .last .0) (sym answer ∙ none .is) bytes in
+    (none .is ∙ done .0, put-end a l (w .last .0) ∙ done .1)
+
+put-head-requires : tie.Need-put-head-requires
+put-head-requires c κs =
+    let s = c .before .before .before .before .before .before .before .before .before .before .before .before .before .before .before in
+    let a = c .before .before .before .before .before .before .before .before .before .before .head-len .result in
+    omega (arith, head-is (c .before .before .before .before .before .before .before .before .before .before), c .before .before .before .before .before .before .before .before .before .if1 .left, put-end-long a (now (s .args .buffer)) (c .before .before .before .before .before .before .before .put-rest .last .0) (c .before .before .before .before .before .before .before .before .before .if1 .left) (c .before .before .before .before .before .before .before .put-rest .kept .0))
+
+add-t15 : tie.Need-add-t15
+add-t15 c =
+    let s = c .before .before .before .before .before .before .before .before .before .before .before .before .before .before .before .before .before .before in
+    omega (arith, put-wrote allowed (head s ++ tail s) (length (now (s .args .buffer))) _ (sym (written (c .before .before .before .before .before) .0)) .fits, s .good .0)
+
+same-length-2 : tie.Need-same-length-2
+same-length-2 c = search needs
+
+returns-3 : tie.Need-returns-3
+returns-3 c =
+    let s = c .before .before .before .before .before .before .before .before .before .before .before .before .before .before .before .before .before .before in
+    let done = written (c .before .before .before .before .before) in
+    (done .0, rw (put-end (c .before .before .before .before .before .before .before .before .before .before .before .before .before .head-len .result) (now (s .args .buffer)) (c .before .before .before .before .before .before .before .before .before .before .put-rest .last .0), c .before .before .before .before .before .before .before .before .before .before .before .before .before .before .end-of .ensures) at (c .before .before .put-head .ensures) ∙ done .1)
+
+pub put-known-spec : {M : Type 1} → statement M
+put-known-spec =
+    tie.close
+    (tie.spec
+    end-of-requires
+    head-len-requires
+    returns
+    sub-put-rest
+    part-put-rest-start
+    part-put-rest-end
+    put-rest-requires
+    enum-known-rest
+    same-length
+    returns-2
+    put-head-requires
+    add-t15
+    same-length-2
+    returns-3)

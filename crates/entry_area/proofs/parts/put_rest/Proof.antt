@@ -1,0 +1,123 @@
+use mathlib.Core.Path.{_≡_, sym, ap, _∙_}
+use mathlib.Core.List.{List, _++_}
+use Prim.Native.Nat.{ℕ, _+_, _-_, _≤_}
+use native.Mathlib.Omega.{arith}
+use denote.Ref.{now}
+use lib.ListN.{length, take, drop, length-drop}
+use lib.Seq.{length-front, length-take-le}
+use Rattle.codec.specs.Answers.{outcomeOf, wrote}
+use Rattle.codec.specs.Format.{allowed, putAnswer}
+use Rattle.codec.proofs.Lending.{no-length, to-end, put-end}
+use Rattle.path.specs.Record.{pathOf}
+use Rattle.path_suffix.specs.Suffix.{suffixFrom}
+use Rattle.path_relative.proofs.Writing.{suffix-within}
+use Rattle.entry_area.specs.Entry.{endOf}
+use Rattle.entry_area.proofs.Tail.{end-full, before-refused, before-fits, both-written}
+use borrow.Author.Needs.{needs}
+use Rattle.entry_area.proofs.parts.put_rest.Statement.{statement}
+use Rattle.entry_area.proofs.parts.put_rest.Tie as tie
+
+-- the suffix, and what stands after it
+abbrev suffix : tie.Start → List ℕ
+suffix c = suffixFrom (c .args .k) .encode (pathOf (now (c .args .bytes)) (now (c .args .lengths)) (c .args .count))
+
+abbrev end : tie.Start → List ℕ
+end c = endOf (c .args .of-times) (c .args .end)
+
+-- the tail with the suffix in it, as long as it was
+abbrev filled : tie.After-encode-suffix → List ℕ
+filled c = let l = now (c .before .before .before .before .before .before .before .args .tail) in c .encode-suffix .last .0 ++ drop (length l - c .before .before .before .end-len .result) l
+
+kept : (c : tie.After-encode-suffix) → length (filled c) ≡ length (now (c .before .before .before .before .before .before .before .args .tail))
+kept c = let l = now (c .before .before .before .before .before .before .before .args .tail) in length-front l (c .encode-suffix .last .0) (length l - c .before .before .before .end-len .result) (c .encode-suffix .kept .0)
+
+-- what the suffix was answered
+answered : (c : tie.After-known-told) → let l = now (c .before .before .before .before .before .before .before .before .before .before .before .before .args .tail) in putAnswer allowed (suffix (c .before .before .before .before .before .before .before .before .before .before .before .before)) (length (take (length l - c .before .before .before .before .before .before .before .before .end-len .result) l)) ≡ wrote (c .before .suffix .given .0 .0)
+answered c = sym (rw (c .before .before .before .before .before .before .before .before .before .before .before .before .pre) at (c .before .before .before .before .before .encode-suffix .ensures .0)) ∙ ap outcomeOf (c .before .suffix .given .1)
+
+fits : (c : tie.After-known-told) → let n = c .before .suffix .given .0 .0 in (n ≡ length (suffix (c .before .before .before .before .before .before .before .before .before .before .before .before))) × (n + c .before .before .before .before .before .before .before .before .end-len .result ≤ length (now (c .before .before .before .before .before .before .before .before .before .before .before .before .args .tail)))
+fits c = let s = c .before .before .before .before .before .before .before .before .before .before .before .before in let w = c .before .before .before .before .before .encode-suffix in before-fits (suffix s) (end s) (now (s .args .tail)) (c .before .before .before .before .before .before .before .before .end-len .ensures .0) (c .before .before .before .before .before .before .before .if1 .left) _ (w .last .0) (answered c) (rw (s .pre) at (w .ensures .1))
+
+suffix-small : (c : tie.After-known-told) → c .before .suffix .given .0 .0 ≤ 1000
+suffix-small c = let s = c .before .before .before .before .before .before .before .before .before .before .before .before in omega (arith, fits c .0, suffix-within (pathOf (now (s .args .bytes)) (now (s .args .lengths)) (s .args .count)) (s .args .k) (s .pre))
+
+end-len-requires : tie.Need-end-len-requires
+end-len-requires c κs = search needs
+
+returns : tie.Need-returns
+returns c = let s = c .before .before .before .before .before in end-full (suffix s) (end s) (now (s .args .tail)) (c .before .end-len .ensures .0) (omega (arith, c .if1 .taken))
+
+sub-e : tie.Need-sub-e
+sub-e c = search needs
+
+slice-relend-prefix-encode-suffix : tie.Need-slice-relend-prefix-encode-suffix
+slice-relend-prefix-encode-suffix c = search needs
+
+slice-aggregate-encode-suffix : tie.Need-slice-aggregate-encode-suffix
+slice-aggregate-encode-suffix c = sym (length-take-le _ _ (omega arith))
+
+encode-suffix-requires : tie.Need-encode-suffix-requires
+encode-suffix-requires c κs = search needs
+
+enum-known-suffix : tie.Need-enum-known-suffix
+enum-known-suffix c = search needs
+
+same-length : tie.Need-same-length
+same-length c = search needs
+
+returns-2 : tie.Need-returns-2
+returns-2 c =
+    let s = c .before .before .before .before .before .before .before .before .before .before in
+    let w = c .before .before .before .encode-suffix in
+    let none = no-length (w .result) (c .match .keys2) in
+    let done = before-refused (suffix s) (end s) (now (s .args .tail)) (c .before .before .before .before .before .before .end-len .ensures .0) (c .before .before .before .before .before .if1 .left) (none .why) (w .last .0) (sym (rw (s .pre) at (w .ensures .0)) ∙ none .is) (rw (s .pre) at (w .ensures .1)) in
+    (none .is ∙ done .0, done .1)
+
+sub-put-end : tie.Need-sub-put-end
+sub-put-end c = omega (arith, fits c .1, kept (c .before .before .before .before .before))
+
+part-put-end-start : tie.Need-part-put-end-start
+part-put-end-start c = omega (arith, fits c .1, kept (c .before .before .before .before .before))
+
+part-put-end-end : tie.Need-part-put-end-end
+part-put-end-end c = search needs
+
+put-end-requires : tie.Need-put-end-requires
+put-end-requires c κs = rw (to-end (c .before .before .suffix .given .0 .0) (filled (c .before .before .before .before .before .before)), length-drop) (omega (arith, c .before .before .before .before .before .before .before .before .before .end-len .ensures .0, fits (c .before) .1, kept (c .before .before .before .before .before .before)))
+
+add-t12 : tie.Need-add-t12
+add-t12 c = omega (arith, suffix-small (c .before .before .before .before), c .before .before .before .before .before .before .before .before .before .before .before .before .end-len .ensures .1)
+
+same-length-2 : tie.Need-same-length-2
+same-length-2 c = search needs
+
+returns-3 : tie.Need-returns-3
+returns-3 c =
+    let s = c .before .before .before .before .before .before .before .before .before .before .before .before .before .before .before .before in
+    let w = c .before .before .before .before .before .before .before .before .before .encode-suffix in
+    let n = c .before .before .before .before .before .suffix .given .0 .0 in
+    let l = filled (c .before .before .before .before .before .before .before .before .before) in
+    let rest = rw (to-end n l) at (c .before .before .put-end .ensures) in
+    let done = both-written (suffix s) (end s) (now (s .args .tail)) (c .before .before .before .before .before .before .before .before .before .before .before .before .end-len .ensures .0) (c .before .before .before .before .before .before .before .before .before .before .before .if1 .left) n (w .last .0) (answered (c .before .before .before .before)) (rw (s .pre) at (w .ensures .1)) in
+    (done .0, put-end n l (c .before .before .put-end .last .0) ∙ rw rest (done .1))
+
+pub put-rest-spec : {M : Type 1} → statement M
+put-rest-spec =
+    tie.close
+    (tie.spec
+    end-len-requires
+    returns
+    sub-e
+    slice-relend-prefix-encode-suffix
+    slice-aggregate-encode-suffix
+    encode-suffix-requires
+    enum-known-suffix
+    same-length
+    returns-2
+    sub-put-end
+    part-put-end-start
+    part-put-end-end
+    put-end-requires
+    add-t12
+    same-length-2
+    returns-3)

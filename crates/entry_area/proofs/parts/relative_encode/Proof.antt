@@ -1,0 +1,64 @@
+use mathlib.Core.Path.{_≡_, sym, _∙_}
+use denote.Ref.{now}
+use Rattle.codec.specs.Format.{allowed}
+use Rattle.codec.proofs.Lending.{put-barred}
+use Rattle.path.specs.Record.{pathOf}
+use Rattle.grouping.specs.declared.Area.{Area}
+use Rattle.grouping.specs.Record.{areaWith}
+use Rattle.entry.specs.declared.Entry.{Entry}
+use Rattle.entry.specs.Record.{entryWith}
+use Rattle.entry_area.specs.Records.{againstNamespaceArea}
+use Rattle.entry_area.proofs.Writing.{contained, not-contained, unformed, suffix-allowed, entry-bytes}
+use borrow.Author.Needs.{needs}
+use Rattle.entry_area.proofs.parts.relative_encode.Statement.{statement}
+use Rattle.entry_area.proofs.parts.relative_encode.Tie as tie
+
+abbrev area : tie.Start → Area
+area c = areaWith (c .args .of-subspace) (pathOf (now (c .args .of-bytes)) (now (c .args .of-lengths)) (c .args .of-count)) (c .args .of-times)
+
+abbrev entry : tie.Start → Entry
+entry c = entryWith (c .args .fields) (pathOf (now (c .args .bytes)) (now (c .args .lengths)) (c .args .count))
+
+allows : (c : tie.After-enum-told) → let s = c .before .before .before .before .before .before .before .before in againstNamespaceArea (s .args .namespace) (area s) .check (entry s) ≡ allowed
+allows c = let s = c .before .before .before .before .before .before .before .before in contained (s .args .namespace) (area s) (entry s) (sym (c .before .before .lies-inside .ensures) ∙ c .enum-told .given .1)
+
+lies-inside-requires : tie.Need-lies-inside-requires
+lies-inside-requires c κs = search needs
+
+enum-told : tie.Need-enum-told
+enum-told c = search needs
+
+put-known-requires : tie.Need-put-known-requires
+put-known-requires c κs = let s = c .before .before .before .before .before .before .before .before .before in suffix-allowed (s .args .namespace) (area s) (entry s) (allows (c .before))
+
+enum-told-2 : tie.Need-enum-told-2
+enum-told-2 c = search needs
+
+enum-told-3 : tie.Need-enum-told-3
+enum-told-3 c = search needs
+
+same-length : tie.Need-same-length
+same-length c = search needs
+
+returns : tie.Need-returns
+returns c = let s = c .before .before .before .before .before .before .before .before .before .before .before .before in let ok = allows (c .before .before .before .before) in rw (ok, entry-bytes (s .args .namespace) (area s) (entry s) ok) (c .before .before .put-known .ensures)
+
+returns-2 : tie.Need-returns-2
+returns-2 c = let s = c .before .before .before .before .before .before .before .before in put-barred (againstNamespaceArea (s .args .namespace) (area s) .check (entry s)) _ (now (s .args .buffer)) 3 (not-contained (s .args .namespace) (area s) (entry s) (sym (c .before .before .lies-inside .ensures) ∙ c .enum-told2 .given .1))
+
+returns-3 : tie.Need-returns-3
+returns-3 c = let s = c .before .before .before .before .before .before .before .before in put-barred (againstNamespaceArea (s .args .namespace) (area s) .check (entry s)) _ (now (s .args .buffer)) 5 (unformed (s .args .namespace) (area s) (entry s) (sym (c .before .before .lies-inside .ensures) ∙ c .enum-told3 .given .1))
+
+pub relative-encode-spec : {M : Type 1} → statement M
+relative-encode-spec =
+    tie.close
+    (tie.spec
+    lies-inside-requires
+    enum-told
+    put-known-requires
+    enum-told-2
+    enum-told-3
+    same-length
+    returns
+    returns-2
+    returns-3)

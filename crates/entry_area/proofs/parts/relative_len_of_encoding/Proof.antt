@@ -1,0 +1,115 @@
+use mathlib.Core.Path.{_≡_, sym, ap, _∙_}
+use mathlib.Core.List.{_++_}
+use native.Mathlib.Omega.{arith}
+use denote.Ref.{now}
+use lib.ListN.{length, length-append}
+use Prim.Native.Nat.{_+_, _≤_}
+use Rattle.codec.specs.Answers.{outcomeOf}
+use Rattle.codec.specs.Format.{allowed}
+use Rattle.codec.proofs.Lending.{length-allowed, length-barred, length-wrote, length-not-denied, no-length}
+use Rattle.path.specs.Record.{pathOf}
+use Rattle.path_suffix.specs.Suffix.{suffixFrom}
+use Rattle.grouping.specs.declared.Area.{Area}
+use Rattle.grouping.specs.Record.{areaWith, subspaceOf}
+use Rattle.entry.specs.declared.Entry.{Entry}
+use Rattle.entry.specs.Record.{entryWith}
+use Rattle.entry.proofs.Typed.{subspace-long}
+use Rattle.entry_area.specs.Entry.{headBytes, endOf}
+use Rattle.entry_area.specs.Records.{endIn, againstNamespaceArea}
+use Rattle.entry_area.proofs.Writing.{contained, not-contained, unformed, suffix-allowed, suffix-short, head-long, entry-bytes}
+use borrow.Author.Needs.{needs}
+use Rattle.entry_area.proofs.parts.relative_len_of_encoding.Statement.{statement}
+use Rattle.entry_area.proofs.parts.relative_len_of_encoding.Tie as tie
+
+abbrev area : tie.Start → Area
+area c = areaWith (c .args .of-subspace) (pathOf (now (c .args .of-bytes)) (now (c .args .of-lengths)) (c .args .of-count)) (c .args .of-times)
+
+abbrev entry : tie.Start → Entry
+entry c = entryWith (c .args .fields) (pathOf (now (c .args .bytes)) (now (c .args .lengths)) (c .args .count))
+
+allows : (c : tie.After-enum-told) → let s = c .before .before .before .before .before .before .before in againstNamespaceArea (s .args .namespace) (area s) .check (entry s) ≡ allowed
+allows c = let s = c .before .before .before .before .before .before .before in contained (s .args .namespace) (area s) (entry s) (sym (c .before .before .lies-inside .ensures) ∙ c .enum-told .given .1)
+
+-- the length of the suffix, and that it is small
+suffix-is : (c : tie.After-known-told) → let s = c .before .before .before .before .before .before .before .before .before .before .before in let f = suffixFrom (s .args .of-count) in (c .before .suffix .given .0 .0 ≡ length (f .encode (entry s .path))) × (length (f .encode (entry s .path)) ≤ 1000)
+suffix-is c =
+    let s = c .before .before .before .before .before .before .before .before .before .before .before in
+    (length-wrote (suffixFrom (s .args .of-count)) (entry s .path) _ (sym (c .before .before .before .suffix-len .ensures) ∙ ap outcomeOf (c .before .suffix .given .1)) .1, suffix-short (s .args .namespace) (area s) (entry s) (allows (c .before .before .before .before)))
+
+lies-inside-requires : tie.Need-lies-inside-requires
+lies-inside-requires c κs = search needs
+
+enum-told : tie.Need-enum-told
+enum-told c = search needs
+
+suffix-len-requires : tie.Need-suffix-len-requires
+suffix-len-requires c κs = search needs
+
+enum-known-suffix : tie.Need-enum-known-suffix
+enum-known-suffix c = search needs
+
+returns : tie.Need-returns
+returns c =
+    let s = c .before .before .before .before .before .before .before .before .before in
+    let none = no-length (c .before .suffix-len .result) (c .match2 .keys2) in
+    absurd (length-not-denied (suffixFrom (s .args .of-count)) (entry s .path) (none .why) (suffix-allowed (s .args .namespace) (area s) (entry s) (allows (c .before .before))) (sym (c .before .suffix-len .ensures) ∙ none .is))
+
+head-len-requires : tie.Need-head-len-requires
+head-len-requires c κs = search needs
+
+end-of-requires : tie.Need-end-of-requires
+end-of-requires c κs = search needs
+
+add-t18 : tie.Need-add-t18
+add-t18 c = omega (arith, suffix-is (c .before .before) .0, suffix-is (c .before .before) .1, c .before .head-len .ensures .1)
+
+end-len-requires : tie.Need-end-len-requires
+end-len-requires c κs = search needs
+
+add-t20 : tie.Need-add-t20
+add-t20 c = omega (arith, suffix-is (c .before .before .before) .0, suffix-is (c .before .before .before) .1, c .before .before .head-len .ensures .1, c .end-len .ensures .1)
+
+enum-told-2 : tie.Need-enum-told-2
+enum-told-2 c = search needs
+
+enum-told-3 : tie.Need-enum-told-3
+enum-told-3 c = search needs
+
+returns-2 : tie.Need-returns-2
+returns-2 c =
+    let s = c .before .before .before .before .before .before .before .before .before .before .before .before .before .before in
+    let f = s .args .fields in
+    let ok = allows (c .before .before .before .before .before .before .before) in
+    let h = headBytes (s .args .of-times) (subspaceOf (s .args .of-subspace)) (f .«subspace_id») (endIn f) (s .args .of-count) in
+    let head = c .before .before .head-len .ensures .0 (f .«subspace_id») (subspace-long f (s .good .0)) ∙ head-long (s .args .of-subspace) (s .args .of-times) (f .«subspace_id») (endIn f) (s .args .of-count) in
+    let end = rw (c .before .end-of .ensures) at (c .end-len .ensures .0) in
+    let x = suffixFrom (s .args .of-count) .encode (entry s .path) in
+    let y = endOf (s .args .of-times) (endIn f) in
+    let long : c .before .before .head-len .result + c .before .before .before .before .suffix .given .0 .0 + c .end-len .result ≡ length (h ++ (x ++ y)) = omega (arith, head, end, suffix-is (c .before .before .before) .0, length-append h (x ++ y), length-append x y) in
+    length-allowed (againstNamespaceArea (s .args .namespace) (area s)) (entry s) _ ok (long ∙ ap length (sym (entry-bytes (s .args .namespace) (area s) (entry s) ok)))
+
+returns-3 : tie.Need-returns-3
+returns-3 c = let s = c .before .before .before .before .before .before .before in length-barred (againstNamespaceArea (s .args .namespace) (area s)) (entry s) 3 (not-contained (s .args .namespace) (area s) (entry s) (sym (c .before .before .lies-inside .ensures) ∙ c .enum-told2 .given .1))
+
+returns-4 : tie.Need-returns-4
+returns-4 c = let s = c .before .before .before .before .before .before .before in length-barred (againstNamespaceArea (s .args .namespace) (area s)) (entry s) 5 (unformed (s .args .namespace) (area s) (entry s) (sym (c .before .before .lies-inside .ensures) ∙ c .enum-told3 .given .1))
+
+pub relative-len-of-encoding-spec : {M : Type 1} → statement M
+relative-len-of-encoding-spec =
+    tie.close
+    (tie.spec
+    lies-inside-requires
+    enum-told
+    suffix-len-requires
+    enum-known-suffix
+    returns
+    head-len-requires
+    end-of-requires
+    add-t18
+    end-len-requires
+    add-t20
+    enum-told-2
+    enum-told-3
+    returns-2
+    returns-3
+    returns-4)

@@ -1,0 +1,152 @@
+use mathlib.Core.Path.{_≡_, sym, ap, _∙_}
+use Prim.Native.Nat.{_+_, _≤_, _<_}
+use native.Mathlib.Omega.{arith}
+use denote.Ref.{now}
+use lib.ListN.{length, drop, getD}
+use Rattle.codec.specs.Answers.{accepted, answerOf}
+use Rattle.codec.specs.declared.Decoded.{Decoded}
+use Rattle.codec.proofs.Answers.{no-value}
+use Rattle.codec.proofs.Lending.{to-end}
+use Rattle.entry_numbers.specs.declared.Header.{Header}
+use Rattle.entry_numbers.specs.Header.{unpackHeader}
+use Rattle.entry_numbers.specs.Numbers.{readNumbers}
+use Rattle.entry_entry.specs.Entry.{readIds}
+use Rattle.entry_entry.proofs.DecodeExits.{head-none, head-ids, head-numbers, head-read, first-inside, second-inside}
+use borrow.Author.Needs.{needs}
+use Rattle.entry_entry.proofs.entry_decode.decode_head.Statement.{statement}
+use Rattle.entry_entry.proofs.entry_decode.decode_head.Tie as tie
+
+there : (c : tie.After-unpack) → c .before .before .before .before .args .start < length (now (c .before .before .before .before .args .message))
+there c = omega (arith, c .before .before .if1 .left)
+
+abbrev header : tie.Start → Header
+header s = unpackHeader (getD (now (s .args .message)) (s .args .start) 0)
+
+ids-told : (c : tie.After-decode-ids) → let a = c .before .before .before .before .before .before .args in
+    answerOf (c .decode-ids .result .answer) (c .decode-ids .result .ids) ≡ readIds (a .of .«namespace_id») (a .of .«subspace_id») (header (c .before .before .before .before .before .before)) (drop (a .start + 1) (now (a .message)))
+ids-told c = rw (c .before .before .unpack .ensures, to-end (c .before .before .before .before .before .before .args .start + 1) (now (c .before .before .before .before .before .before .args .message))) at (c .decode-ids .ensures)
+
+ids-is : (c : tie.After-known-told) → let a = c .before .before .before .before .before .before .before .before .before .args in
+    readIds (a .of .«namespace_id») (a .of .«subspace_id») (header (c .before .before .before .before .before .before .before .before .before)) (drop (a .start + 1) (now (a .message))) ≡ accepted (c .before .before .before .decode-ids .result .ids) (c .before .first-answer .given .0 .0)
+ids-is c = sym (ids-told (c .before .before .before)) ∙ ap (λ (d : Decoded). answerOf d (c .before .before .before .decode-ids .result .ids)) (c .before .first-answer .given .1)
+
+ids-in : (c : tie.After-known-told) → c .before .before .before .before .before .before .before .before .before .args .start + 1 + c .before .first-answer .given .0 .0 ≤ length (now (c .before .before .before .before .before .before .before .before .before .args .message))
+ids-in c = let a = c .before .before .before .before .before .before .before .before .before .args in first-inside (a .of .«namespace_id») (a .of .«subspace_id») (a .of .timestamp) (now (a .message)) (a .start) (there (c .before .before .before .before .before)) _ _ (ids-is c)
+
+numbers-told : (c : tie.After-relative-decode) → let a = c .before .before .before .before .before .before .before .before .before .before .before .args in
+    answerOf (c .relative-decode .result .answer) (c .relative-decode .result .numbers) ≡ readNumbers (a .of .timestamp) (header (c .before .before .before .before .before .before .before .before .before .before .before)) (drop (a .start + 1 + c .before .before .before .first-answer .given .0 .0) (now (a .message)))
+numbers-told c = rw (c .before .before .before .before .before .before .before .unpack .ensures, to-end (c .before .before .before .before .before .before .before .before .before .before .before .args .start + 1 + c .before .before .before .first-answer .given .0 .0) (now (c .before .before .before .before .before .before .before .before .before .before .before .args .message))) at (c .relative-decode .ensures .answer)
+
+numbers-is : (c : tie.After-known-told2) → let a = c .before .before .before .before .before .before .before .before .before .before .before .before .before .before .args in
+    readNumbers (a .of .timestamp) (header (c .before .before .before .before .before .before .before .before .before .before .before .before .before .before)) (drop (a .start + 1 + c .before .before .before .before .before .before .first-answer .given .0 .0) (now (a .message))) ≡ accepted (c .before .before .before .relative-decode .result .numbers) (c .before .second-answer .given .0 .0)
+numbers-is c = sym (numbers-told (c .before .before .before)) ∙ ap (λ (d : Decoded). answerOf d (c .before .before .before .relative-decode .result .numbers)) (c .before .second-answer .given .1)
+
+numbers-in : (c : tie.After-known-told2) → c .before .before .before .before .before .before .before .before .before .before .before .before .before .before .args .start + (1 + (c .before .before .before .before .before .before .first-answer .given .0 .0 + c .before .second-answer .given .0 .0)) ≤ length (now (c .before .before .before .before .before .before .before .before .before .before .before .before .before .before .args .message))
+numbers-in c = let a = c .before .before .before .before .before .before .before .before .before .before .before .before .before .before .args in second-inside (a .of .«namespace_id») (a .of .«subspace_id») (a .of .timestamp) (now (a .message)) (a .start) (there (c .before .before .before .before .before .before .before .before .before .before)) _ _ (ids-is (c .before .before .before .before .before)) _ _ (numbers-is c)
+
+no-head-requires : tie.Need-no-head-requires
+no-head-requires c κs = search needs
+
+returns : tie.Need-returns
+returns c =
+    let a = c .before .before .before .args in
+    rw (c .no-head .ensures) (sym (head-none (a .of .«namespace_id») (a .of .«subspace_id») (a .of .timestamp) (now (a .message)) (a .start) (omega (arith, c .before .if1 .taken))))
+
+shared-slice-read-unpack : tie.Need-shared-slice-read-unpack
+shared-slice-read-unpack c = search needs
+
+unpack-requires : tie.Need-unpack-requires
+unpack-requires c κs = search needs
+
+add-at : tie.Need-add-at
+add-at c = search needs
+
+sub-decode-ids : tie.Need-sub-decode-ids
+sub-decode-ids c = search needs
+
+part-decode-ids-start : tie.Need-part-decode-ids-start
+part-decode-ids-start c = search needs
+
+part-decode-ids-end : tie.Need-part-decode-ids-end
+part-decode-ids-end c = search needs
+
+decode-ids-requires : tie.Need-decode-ids-requires
+decode-ids-requires c κs = search needs
+
+enum-known-first-answer : tie.Need-enum-known-first-answer
+enum-known-first-answer c = search needs
+
+no-head-requires-2 : tie.Need-no-head-requires-2
+no-head-requires-2 c κs = search needs
+
+returns-2 : tie.Need-returns-2
+returns-2 c =
+    let a = c .before .before .before .before .before .before .before .before .args in
+    let x = no-value (c .before .before .decode-ids .result .answer) (c .before .match .keys2) in
+    rw (c .no-head2 .ensures) (x .beside _ ∙ sym (head-ids (a .of .«namespace_id») (a .of .«subspace_id») (a .of .timestamp) (now (a .message)) (a .start) (there (c .before .before .before .before)) (x .why) (sym (ids-told (c .before .before)) ∙ x .beside _)))
+
+add-next : tie.Need-add-next
+add-next c = omega (arith, ids-in c)
+
+sub-relative-decode : tie.Need-sub-relative-decode
+sub-relative-decode c = ids-in c
+
+part-relative-decode-start : tie.Need-part-relative-decode-start
+part-relative-decode-start c = omega (arith, ids-in c)
+
+part-relative-decode-end : tie.Need-part-relative-decode-end
+part-relative-decode-end c = search needs
+
+relative-decode-requires : tie.Need-relative-decode-requires
+relative-decode-requires c κs = search needs
+
+enum-known-second-answer : tie.Need-enum-known-second-answer
+enum-known-second-answer c = search needs
+
+no-head-requires-3 : tie.Need-no-head-requires-3
+no-head-requires-3 c κs = search needs
+
+returns-3 : tie.Need-returns-3
+returns-3 c =
+    let a = c .before .before .before .before .before .before .before .before .before .before .before .before .before .args in
+    let x = no-value (c .before .before .relative-decode .result .answer) (c .before .match2 .keys2) in
+    rw (c .no-head3 .ensures) (x .beside _ ∙ sym (head-numbers (a .of .«namespace_id») (a .of .«subspace_id») (a .of .timestamp) (now (a .message)) (a .start) (there (c .before .before .before .before .before .before .before .before .before)) _ _ (ids-is (c .before .before .before .before)) (x .why) (sym (numbers-told (c .before .before)) ∙ x .beside _)))
+
+add-t15 : tie.Need-add-t15
+add-t15 c = omega (arith, numbers-in (c .before .before))
+
+add-t26 : tie.Need-add-t26
+add-t26 c = omega (arith, numbers-in (c .before .before))
+
+returns-4 : tie.Need-returns-4
+returns-4 c =
+    let a = c .before .before .before .before .before .before .before .before .before .before .before .before .before .before .before .before .args in
+    sym (head-read (a .of .«namespace_id») (a .of .«subspace_id») (a .of .timestamp) (now (a .message)) (a .start) (there (c .before .before .before .before .before .before .before .before .before .before .before .before)) _ _ (ids-is (c .before .before .before .before .before .before .before)) _ _ (numbers-is (c .before .before)))
+
+pub decode-head-spec : {M : Type 1} → statement M
+decode-head-spec =
+    tie.close
+    (tie.spec
+    no-head-requires
+    returns
+    shared-slice-read-unpack
+    unpack-requires
+    add-at
+    sub-decode-ids
+    part-decode-ids-start
+    part-decode-ids-end
+    decode-ids-requires
+    enum-known-first-answer
+    no-head-requires-2
+    returns-2
+    add-next
+    sub-relative-decode
+    part-relative-decode-start
+    part-relative-decode-end
+    relative-decode-requires
+    enum-known-second-answer
+    no-head-requires-3
+    returns-3
+    add-t15
+    add-t26
+    returns-4)

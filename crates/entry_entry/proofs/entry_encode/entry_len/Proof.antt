@@ -1,0 +1,37 @@
+use borrow.Author.Needs.{needs}
+use native.Mathlib.Omega.{arith}
+use Rattle.entry_entry.proofs.entry_encode.entry_len.Statement.{statement}
+use Rattle.entry_entry.proofs.entry_encode.entry_len.Tie as tie
+
+ids-len-requires : tie.Need-ids-len-requires
+ids-len-requires c κs = search needs
+
+relative-len-of-encoding-requires : tie.Need-relative-len-of-encoding-requires
+relative-len-of-encoding-requires c κs = search needs
+
+add-result : tie.Need-add-result
+add-result c = omega (arith, c .relative-len-of-encoding .ensures, c .before .ids-len .ensures, c .before .before .pre)
+
+add-result-2 : tie.Need-add-result-2
+add-result-2 c = omega (arith, c .relative-len-of-encoding .ensures, c .before .ids-len .ensures, c .before .before .pre)
+
+add-result-3 : tie.Need-add-result-3
+add-result-3 c = omega (arith, c .relative-len-of-encoding .ensures, c .before .ids-len .ensures, c .before .before .pre)
+
+add-result-4 : tie.Need-add-result-4
+add-result-4 c = omega (arith, c .relative-len-of-encoding .ensures, c .before .ids-len .ensures, c .before .before .pre)
+
+returns : tie.Need-returns
+returns c = omega (arith, c .relative-len-of-encoding .ensures, c .before .ids-len .ensures, c .before .before .pre)
+
+pub entry-len-spec : {M : Type 1} → statement M
+entry-len-spec =
+    tie.close
+    (tie.spec
+    ids-len-requires
+    relative-len-of-encoding-requires
+    add-result
+    add-result-2
+    add-result-3
+    add-result-4
+    returns)

@@ -1,0 +1,153 @@
+use mathlib.Core.Path.{_≡_, sym, ap, _∙_}
+use mathlib.Core.Bool.{false}
+use Prim.Native.Nat.{_+_, _≤_}
+use native.Mathlib.Omega.{arith}
+use mir.Syntax.{w64}
+use mir.Val.{Fits}
+use denote.Ref.{now}
+use lib.ListN.{length, drop}
+use Rattle.codec.specs.Answers.{accepted, answerOf}
+use Rattle.codec.specs.Reader.{someBytes}
+use Rattle.codec.specs.declared.Decoded.{Decoded}
+use Rattle.codec.proofs.Lending.{to-end}
+use Rattle.codec.proofs.Answers.{gives-accepted, gives-refused, no-value}
+use Rattle.path.specs.Record.{pathOf}
+use Rattle.path_relative.specs.Records.{readAgainstPath}
+use Rattle.entry.specs.declared.Entry.{Entry}
+use Rattle.entry.specs.Record.{entryWith}
+use Rattle.entry.specs.Answers.{refusal}
+use Rattle.entry_entry.specs.Entry.{readHead}
+use Rattle.entry_entry.proofs.DecodeExits.{head-inside, entry-unread, entry-path, path-inside, entry-digest, entry-read, digest-inside}
+use borrow.Author.Needs.{needs}
+use Rattle.entry_entry.proofs.parts.relative_decode.Statement.{statement}
+use Rattle.entry_entry.proofs.parts.relative_decode.Tie as tie
+
+abbrev reference : tie.Start → Entry
+reference c = entryWith (c .args .of) (pathOf (now (c .args .of-bytes)) (now (c .args .of-lengths)) (c .args .of-count))
+
+head-is : (c : tie.After-known-told) → let a = c .before .before .before .before .before .before .before .args in
+    readHead (a .of .«namespace_id») (a .of .«subspace_id») (a .of .timestamp) (drop (a .start) (now (a .message))) ≡ accepted (c .before .before .before .decode-head .result .head) (c .before .first-answer .given .0 .0)
+head-is c = sym (c .before .before .before .decode-head .ensures) ∙ ap (λ (d : Decoded). answerOf d (c .before .before .before .decode-head .result .head)) (c .before .first-answer .given .1)
+
+head-in : (c : tie.After-known-told) → c .before .before .before .before .before .before .before .args .start + c .before .first-answer .given .0 .0 ≤ length (now (c .before .before .before .before .before .before .before .args .message))
+head-in c = let a = c .before .before .before .before .before .before .before .args in head-inside (a .of .«namespace_id») (a .of .«subspace_id») (a .of .timestamp) (now (a .message)) (a .start) _ _ (head-is c)
+
+path-told : (c : tie.After-relative-decode) → let s = c .before .before .before .before .before .before .before .before .before in
+    answerOf (c .relative-decode .result .answer) (c .relative-decode .result .path) ≡ readAgainstPath false (reference s .path) (drop (s .args .start + c .before .before .before .first-answer .given .0 .0) (now (s .args .message)))
+path-told c = rw (to-end (c .before .before .before .before .before .before .before .before .before .args .start + c .before .before .before .first-answer .given .0 .0) (now (c .before .before .before .before .before .before .before .before .before .args .message))) at (c .relative-decode .ensures .answer)
+
+path-is : (c : tie.After-known-told2) → let s = c .before .before .before .before .before .before .before .before .before .before .before .before in
+    readAgainstPath false (reference s .path) (drop (s .args .start + c .before .before .before .before .before .before .first-answer .given .0 .0) (now (s .args .message))) ≡ accepted (c .before .before .before .relative-decode .result .path) (c .before .second-answer .given .0 .0)
+path-is c = sym (path-told (c .before .before .before)) ∙ ap (λ (d : Decoded). answerOf d (c .before .before .before .relative-decode .result .path)) (c .before .second-answer .given .1)
+
+path-in : (c : tie.After-known-told2) → c .before .before .before .before .before .before .before .before .before .before .before .before .args .start + c .before .before .before .before .before .before .first-answer .given .0 .0 + c .before .second-answer .given .0 .0 ≤ length (now (c .before .before .before .before .before .before .before .before .before .before .before .before .args .message))
+path-in c = let s = c .before .before .before .before .before .before .before .before .before .before .before .before in path-inside (reference s) (now (s .args .message)) (s .args .start) _ _ (head-is (c .before .before .before .before .before)) _ _ (path-is c)
+
+digest-is : (c : tie.After-known-told3) → let s = c .before .before .before .before .before .before .before .before .before .before .before .before .before .before .before .before in
+    someBytes 32 (drop (s .args .start + c .before .before .before .before .before .before .before .before .before .before .first-answer .given .0 .0 + c .before .before .before .before .before .second-answer .given .0 .0) (now (s .args .message))) ≡ accepted (c .before .before .before .decode-id .result .id) (c .before .third-answer .given .0 .0)
+digest-is c = sym (c .before .before .before .decode-id .ensures .answer) ∙ ap (λ (d : Decoded). answerOf d (c .before .before .before .decode-id .result .id)) (c .before .third-answer .given .1)
+
+digest-in : (c : tie.After-known-told3) → c .before .before .before .before .before .before .before .before .before .before .before .before .before .before .before .before .args .start + c .before .before .before .before .before .before .before .before .before .before .first-answer .given .0 .0 + c .before .before .before .before .before .second-answer .given .0 .0 + c .before .third-answer .given .0 .0 ≤ length (now (c .before .before .before .before .before .before .before .before .before .before .before .before .before .before .before .before .args .message))
+digest-in c = let s = c .before .before .before .before .before .before .before .before .before .before .before .before .before .before .before .before in digest-inside (reference s) (now (s .args .message)) (s .args .start) _ _ (head-is (c .before .before .before .before .before .before .before .before .before)) _ _ (path-is (c .before .before .before .before)) _ _ (digest-is c)
+
+-- the sums fit
+fit : (c : tie.After-known-told3) → Fits w64 (c .before .before .before .before .before .second-answer .given .0 .0 + c .before .third-answer .given .0 .0) × Fits w64 (c .before .before .before .before .before .before .before .before .before .before .first-answer .given .0 .0 + (c .before .before .before .before .before .second-answer .given .0 .0 + c .before .third-answer .given .0 .0))
+fit c = (omega (arith, digest-in c), omega (arith, digest-in c))
+
+decode-head-requires : tie.Need-decode-head-requires
+decode-head-requires c κs = search needs
+
+enum-known-first-answer : tie.Need-enum-known-first-answer
+enum-known-first-answer c = search needs
+
+refuse-head-requires : tie.Need-refuse-head-requires
+refuse-head-requires c κs = search needs
+
+returns : tie.Need-returns
+returns c =
+    let s = c .before .before .before .before .before .before in
+    let x = no-value (c .before .before .decode-head .result .answer) (c .before .match .keys2) in
+    rw (c .refuse-head .ensures) (entry-unread (reference s) (now (s .args .message)) (s .args .start) _ x (sym (c .before .before .decode-head .ensures) ∙ x .beside _))
+
+add-at : tie.Need-add-at
+add-at c = omega (arith, head-in c)
+
+sub-relative-decode : tie.Need-sub-relative-decode
+sub-relative-decode c = omega (arith, head-in c)
+
+part-relative-decode-start : tie.Need-part-relative-decode-start
+part-relative-decode-start c = omega (arith, head-in c)
+
+part-relative-decode-end : tie.Need-part-relative-decode-end
+part-relative-decode-end c = search needs
+
+relative-decode-requires : tie.Need-relative-decode-requires
+relative-decode-requires c κs = search needs
+
+enum-known-second-answer : tie.Need-enum-known-second-answer
+enum-known-second-answer c = search needs
+
+refuse-requires : tie.Need-refuse-requires
+refuse-requires c κs = search needs
+
+returns-2 : tie.Need-returns-2
+unfolding refusal
+returns-2 c =
+    let s = c .before .before .before .before .before .before .before .before .before .before .before in
+    let x = no-value (c .before .before .relative-decode .result .answer) (c .before .match2 .keys2) in
+    rw (c .refuse .ensures) (gives-refused (x .why) (x .beside _) (entry-path (reference s) (now (s .args .message)) (s .args .start) _ _ (head-is (c .before .before .before .before)) (x .why) (sym (path-told (c .before .before)) ∙ x .beside _)))
+
+add-decode-id : tie.Need-add-decode-id
+add-decode-id c = omega (arith, path-in c)
+
+decode-id-requires : tie.Need-decode-id-requires
+decode-id-requires c κs = search needs
+
+enum-known-third-answer : tie.Need-enum-known-third-answer
+enum-known-third-answer c = search needs
+
+refuse-requires-2 : tie.Need-refuse-requires-2
+refuse-requires-2 c κs = search needs
+
+returns-3 : tie.Need-returns-3
+unfolding refusal
+returns-3 c =
+    let s = c .before .before .before .before .before .before .before .before .before .before .before .before .before .before .before in
+    let x = no-value (c .before .before .decode-id .result .answer) (c .before .match3 .keys2) in
+    rw (c .refuse2 .ensures) (gives-refused (x .why) (x .beside _) (entry-digest (reference s) (now (s .args .message)) (s .args .start) _ _ (head-is (c .before .before .before .before .before .before .before .before)) _ _ (path-is (c .before .before .before)) (x .why) (sym (c .before .before .decode-id .ensures .answer) ∙ x .beside _)))
+
+add-t23 : tie.Need-add-t23
+add-t23 c = fit (c .before .before .before .before .before) .0
+
+add-t26 : tie.Need-add-t26
+add-t26 c = fit (c .before .before .before .before .before) .1
+
+returns-4 : tie.Need-returns-4
+returns-4 c =
+    let s = c .before .before .before .before .before .before .before .before .before .before .before .before .before .before .before .before .before .before .before .before .before in
+    gives-accepted (entry-read (reference s) (now (s .args .message)) (s .args .start) _ _ (head-is (c .before .before .before .before .before .before .before .before .before .before .before .before .before .before)) _ _ (path-is (c .before .before .before .before .before .before .before .before .before)) _ _ (digest-is (c .before .before .before .before .before)))
+
+pub relative-decode-spec : {M : Type 1} → statement M
+relative-decode-spec =
+    tie.close
+    (tie.spec
+    decode-head-requires
+    enum-known-first-answer
+    refuse-head-requires
+    returns
+    add-at
+    sub-relative-decode
+    part-relative-decode-start
+    part-relative-decode-end
+    relative-decode-requires
+    enum-known-second-answer
+    refuse-requires
+    returns-2
+    add-decode-id
+    decode-id-requires
+    enum-known-third-answer
+    refuse-requires-2
+    returns-3
+    add-t23
+    add-t26
+    returns-4)

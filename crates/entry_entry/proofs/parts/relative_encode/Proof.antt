@@ -1,0 +1,117 @@
+use borrow.Author.Needs.{needs}
+use mathlib.Core.Path.{_≡_, sym, ap, _∙_}
+use mathlib.Core.List.{List, _∷_}
+use Prim.Native.Nat.{ℕ}
+use native.Mathlib.Omega.{arith}
+use denote.Ref.{now}
+use lib.ListN.{length}
+use Rattle.codec.specs.Answers.{outcomeOf}
+use Rattle.codec.specs.Format.{allowed, barred, over}
+use Rattle.codec.proofs.Lending.{length-wrote, length-not-denied, put-barred, put-full, put-fits, no-length}
+use Rattle.path.specs.Record.{pathOf}
+use Rattle.path_relative.specs.Records.{sharedFrom, againstPath}
+use Rattle.path_relative.proofs.Writing.{Common, common, uncommon, rest-allowed, shared-against}
+use Rattle.entry.specs.declared.Entry.{Entry}
+use Rattle.entry.specs.Record.{entryWith}
+use Rattle.entry.proofs.Typed.{digest-long}
+use Rattle.entry_numbers.specs.Header.{packHeader}
+use Rattle.entry_entry.specs.Records.{againstEntry, headerWith, partsWith}
+use Rattle.entry_entry.proofs.Writing.{path-check, path-short, entry-bytes, entry-long}
+use Rattle.entry_entry.proofs.parts.relative_encode.Statement.{statement}
+use Rattle.entry_entry.proofs.parts.relative_encode.Tie as tie
+
+abbrev entry : tie.Start → Entry
+entry c = entryWith (c .args .fields) (pathOf (now (c .args .bytes)) (now (c .args .lengths)) (c .args .count))
+
+abbrev reference : tie.Start → Entry
+reference c = entryWith (c .args .of) (pathOf (now (c .args .of-bytes)) (now (c .args .of-lengths)) (c .args .of-count))
+
+-- how many components are shared; so writing is allowed
+shared-of : (c : tie.After-known-told) → let s = c .before .before .before .before .before .before .before .before .before in Common (reference s .path) (entry s .path) (c .before .common .given .0 .0)
+shared-of c = let s = c .before .before .before .before .before .before .before .before .before in common (reference s .path) (entry s .path) _ (sym (c .before .before .before .longest-common-prefix .ensures) ∙ c .before .common .given .1)
+
+valid : (c : tie.After-known-told) → let s = c .before .before .before .before .before .before .before .before .before in againstEntry (reference s) .check (entry s) ≡ allowed
+valid c =
+    let s = c .before .before .before .before .before .before .before .before .before in
+    let k = shared-of c in
+    sym (path-check (reference s) (entry s)) ∙ sym (shared-against (reference s .path) (entry s .path) _ k .0) ∙ rest-allowed (reference s .path) (entry s .path) _ k
+
+-- the length of the path, and of all
+path-is : (c : tie.After-known-told2) → let s = c .before .before .before .before .before .before .before .before .before .before .before .before .before in c .before .path .given .0 .0 ≡ length (againstPath (reference s .path) .encode (entry s .path))
+path-is c =
+    let s = c .before .before .before .before .before .before .before .before .before .before .before .before .before in
+    let k = c .before .before .before .before .before .common .given .0 .0 in
+    length-wrote (sharedFrom k) (entry s .path) _ (sym (c .before .before .before .shared-len .ensures) ∙ ap outcomeOf (c .before .path .given .1)) .1 ∙ ap length (shared-against (reference s .path) (entry s .path) k (shared-of (c .before .before .before .before)) .1)
+
+long : (c : tie.After-entry-len) → let s = c .before .before .before .before .before .before .before .before .before .before .before .before .before .before in c .entry-len .result ≡ length (againstEntry (reference s) .encode (entry s))
+long c = let s = c .before .before .before .before .before .before .before .before .before .before .before .before .before .before in c .entry-len .ensures ∙ entry-long (reference s) (entry s) _ (path-is (c .before)) (digest-long (s .args .fields) (s .good .1 .0))
+
+longest-common-prefix-requires : tie.Need-longest-common-prefix-requires
+longest-common-prefix-requires c κs = search needs
+
+enum-known-common : tie.Need-enum-known-common
+enum-known-common c = search needs
+
+enum-told : tie.Need-enum-told
+enum-told c = search needs
+
+returns : tie.Need-returns
+returns c =
+    let s = c .before .before .before .before .before .before .before .before in
+    let w = uncommon (reference s .path) (entry s .path) (sym (c .before .before .longest-common-prefix .ensures) ∙ c .enum-told .given .1) in
+    let b : againstPath (reference s .path) .check (entry s .path) ≡ barred 5 = rw w in
+    put-barred (againstEntry (reference s) .check (entry s)) (againstEntry (reference s) .encode (entry s)) (now (s .args .buffer)) 5 (sym (path-check (reference s) (entry s)) ∙ b)
+
+shared-len-requires : tie.Need-shared-len-requires
+shared-len-requires c κs = search needs
+
+enum-known-path : tie.Need-enum-known-path
+enum-known-path c = search needs
+
+returns-2 : tie.Need-returns-2
+returns-2 c =
+    let s = c .before .before .before .before .before .before .before .before .before .before .before in
+    let none = no-length (c .before .shared-len .result) (c .match2 .keys2) in
+    absurd (length-not-denied (sharedFrom (c .before .before .before .common .given .0 .0)) (entry s .path) (none .why) (rest-allowed (reference s .path) (entry s .path) _ (shared-of (c .before .before))) (sym (c .before .shared-len .ensures) ∙ none .is))
+
+entry-len-requires : tie.Need-entry-len-requires
+entry-len-requires c κs = let s = c .before .before .before .before .before .before .before .before .before .before .before .before .before in omega (arith, path-is c, path-short (reference s) (entry s) (valid (c .before .before .before .before)))
+
+returns-3 : tie.Need-returns-3
+returns-3 c = let s = c .before .before .before .before .before .before .before .before .before .before .before .before .before .before .before in put-full (againstEntry (reference s) .check (entry s)) (againstEntry (reference s) .encode (entry s)) (now (s .args .buffer)) (valid (c .before .before .before .before .before .before)) _ (long (c .before)) (c .if1 .taken)
+
+put-entry-requires : tie.Need-put-entry-requires
+put-entry-requires c κs =
+    let s = c .before .before .before .before .before .before .before .before .before .before .before .before .before .before .before .before in
+    let k = c .before .before .before .before .before .before .before .before .common .given .0 .0 in
+    let same = shared-against (reference s .path) (entry s .path) k (shared-of (c .before .before .before .before .before .before .before)) .1 in
+    (rest-allowed (reference s .path) (entry s .path) k (shared-of (c .before .before .before .before .before .before .before)), omega (arith, ap (λ (bs : List ℕ). length (partsWith (s .args .of) (s .args .fields) bs)) same, ap length (entry-bytes (reference s) (entry s)), long (c .before .before), c .before .if1 .left))
+
+same-length : tie.Need-same-length
+same-length c = search needs
+
+returns-4 : tie.Need-returns-4
+returns-4 c =
+    let s = c .before .before .before .before .before .before .before .before .before .before .before .before .before .before .before .before .before .before .before in
+    let l = now (s .args .buffer) in
+    let same = shared-against (reference s .path) (entry s .path) _ (shared-of (c .before .before .before .before .before .before .before .before .before .before)) .1 in
+    let put = put-fits (againstEntry (reference s) .check (entry s)) (againstEntry (reference s) .encode (entry s)) l (valid (c .before .before .before .before .before .before .before .before .before .before)) _ (long (c .before .before .before .before .before)) (c .before .before .before .before .if1 .left) in
+    let written = ap (λ (bs : List ℕ). packHeader (headerWith (s .args .of) (s .args .fields)) ∷ partsWith (s .args .of) (s .args .fields) bs) same ∙ entry-bytes (reference s) (entry s) in
+    (put .0, c .before .before .put-entry .ensures ∙ ap (λ (bs : List ℕ). over bs l) written ∙ put .1)
+
+pub relative-encode-spec : {M : Type 1} → statement M
+relative-encode-spec =
+    tie.close
+    (tie.spec
+    longest-common-prefix-requires
+    enum-known-common
+    enum-told
+    returns
+    shared-len-requires
+    enum-known-path
+    returns-2
+    entry-len-requires
+    returns-3
+    put-entry-requires
+    same-length
+    returns-4)

@@ -1,0 +1,63 @@
+use mathlib.Core.Path.{_≡_, sym, _∙_}
+use mathlib.Core.Bool.{_&&_}
+use denote.Ref.{now}
+use borrow.Author.Tests.{not-true, not-false}
+use Rattle.path.specs.Record.{pathOf}
+use Rattle.path.specs.Answers.{verdict}
+use Rattle.grouping.specs.declared.Area.{Area}
+use Rattle.grouping.specs.Range.{endValue, bounds}
+use Rattle.grouping.specs.Record.{areaWith, areaInside}
+use Rattle.grouping.proofs.Compare.{not-included, included-told}
+use borrow.Author.Needs.{needs}
+use Rattle.grouping.proofs.parts.contains.Statement.{statement}
+use Rattle.grouping.proofs.parts.contains.Tie as tie
+
+abbrev left : tie.Start → Area
+left c = areaWith (c .args .subspace) (pathOf (now (c .args .bytes)) (now (c .args .lengths)) (c .args .count)) (c .args .times)
+
+abbrev right : tie.Start → Area
+right c = areaWith (c .args .other-subspace) (pathOf (now (c .args .other-bytes)) (now (c .args .other-lengths)) (c .args .other-count)) (c .args .other-times)
+
+told : (c : tie.After-enum-told) → let l = left (c .before .before .before .before .before .before .before) in let r = right (c .before .before .before .before .before .before .before) in areaInside l r ≡ verdict (bounds (l .times) (r .times .start) && bounds (l .times) (endValue (r .times .end)))
+told c = included-told (left (c .before .before .before .before .before .before .before)) (right (c .before .before .before .before .before .before .before)) (sym (c .before .before .includes .ensures) ∙ c .enum-told .given .1)
+
+includes-requires : tie.Need-includes-requires
+includes-requires c κs = search needs
+
+enum-told : tie.Need-enum-told
+enum-told c = search needs
+
+returns : tie.Need-returns
+returns c = not-included (left (c .before .before .before .before .before .before)) (right (c .before .before .before .before .before .before)) (c .before .includes .result) (c .before .includes .ensures) (c .match .keys2)
+
+bounds-requires : tie.Need-bounds-requires
+bounds-requires c κs = search needs
+
+returns-2 : tie.Need-returns-2
+returns-2 c = sym (told (c .before .before) ∙ rw (sym (c .before .bounds .ensures) ∙ not-true _ (c .if1 .taken)))
+
+value-requires : tie.Need-value-requires
+value-requires c κs = search needs
+
+bounds-requires-2 : tie.Need-bounds-requires-2
+bounds-requires-2 c κs = search needs
+
+returns-3 : tie.Need-returns-3
+returns-3 c = sym (told (c .before .before .before .before .before) ∙ rw ((sym (c .before .before .before .before .bounds .ensures) ∙ not-false _ (c .before .before .before .if1 .left)), ← (c .before .before .value .ensures), (sym (c .before .bounds2 .ensures) ∙ not-true _ (c .if2 .taken))))
+
+returns-4 : tie.Need-returns-4
+returns-4 c = sym (told (c .before .before .before .before .before) ∙ rw ((sym (c .before .before .before .before .bounds .ensures) ∙ not-false _ (c .before .before .before .if1 .left)), ← (c .before .before .value .ensures), (sym (c .before .bounds2 .ensures) ∙ not-false _ (c .if2 .left))))
+
+pub contains-spec : {M : Type 1} → statement M
+contains-spec =
+    tie.close
+    (tie.spec
+    includes-requires
+    enum-told
+    returns
+    bounds-requires
+    returns-2
+    value-requires
+    bounds-requires-2
+    returns-3
+    returns-4)
