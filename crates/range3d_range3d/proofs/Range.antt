@@ -1,11 +1,9 @@
 -- The laws of a 3d range against a 3d range, on plain values.
 use mathlib.Core.Path.{refl}
 use mathlib.Core.List.{[], _∷_}
-use Prim.Native.Nat.{ℕ}
 use Rattle.codec.specs.Bytes.{TypedId}
 use Rattle.codec.specs.Reader.{oneByte, andThen, mapped}
-use Rattle.codec.specs.Reads.{ReadsAs, Bounded}
-use Rattle.codec.proofs.Bounded.{then-bounded, mapped-bounded}
+use Rattle.codec.specs.Reads.{ReadsAs}
 use Rattle.codec.proofs.Header.{header-reads}
 use Rattle.codec.proofs.Readers.{oneByte-reads}
 use Rattle.codec.proofs.ReadsAs.{one-of, then-as, mapped-as}
@@ -13,17 +11,15 @@ use Rattle.path.specs.Limits.{PathOk}
 use Rattle.grouping.specs.declared.TimeRange.{TimeRange}
 use Rattle.grouping.specs.Range.{isOpen, TypedRange}
 use Rattle.range_3d.specs.Range3d.{Range3dValue, Both}
-use Rattle.range_subspaces.specs.Subspaces.{readSubspaces}
-use Rattle.range_subspaces.proofs.Subspaces.{subspaces-as, subspaces-bounded}
+use Rattle.range_subspaces.proofs.Subspaces.{subspaces-as}
 use Rattle.range_paths.specs.Paths.{readPaths}
-use Rattle.range_paths.proofs.Paths.{paths-as, paths-bounded}
+use Rattle.range_paths.proofs.Paths.{paths-as}
 use Rattle.range_times.specs.Header.{unpackHeader as unpackTimes, packHeader as packTimes}
 use Rattle.range_times.specs.Times.{headerOf as timesHeader, timesBytes, readTimes}
 use Rattle.range_times.proofs.HeaderLayout.{header-layout as times-layout, header-fits as times-fit}
-use Rattle.range_times.proofs.Times.{times-as, times-bounded}
-use Rattle.range_header.specs.declared.Header.{Header}
+use Rattle.range_times.proofs.Times.{times-as}
 use Rattle.range_header.specs.Header.{unpackHeader, packHeader}
-use Rattle.range3d_range3d.specs.Range.{headerOf, partsBytes, rangeBytes, sourcesIn, sidesIn, valueFrom, readParts, readRange}
+use Rattle.range3d_range3d.specs.Range.{headerOf, partsBytes, rangeBytes, sidesIn, valueFrom, readParts, readRange}
 use Rattle.range_header.proofs.HeaderLayout.{HeaderFits, header-layout}
 
 -- ---- what is written is read back
@@ -51,11 +47,3 @@ module _ (r v : Range3dValue) (paths : Both PathOk (r .paths)) (times : TypedRan
   range-as =
       then-as (one-of (header-reads HeaderFits unpackHeader packHeader header-layout .back) (tt, refl)) (λ h. andThen oneByte (λ b. readParts r h b)) (
       then-as (byte-here (r .times) (v .times)) (λ b. readParts r (headerOf r v) b) parts-as)
-
--- ---- no more is read than there is
-pub parts-bounded : (r : Range3dValue) (h : Header) (b : ℕ) → Bounded (readParts r h b)
-unfolding readParts
-parts-bounded r h b =
-    then-bounded (readSubspaces (r .subspaces) (sourcesIn h)) _ (subspaces-bounded (r .subspaces) (sourcesIn h)) (λ x.
-    then-bounded (readPaths (r .paths) (h .«path_end_open») (sidesIn h)) _ (paths-bounded (r .paths) (h .«path_end_open») (sidesIn h)) (λ y.
-    mapped-bounded (valueFrom x y) _ (times-bounded (r .times) (h .«times_end_open») (unpackTimes b))))

@@ -13,7 +13,7 @@ use Rattle.range3d_range3d.specs.Range.{rangeBytes}
 use Rattle.range3d_range3d.specs.Records.{againstRange, readAgainstRange}
 use Rattle.range3d_range3d.proofs.Range.{range-as}
 
-pub paths-formed : (r : Range3d) → wellFormedRange3d r ≡ true → wellFormedPaths (r .paths) ≡ true
+paths-formed : (r : Range3d) → wellFormedRange3d r ≡ true → wellFormedPaths (r .paths) ≡ true
 unfolding wellFormedRange3d
 paths-formed r w = and-right (wellFormedSubspaces (r .subspaces)) _ w
 

@@ -1,5 +1,6 @@
 -- docs/FORMAT.md, "3d ranges": a 3d range against a 3d range, on plain values.
 use mathlib.Core.List.{List, [], _∷_, _++_}
+use mathlib.Core.Bool.{Bool}
 use Prim.Native.Nat.{ℕ}
 use Rattle.codec.specs.Header.{readHeader}
 use Rattle.codec.specs.Reader.{Reader, oneByte, andThen, mapped}
@@ -16,18 +17,25 @@ use Rattle.range_header.specs.declared.Header.{Header}
 use Rattle.range_header.specs.Header.{unpackHeader, packHeader}
 
 -- ---- writing: two header bytes, subspaces, paths, times
-unfoldable pub headerOf : Range3dValue → Range3dValue → Header
-headerOf r v = record {
-  «subspace_start» = sourcesOf (r .subspaces) (v .subspaces) .start;
-  «subspace_end» = sourcesOf (r .subspaces) (v .subspaces) .end;
-  «path_start_from_start» = sidesOf (r .paths) (v .paths) .«start_from_start»;
-  «path_end_open» = openEnd (v .paths .end);
-  «path_end_from_start» = sidesOf (r .paths) (v .paths) .«end_from_start»;
-  «times_end_open» = isOpen (v .times .end);
+
+-- by the sides of the paths, and whether their end is open
+abbrev pub headerWith : Range (List ℕ) → Range (List ℕ) → Bool → Bool → Bool → TimeRange → Header
+headerWith r subspaces startFromStart endOpen endFromStart times = record {
+  «subspace_start» = sourcesOf r subspaces .start;
+  «subspace_end» = sourcesOf r subspaces .end;
+  «path_start_from_start» = startFromStart;
+  «path_end_open» = endOpen;
+  «path_end_from_start» = endFromStart;
+  «times_end_open» = isOpen (times .end);
 }
 
-abbrev pub headBytes : Range3dValue → Range3dValue → List ℕ
-headBytes r v = packHeader (headerOf r v) ∷ packTimes (timesHeader (r .times) (v .times)) ∷ []
+unfoldable pub headerOf : Range3dValue → Range3dValue → Header
+headerOf r v =
+    let sides = sidesOf (r .paths) (v .paths) in
+    headerWith (r .subspaces) (v .subspaces) (sides .«start_from_start») (openEnd (v .paths .end)) (sides .«end_from_start») (v .times)
+
+abbrev pub headBytes : Header → TimeRange → TimeRange → List ℕ
+headBytes h r times = packHeader h ∷ packTimes (timesHeader r times) ∷ []
 
 abbrev pub restBytes : Range3dValue → Range3dValue → List ℕ
 restBytes r v = pathsBytes (r .paths) (v .paths) ++ timesBytes (r .times) (v .times)
@@ -36,7 +44,7 @@ abbrev pub partsBytes : Range3dValue → Range3dValue → List ℕ
 partsBytes r v = subspacesBytes (r .subspaces) (v .subspaces) ++ restBytes r v
 
 unfoldable pub rangeBytes : Range3dValue → Range3dValue → List ℕ
-rangeBytes r v = headBytes r v ++ partsBytes r v
+rangeBytes r v = headBytes (headerOf r v) (r .times) (v .times) ++ partsBytes r v
 
 -- ---- reading
 abbrev pub sourcesIn : Header → Sources

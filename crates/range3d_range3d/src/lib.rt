@@ -9,6 +9,7 @@ use codec::Decoded;
 use codec::Encoded;
 use range_3d::Range3d;
 
+pub mod parts;
 mod range_decode;
 mod range_encode;
 
@@ -22,62 +23,70 @@ pub struct DecodedRange3d {
 pub fn relative_decode(message: &[u8], start: usize, reference: Range3d) -> DecodedRange3d
     ensures { λ r. ⌜ GivesRange r (readAgainstRange reference (drop start (now (message .entry)))) ⌝ }
 {
-    let well = reference.well_formed();
-    if !well {
-        return range_decode::refuse(Decoded::Malformed);
-    }
-    if message.len() <= start {
-        return range_decode::refuse(Decoded::EndOfInput);
-    }
-    let header = range_header::unpack(message[start]);
-    let second = start + 1;
-    if message.len() <= second {
-        return range_decode::refuse(Decoded::EndOfInput);
-    }
-    let times = message[second];
-    let at = second + 1;
-    let read = range_decode::decode_parts(&message[at..], header, times, reference);
-    let answer = read.answer;
-    let Decoded::Consumed(n) = answer else {
-        return read;
-    };
-    let range = read.range;
-    DecodedRange3d {
-        answer: Decoded::Consumed(2 + n),
-        range: range,
-    }
+    parts::relative_decode(
+        message,
+        start,
+        reference.subspaces,
+        &reference.paths.start.bytes,
+        &reference.paths.start.lengths,
+        reference.paths.start.count,
+        reference.paths.end_open,
+        &reference.paths.end.bytes,
+        &reference.paths.end.lengths,
+        reference.paths.end.count,
+        reference.times,
+    )
 }
 
 // How many bytes a 3d range against a reference takes.
 pub fn relative_len_of_encoding(range: Range3d, reference: Range3d) -> Encoded
     ensures { λ r. ⌜ outcomeOf r ≡ lengthAnswer (againstRange reference) range ⌝ }
 {
-    let well = reference.well_formed();
-    if !well {
-        return Encoded::Malformed;
-    }
-    let range_well = range.well_formed();
-    if !range_well {
-        return Encoded::Malformed;
-    }
-    let a = range_subspaces::relative_len_of_encoding(range.subspaces, reference.subspaces);
-    let paths = range_paths::relative_len_of_encoding(range.paths, reference.paths);
-    let Encoded::Length(b) = paths else {
-        return paths;
-    };
-    let c = range_times::relative_len_of_encoding(range.times, reference.times);
-    Encoded::Length(2 + (a + (b + c)))
+    parts::relative_len_of_encoding(
+        range.subspaces,
+        &range.paths.start.bytes,
+        &range.paths.start.lengths,
+        range.paths.start.count,
+        range.paths.end_open,
+        &range.paths.end.bytes,
+        &range.paths.end.lengths,
+        range.paths.end.count,
+        range.times,
+        reference.subspaces,
+        &reference.paths.start.bytes,
+        &reference.paths.start.lengths,
+        reference.paths.start.count,
+        reference.paths.end_open,
+        &reference.paths.end.bytes,
+        &reference.paths.end.lengths,
+        reference.paths.end.count,
+        reference.times,
+    )
 }
 
 // Writes a 3d range against a reference.
 pub fn relative_encode(buffer: &mut [u8], range: Range3d, reference: Range3d) -> Encoded
     ensures { λ r. ⌜ (outcomeOf r ≡ writeAnswer (againstRange reference) range (length (now (buffer .entry)))) × (now (buffer .exit) ≡ writeBuffer (againstRange reference) range (now (buffer .entry))) ⌝ }
 {
-    let whole = relative_len_of_encoding(range, reference);
-    let answer = codec::in_room(whole, buffer.len());
-    let Encoded::Length(_) = answer else {
-        return answer;
-    };
-    range_encode::put_range(buffer, range, reference);
-    answer
+    parts::relative_encode(
+        buffer,
+        range.subspaces,
+        &range.paths.start.bytes,
+        &range.paths.start.lengths,
+        range.paths.start.count,
+        range.paths.end_open,
+        &range.paths.end.bytes,
+        &range.paths.end.lengths,
+        range.paths.end.count,
+        range.times,
+        reference.subspaces,
+        &reference.paths.start.bytes,
+        &reference.paths.start.lengths,
+        reference.paths.start.count,
+        reference.paths.end_open,
+        &reference.paths.end.bytes,
+        &reference.paths.end.lengths,
+        reference.paths.end.count,
+        reference.times,
+    )
 }

@@ -3,10 +3,8 @@ use mathlib.Core.Path.{refl}
 use mathlib.Core.List.{List, []}
 use mathlib.Core.Bool.{Bool, true, false, cond}
 use mathlib.Core.Option.{Option, none, some}
-use Prim.Native.Nat.{ℕ, _≤_}
-use native.Mathlib.Omega.{arith}
+use Prim.Native.Nat.{ℕ}
 use lib.Dec.{leb}
-use lib.ListN.{length, length-append}
 use Rattle.codec.specs.Reader.{choose, mapped}
 use Rattle.codec.specs.Reads.{ReadsAs, Bounded}
 use Rattle.codec.proofs.ReadsAs.{one-of, give-as, then-as, mapped-as}
@@ -14,7 +12,7 @@ use Rattle.codec.proofs.Bounded.{give-bounded, then-bounded, guard-bounded, map
 use Rattle.path.specs.Limits.{PathOk}
 use Rattle.path.specs.Prefix.{shared}
 use Rattle.path_relative.specs.Against.{againstBytes, readAgainst}
-use Rattle.path_relative.proofs.Against.{against-back, against-bounded, against-short}
+use Rattle.path_relative.proofs.Against.{against-back, against-bounded}
 use Rattle.range_3d.specs.Range3d.{Range, OnEnd, Both, openEnd}
 use Rattle.range_paths.specs.declared.Sides.{Sides}
 use Rattle.range_paths.specs.Paths.{startNearer, fromStart, endFromStart, sidesOf, nearer, pathBytes, endBytes, pathsBytes, readFromEnd, readSide, readEnd, pathsUpTo, readPaths}
@@ -60,16 +58,3 @@ module _ (r : Range (List (List ℕ))) where
   paths-bounded endOpen s =
       then-bounded (readSide r (s .«start_from_start»)) _ (side-bounded (s .«start_from_start»)) (λ start.
       mapped-bounded (pathsUpTo start) _ (choose-bounded endOpen _ _ (give-bounded none) (mapped-bounded some _ (side-bounded (s .«end_from_start»)))))
-
-  -- ---- how long they may be
-  pub path-short : (p : List (List ℕ)) → PathOk p → length (pathBytes r p) ≤ 900
-  unfolding pathBytes
-  path-short p hp = omega (arith, against-short (nearer (r .start) (r .end) p) p, hp .total, hp .count)
-
-  end-short : (end : Option (List (List ℕ))) → OnEnd PathOk end → length (endBytes r end) ≤ 900
-  end-short none he = omega arith
-  end-short (some p) he = path-short p he
-
-  pub paths-short : (v : Range (List (List ℕ))) → Both PathOk v → length (pathsBytes r v) ≤ 1800
-  unfolding pathsBytes
-  paths-short v hv = omega (arith, length-append (pathBytes r (v .start)) (endBytes r (v .end)), path-short (v .start) (hv .start), end-short (v .end) (hv .end))

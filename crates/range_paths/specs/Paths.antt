@@ -30,6 +30,14 @@ abbrev pub nearer : List (List ℕ) → Option (List (List ℕ)) → List (List 
 nearer start none p = start
 nearer start (some end) p = cond (startNearer start (some end) p) start end
 
+-- how many components a path shares with the nearer one
+abbrev pub sharedWith : Range (List (List ℕ)) → List (List ℕ) → ℕ
+sharedWith r p = shared (nearer (r .start) (r .end) p) p
+
+abbrev pub endShared : Range (List (List ℕ)) → Option (List (List ℕ)) → ℕ
+endShared r none = 0
+endShared r (some p) = sharedWith r p
+
 unfoldable pub pathBytes : Range (List (List ℕ)) → List (List ℕ) → List ℕ
 pathBytes r p = againstBytes (nearer (r .start) (r .end) p) p
 

@@ -1,20 +1,20 @@
-// Reading paths by their sides.
+// Reading paths by their sides, the parts of the reference lent.
 ghost use mathlib.Core.Path.{_≡_};
 ghost use mathlib.Core.Bool.{true};
 ghost use Rattle.codec.specs.Answers.{Gives};
-ghost use Rattle.codec.specs.Reader.{mapped};
-ghost use Rattle.path.specs.Record.{pathFrom};
+ghost use Rattle.path.specs.Record.{pathOf};
 ghost use Rattle.path_codec.specs.Answers.{GivesPath};
-ghost use Rattle.range_3d.specs.Record.{pathsOf, pathsFrom, wellFormedPaths, noPaths};
-ghost use Rattle.range_paths.specs.Paths.{readSide, readPaths};
+ghost use Rattle.range_3d.specs.Record.{noPaths};
+ghost use Rattle.range_paths.specs.Records.{pathsWith, otherFormed, readSideOf, readAgainstPaths};
 use crate::DecodedPaths;
 use crate::Sides;
+use crate::parts;
 use codec::Decoded;
 use path::Path;
 use path_codec::DecodedPath;
 use range_3d::PathRange;
 
-pub(crate) fn refuse(answer: Decoded) -> DecodedPaths
+fn refuse(answer: Decoded) -> DecodedPaths
     ensures { λ r. ⌜ (r .answer ≡ answer) × (r .paths ≡ noPaths) ⌝ }
 {
     let start = Path::new_empty();
@@ -29,29 +29,86 @@ pub(crate) fn refuse(answer: Decoded) -> DecodedPaths
     }
 }
 
-fn decode_path(message: &[u8], from_start: bool, reference: PathRange) -> DecodedPath
-    requires { ⌜ wellFormedPaths reference ≡ true ⌝ }
-    ensures { λ r. ⌜ GivesPath r (mapped pathFrom (readSide (pathsOf reference) «from_start») (now (message .entry))) ⌝ }
+// Whether what reading a path of this side does not test of the reference is well formed.
+fn other_formed<'a>(
+    from_start: bool,
+    start_bytes: &'a [u8],
+    start_lengths: &'a [usize],
+    start_count: usize,
+    end_open: bool,
+    end_bytes: &'a [u8],
+    end_lengths: &'a [usize],
+    end_count: usize,
+) -> bool
+    ensures { λ r. ⌜ r ≡ otherFormed (pathsWith (pathOf (now («start_bytes» .entry)) (now («start_lengths» .entry)) «start_count») «end_open» (pathOf (now («end_bytes» .entry)) (now («end_lengths» .entry)) «end_count»)) «from_start» ⌝ }
 {
     if from_start {
-        return path_relative::relative_decode(message, 0, false, reference.start);
+        return parts::end_formed(end_open, end_bytes, end_lengths, end_count);
     }
-    if reference.end_open {
-        return path_codec::refuse(Decoded::TheirFault);
+    let start = path::parts::well_formed(start_bytes, start_lengths, start_count);
+    if !start {
+        return false;
     }
-    path_relative::relative_decode(message, 0, false, reference.end)
+    if end_open {
+        return parts::empty(end_bytes, end_lengths, end_count);
+    }
+    true
 }
 
-pub(crate) fn decode_paths(
-    message: &[u8],
+// Reads a path of this side.
+fn decode_path<'a>(
+    message: &'a [u8],
+    from_start: bool,
+    start_bytes: &'a [u8],
+    start_lengths: &'a [usize],
+    start_count: usize,
+    end_open: bool,
+    end_bytes: &'a [u8],
+    end_lengths: &'a [usize],
+    end_count: usize,
+) -> DecodedPath
+    ensures { λ r. ⌜ GivesPath r (readSideOf (pathsWith (pathOf (now («start_bytes» .entry)) (now («start_lengths» .entry)) «start_count») «end_open» (pathOf (now («end_bytes» .entry)) (now («end_lengths» .entry)) «end_count»)) «from_start» (now (message .entry))) ⌝ }
+{
+    if from_start {
+        return path_relative::path_decode::relative_decode(
+            message,
+            0,
+            false,
+            start_bytes,
+            start_lengths,
+            start_count,
+        );
+    }
+    if end_open {
+        return path_codec::refuse(Decoded::TheirFault);
+    }
+    path_relative::path_decode::relative_decode(
+        message,
+        0,
+        false,
+        end_bytes,
+        end_lengths,
+        end_count,
+    )
+}
+
+// Reads what follows the first path; what reading that one did not test is well formed.
+fn decode_end<'a>(
+    message: &'a [u8],
+    first: DecodedPath,
     end_open: bool,
     sides: Sides,
-    reference: PathRange,
+    of_start_bytes: &'a [u8],
+    of_start_lengths: &'a [usize],
+    of_start_count: usize,
+    of_end_open: bool,
+    of_end_bytes: &'a [u8],
+    of_end_lengths: &'a [usize],
+    of_end_count: usize,
 ) -> DecodedPaths
-    requires { ⌜ wellFormedPaths reference ≡ true ⌝ }
-    ensures { λ r. ⌜ Gives noPaths (r .answer) (r .paths) (mapped pathsFrom (readPaths (pathsOf reference) «end_open» sides) (now (message .entry))) ⌝ }
+    requires { ⌜ (otherFormed (pathsWith (pathOf (now «of_start_bytes») (now «of_start_lengths») «of_start_count») «of_end_open» (pathOf (now «of_end_bytes») (now «of_end_lengths») «of_end_count»)) (sides .«start_from_start») ≡ true) × GivesPath first (readSideOf (pathsWith (pathOf (now «of_start_bytes») (now «of_start_lengths») «of_start_count») «of_end_open» (pathOf (now «of_end_bytes») (now «of_end_lengths») «of_end_count»)) (sides .«start_from_start») (now message)) ⌝ }
+    ensures { λ r. ⌜ Gives noPaths (r .answer) (r .paths) (readAgainstPaths «end_open» sides (pathsWith (pathOf (now («of_start_bytes» .entry)) (now («of_start_lengths» .entry)) «of_start_count») «of_end_open» (pathOf (now («of_end_bytes» .entry)) (now («of_end_lengths» .entry)) «of_end_count»)) (now (message .entry))) ⌝ }
 {
-    let first = decode_path(message, sides.start_from_start, reference);
     let first_answer = first.answer;
     let Decoded::Consumed(a) = first_answer else {
         return refuse(first_answer);
@@ -68,7 +125,17 @@ pub(crate) fn decode_paths(
             },
         };
     }
-    let second = decode_path(&message[a..], sides.end_from_start, reference);
+    let second = decode_path(
+        &message[a..],
+        sides.end_from_start,
+        of_start_bytes,
+        of_start_lengths,
+        of_start_count,
+        of_end_open,
+        of_end_bytes,
+        of_end_lengths,
+        of_end_count,
+    );
     let second_answer = second.answer;
     let Decoded::Consumed(b) = second_answer else {
         return refuse(second_answer);
@@ -82,4 +149,58 @@ pub(crate) fn decode_paths(
             end: end,
         },
     }
+}
+
+// Reads paths by their sides; whether the end is open is told apart from them.
+pub fn relative_decode<'a>(
+    message: &'a [u8],
+    end_open: bool,
+    sides: Sides,
+    of_start_bytes: &'a [u8],
+    of_start_lengths: &'a [usize],
+    of_start_count: usize,
+    of_end_open: bool,
+    of_end_bytes: &'a [u8],
+    of_end_lengths: &'a [usize],
+    of_end_count: usize,
+) -> DecodedPaths
+    ensures { λ r. ⌜ Gives noPaths (r .answer) (r .paths) (readAgainstPaths «end_open» sides (pathsWith (pathOf (now («of_start_bytes» .entry)) (now («of_start_lengths» .entry)) «of_start_count») «of_end_open» (pathOf (now («of_end_bytes» .entry)) (now («of_end_lengths» .entry)) «of_end_count»)) (now (message .entry))) ⌝ }
+{
+    let well = other_formed(
+        sides.start_from_start,
+        of_start_bytes,
+        of_start_lengths,
+        of_start_count,
+        of_end_open,
+        of_end_bytes,
+        of_end_lengths,
+        of_end_count,
+    );
+    if !well {
+        return refuse(Decoded::Malformed);
+    }
+    let first = decode_path(
+        message,
+        sides.start_from_start,
+        of_start_bytes,
+        of_start_lengths,
+        of_start_count,
+        of_end_open,
+        of_end_bytes,
+        of_end_lengths,
+        of_end_count,
+    );
+    decode_end(
+        message,
+        first,
+        end_open,
+        sides,
+        of_start_bytes,
+        of_start_lengths,
+        of_start_count,
+        of_end_open,
+        of_end_bytes,
+        of_end_lengths,
+        of_end_count,
+    )
 }

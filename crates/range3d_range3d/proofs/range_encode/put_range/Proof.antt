@@ -1,59 +1,175 @@
-use mathlib.Core.Path.{_∙_}
+use mathlib.Core.Path.{_≡_, refl, ap, _∙_}
+use mathlib.Core.List.{List, _++_}
+use Prim.Native.Nat.{ℕ, _+_, _-_, _≤_}
 use native.Mathlib.Omega.{arith}
-use Prim.Native.Nat.{_+_, _≤_}
+use borrow.Rule.Slice.PartMut.{putMid}
 use denote.Ref.{now}
-use lib.ListN.{length, length-append, length-drop}
-use Rattle.codec.proofs.Lending.{over-then, to-end, put-end}
-use Rattle.range_3d.specs.Record.{rangeOf}
-use Rattle.range3d_range3d.specs.Range.{headBytes, partsBytes, rangeBytes}
+use lib.ListN.{length, length-append}
+use Rattle.codec.specs.Format.{allowed, over}
+use Rattle.codec.proofs.Lending.{put-full, put-fits}
+use Rattle.path.specs.Record.{pathOf}
+use Rattle.range_3d.specs.declared.Range3d.{Range3d}
+use Rattle.range_3d.specs.Record.{subspacesOf}
+use Rattle.range_subspaces.specs.Subspaces.{subspacesBytes}
+use Rattle.range_paths.specs.Records.{pathsWith, bothBytes}
+use Rattle.range_times.specs.Times.{timesBytes}
+use Rattle.range3d_range3d.specs.Records.{rangeWith, headWith, measuredBytes}
+use Rattle.range3d_range3d.proofs.Writing.{measured-long, measured-parts, next-room, over-next, put-next}
 use borrow.Author.Needs.{needs}
 use Rattle.range3d_range3d.proofs.range_encode.put_range.Statement.{statement}
 use Rattle.range3d_range3d.proofs.range_encode.put_range.Tie as tie
 
--- the parts fit
-parts : (c : tie.Start) → let a = c .args in 2 + length (partsBytes (rangeOf (a .reference)) (rangeOf (a .range))) ≤ length (now (a .buffer))
-unfolding rangeBytes
-parts c =
-    let a = c .args in
-    omega (arith, c .pre .1, length-append (headBytes (rangeOf (a .reference)) (rangeOf (a .range))) (partsBytes (rangeOf (a .reference)) (rangeOf (a .range))))
+abbrev value : tie.Start → Range3d
+value c = let a = c .args in rangeWith (a .subspaces) (pathsWith (pathOf (now (a .start-bytes)) (now (a .start-lengths)) (a .start-count)) (a .end-open) (pathOf (now (a .end-bytes)) (now (a .end-lengths)) (a .end-count))) (a .times)
+
+abbrev whole : tie.Start → List ℕ
+whole c = let a = c .args in measuredBytes (a .of-subspaces) (a .of-times) (value c) (a .start-from-start) (a .start-shared) (a .end-from-start) (a .end-shared)
+
+abbrev head : tie.Start → List ℕ
+head c = let a = c .args in headWith (a .of-subspaces) (a .subspaces) (a .start-from-start) (a .end-open) (a .end-from-start) (a .of-times) (a .times)
+
+abbrev subspaces : tie.Start → List ℕ
+subspaces c = subspacesBytes (subspacesOf (c .args .of-subspaces)) (subspacesOf (c .args .subspaces))
+
+abbrev paths : tie.Start → List ℕ
+paths c = bothBytes (value c .paths) (c .args .start-shared) (c .args .end-shared)
+
+abbrev times : tie.Start → List ℕ
+times c = timesBytes (c .args .of-times) (c .args .times)
+
+long : (c : tie.After-relative-len-of-encoding2) → let s = c .before .before .before .before .before .before .before in 2 + c .before .relative-len-of-encoding .result + s .args .paths-len + c .relative-len-of-encoding2 .result ≡ length (whole s)
+long c =
+    let s = c .before .before .before .before .before .before .before in
+    omega (arith, measured-long (s .args .of-subspaces) (s .args .of-times) (value s) (s .args .start-from-start) (s .args .start-shared) (s .args .end-from-start) (s .args .end-shared) _ _ _ (c .before .relative-len-of-encoding .ensures .0) (s .pre .1) (c .relative-len-of-encoding2 .ensures .0))
+
+-- where the parts start, and that each has room
+room : (c : tie.Else1) → let s = c .before .before .before .before .before .before .before .before in 2 + length (subspaces s) + length (paths s) + length (times s) ≤ length (now (s .args .buffer))
+room c = omega (arith, c .if1 .left, c .before .before .relative-len-of-encoding .ensures .0, c .before .before .before .before .before .before .before .before .pre .1, c .before .relative-len-of-encoding2 .ensures .0)
+
+at-paths : (c : tie.Else1) → let s = c .before .before .before .before .before .before .before .before in 2 + c .before .before .relative-len-of-encoding .result ≡ length (head s ++ subspaces s)
+at-paths c = let s = c .before .before .before .before .before .before .before .before in omega (arith, length-append (head s) (subspaces s), c .before .before .relative-len-of-encoding .ensures .0)
+
+room-paths : (c : tie.Else1) → let s = c .before .before .before .before .before .before .before .before in length (head s ++ subspaces s) + length (paths s) ≤ length (now (s .args .buffer))
+room-paths c = let s = c .before .before .before .before .before .before .before .before in omega (arith, length-append (head s) (subspaces s), room c)
+
+at-times : (c : tie.Else1) → let s = c .before .before .before .before .before .before .before .before in 2 + c .before .before .relative-len-of-encoding .result + s .args .paths-len ≡ length ((head s ++ subspaces s) ++ paths s)
+at-times c = let s = c .before .before .before .before .before .before .before .before in omega (arith, length-append (head s ++ subspaces s) (paths s), at-paths c, s .pre .1)
+
+room-times : (c : tie.Else1) → let s = c .before .before .before .before .before .before .before .before in length ((head s ++ subspaces s) ++ paths s) + length (times s) ≤ length (now (s .args .buffer))
+room-times c = let s = c .before .before .before .before .before .before .before .before in omega (arith, length-append (head s ++ subspaces s) (paths s), length-append (head s) (subspaces s), room c)
+
+-- what stands in the buffer after the head, the subspaces and the paths
+one : (c : tie.After-slice-known2) → let s = c .before .before .before .before .before .before .before .before .before .before .before .before in c .before .before .put-head .last .0 ≡ over (head s) (now (s .args .buffer))
+one c = c .before .before .put-head .ensures
+
+two : (c : tie.After-slice-known3) → let s = c .before .before .before .before .before .before .before .before .before .before .before .before .before .before .before .before in let x = c .before .before .before .before .before .before .put-head .last .0 in putMid 2 (length x - 2) x (c .before .before .relative-encode .last .0) ≡ over (head s ++ subspaces s) (now (s .args .buffer))
+two c =
+    let s = c .before .before .before .before .before .before .before .before .before .before .before .before .before .before .before .before in
+    let w = c .before .before .relative-encode in
+    put-next (now (s .args .buffer)) (head s) (subspaces s) _ 2 (one (c .before .before .before .before)) refl (omega (arith, room (c .before .before .before .before .before .before .before .before))) (w .last .0) (w .ensures .1)
+
+three : (c : tie.After-slice-known4) → let s = c .before .before .before .before .before .before .before .before .before .before .before .before .before .before .before .before .before .before .before .before in let x = c .before .before .before .before .before .before .before .before .before .before .put-head .last .0 in let y = putMid 2 (length x - 2) x (c .before .before .before .before .before .before .relative-encode .last .0) in let n = 2 + c .before .before .before .before .before .before .before .before .before .before .before .before .before .before .relative-len-of-encoding .result in
+    putMid n (length y - n) y (c .before .before .put-paths .last .0) ≡ over ((head s ++ subspaces s) ++ paths s) (now (s .args .buffer))
+three c =
+    let s = c .before .before .before .before .before .before .before .before .before .before .before .before .before .before .before .before .before .before .before .before in
+    let w = c .before .before .put-paths in
+    over-next (now (s .args .buffer)) (head s ++ subspaces s) (paths s) _ _ (two (c .before .before .before .before)) (at-paths (c .before .before .before .before .before .before .before .before .before .before .before .before)) (w .last .0) (w .ensures)
+
+relative-len-of-encoding-requires : tie.Need-relative-len-of-encoding-requires
+relative-len-of-encoding-requires c κs = search needs
+
+add-s : tie.Need-add-s
+add-s c = search needs
+
+add-t : tie.Need-add-t
+add-t c = search needs
+
+relative-len-of-encoding-requires-2 : tie.Need-relative-len-of-encoding-requires-2
+relative-len-of-encoding-requires-2 c κs = search needs
+
+add-whole : tie.Need-add-whole
+add-whole c = search needs
+
+returns : tie.Need-returns
+returns c =
+    let s = c .before .before .before .before .before .before .before .before in
+    put-full allowed (whole s) (now (s .args .buffer)) refl _ (long (c .before)) (c .if1 .taken)
 
 put-head-requires : tie.Need-put-head-requires
-put-head-requires c κs = (c .before .before .pre .0, omega (arith, parts (c .before .before)))
+put-head-requires c κs = search needs
 
-sub-put-parts : tie.Need-sub-put-parts
-sub-put-parts c = omega (arith, parts (c .before .before .before .before .before), c .before .before .put-head .kept .0)
+sub-relative-encode : tie.Need-sub-relative-encode
+sub-relative-encode c = search needs
 
-part-put-parts-start : tie.Need-part-put-parts-start
-part-put-parts-start c = omega (arith, parts (c .before .before .before .before .before), c .before .before .put-head .kept .0)
+part-relative-encode-start : tie.Need-part-relative-encode-start
+part-relative-encode-start c = search needs
 
-part-put-parts-end : tie.Need-part-put-parts-end
-part-put-parts-end c = search needs
+part-relative-encode-end : tie.Need-part-relative-encode-end
+part-relative-encode-end c = search needs
 
-put-parts-requires : tie.Need-put-parts-requires
-put-parts-requires c κs =
-    let p = c .before .before .before .put-head in
-    (c .before .before .before .before .before .before .pre .0, rw (to-end 2 (p .last .0), length-drop) (omega (arith, parts (c .before .before .before .before .before .before), p .kept .0)))
+relative-encode-requires : tie.Need-relative-encode-requires
+relative-encode-requires c κs = search needs
+
+sub-put-paths : tie.Need-sub-put-paths
+sub-put-paths c = search needs
+
+part-put-paths-start : tie.Need-part-put-paths-start
+part-put-paths-start c = search needs
+
+part-put-paths-end : tie.Need-part-put-paths-end
+part-put-paths-end c = search needs
+
+put-paths-requires : tie.Need-put-paths-requires
+put-paths-requires c κs =
+    let s = c .before .before .before .before .before .before .before .before .before .before .before .before .before .before .before .before .before in
+    (s .pre .0, next-room (now (s .args .buffer)) (head s ++ subspaces s) (paths s) _ _ (two (c .before)) (at-paths (c .before .before .before .before .before .before .before .before .before)) (room-paths (c .before .before .before .before .before .before .before .before .before)))
+
+sub-relative-encode-2 : tie.Need-sub-relative-encode-2
+sub-relative-encode-2 c = search needs
+
+part-relative-encode-start-2 : tie.Need-part-relative-encode-start-2
+part-relative-encode-start-2 c = search needs
+
+part-relative-encode-end-2 : tie.Need-part-relative-encode-end-2
+part-relative-encode-end-2 c = search needs
+
+relative-encode-requires-2 : tie.Need-relative-encode-requires-2
+relative-encode-requires-2 c κs = search needs
 
 same-length : tie.Need-same-length
 same-length c = search needs
 
-returns : tie.Need-returns
-unfolding rangeBytes
-returns c =
-    let a = c .before .before .before .before .before .before .before .before .before .args in
-    let p = c .before .before .before .before .before .before .put-head in
-    let w = c .before .before .put-parts in
-    let rest = rw (to-end 2 (p .last .0)) at (w .ensures) in
-    put-end 2 (p .last .0) (w .last .0) ∙ rw (rest, p .ensures) (over-then (now (a .buffer)) (headBytes (rangeOf (a .reference)) (rangeOf (a .range))) (partsBytes (rangeOf (a .reference)) (rangeOf (a .range))))
+returns-2 : tie.Need-returns-2
+returns-2 c =
+    let s = c .before .before .before .before .before .before .before .before .before .before .before .before .before .before .before .before .before .before .before .before .before .before .before .before in
+    let l = now (s .args .buffer) in
+    let done = put-fits allowed (whole s) l refl _ (long (c .before .before .before .before .before .before .before .before .before .before .before .before .before .before .before .before .before)) (c .before .before .before .before .before .before .before .before .before .before .before .before .before .before .before .before .if1 .left) in
+    let w = c .before .before .relative-encode2 in
+    let last = put-next l ((head s ++ subspaces s) ++ paths s) (times s) _ _ (three (c .before .before .before .before)) (at-times (c .before .before .before .before .before .before .before .before .before .before .before .before .before .before .before .before)) (room-times (c .before .before .before .before .before .before .before .before .before .before .before .before .before .before .before .before)) (w .last .0) (w .ensures .1) in
+    (done .0, last ∙ ap (λ (bs : List ℕ). over bs l) (measured-parts (s .args .of-subspaces) (s .args .of-times) (value s) (s .args .start-from-start) (s .args .start-shared) (s .args .end-from-start) (s .args .end-shared)) ∙ done .1)
 
 pub put-range-spec : {M : Type 1} → statement M
 put-range-spec =
     tie.close
     (tie.spec
+    relative-len-of-encoding-requires
+    add-s
+    add-t
+    relative-len-of-encoding-requires-2
+    add-whole
+    returns
     put-head-requires
-    sub-put-parts
-    part-put-parts-start
-    part-put-parts-end
-    put-parts-requires
+    sub-relative-encode
+    part-relative-encode-start
+    part-relative-encode-end
+    relative-encode-requires
+    sub-put-paths
+    part-put-paths-start
+    part-put-paths-end
+    put-paths-requires
+    sub-relative-encode-2
+    part-relative-encode-start-2
+    part-relative-encode-end-2
+    relative-encode-requires-2
     same-length
-    returns)
+    returns-2)

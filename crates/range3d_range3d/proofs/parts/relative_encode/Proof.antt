@@ -1,0 +1,60 @@
+use mathlib.Core.Path.{sym, _∙_}
+use denote.Ref.{now}
+use Rattle.codec.proofs.Lending.{put-barred}
+use Rattle.path.specs.Record.{pathOf}
+use Rattle.range_3d.specs.declared.Range3d.{Range3d}
+use Rattle.range_paths.specs.Records.{pathsWith}
+use Rattle.range3d_range3d.specs.Records.{rangeWith, againstRange}
+use Rattle.range3d_range3d.proofs.Writing.{Measures, measures, unmeasured}
+use borrow.Author.Needs.{needs}
+use Rattle.range3d_range3d.proofs.parts.relative_encode.Statement.{statement}
+use Rattle.range3d_range3d.proofs.parts.relative_encode.Tie as tie
+
+abbrev value : tie.Start → Range3d
+value c = let a = c .args in rangeWith (a .subspaces) (pathsWith (pathOf (now (a .start-bytes)) (now (a .start-lengths)) (a .start-count)) (a .end-open) (pathOf (now (a .end-bytes)) (now (a .end-lengths)) (a .end-count))) (a .times)
+
+abbrev known : tie.Start → Range3d
+known c =
+    let a = c .args in
+    rangeWith (a .of-subspaces) (pathsWith (pathOf (now (a .of-start-bytes)) (now (a .of-start-lengths)) (a .of-start-count)) (a .of-end-open) (pathOf (now (a .of-end-bytes)) (now (a .of-end-lengths)) (a .of-end-count))) (a .of-times)
+
+paths-are : (c : tie.After-known-told) → let s = c .before .before .before .before .before .before .before .before .before .before .before .before .before in Measures (known s) (value s) (c .before .measured .given .0 .0) (c .before .measured .given .0 .1 .0) (c .before .measured .given .0 .1 .1 .0) (c .before .measured .given .0 .1 .1 .1 .0) (c .before .measured .given .0 .1 .1 .1 .1 .0)
+paths-are c = let s = c .before .before .before .before .before .before .before .before .before .before .before .before .before in measures (known s) (value s) _ _ _ _ _ (sym (c .before .before .before .measure .ensures) ∙ c .before .measured .given .1)
+
+measure-requires : tie.Need-measure-requires
+measure-requires c κs = search needs
+
+enum-known-measured : tie.Need-enum-known-measured
+enum-known-measured c = search needs
+
+enum-told : tie.Need-enum-told
+enum-told c = search needs
+
+returns : tie.Need-returns
+returns c =
+    let s = c .before .before .before .before .before .before .before .before .before .before .before .before in
+    let f = againstRange (known s) in
+    put-barred (f .check (value s)) (f .encode (value s)) (now (s .args .buffer)) 5 (unmeasured (known s) (value s) (sym (c .before .before .measure .ensures) ∙ c .enum-told .given .1))
+
+put-range-requires : tie.Need-put-range-requires
+put-range-requires c κs = let m = paths-are (c .before) in (m .shares, m .long, m .short)
+
+same-length : tie.Need-same-length
+same-length c = search needs
+
+returns-2 : tie.Need-returns-2
+returns-2 c =
+    let m = paths-are (c .before .before .before .before) in
+    rw (m .allows, ← (m .bytes)) (c .before .before .put-range .ensures)
+
+pub relative-encode-spec : {M : Type 1} → statement M
+relative-encode-spec =
+    tie.close
+    (tie.spec
+    measure-requires
+    enum-known-measured
+    enum-told
+    returns
+    put-range-requires
+    same-length
+    returns-2)

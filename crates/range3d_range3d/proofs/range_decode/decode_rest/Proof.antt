@@ -1,0 +1,118 @@
+use mathlib.Core.Path.{_≡_, sym, ap, _∙_}
+use Prim.Native.Nat.{_+_, _≤_}
+use native.Mathlib.Omega.{arith}
+use denote.Ref.{now}
+use lib.ListN.{length, drop}
+use Rattle.codec.specs.Answers.{accepted, answerOf}
+use Rattle.codec.specs.Reader.{shift}
+use Rattle.codec.specs.declared.Decoded.{Decoded}
+use Rattle.codec.proofs.Answers.{gives-refused, gives-accepted, no-value}
+use Rattle.codec.proofs.Lending.{to-end}
+use Rattle.path.specs.Record.{pathOf}
+use Rattle.range_3d.specs.declared.PathRange.{PathRange}
+use Rattle.range_paths.specs.Records.{pathsWith, readAgainstPaths}
+use Rattle.range_times.specs.Header.{unpackHeader as unpackTimes}
+use Rattle.range_times.specs.Times.{readTimes}
+use Rattle.range3d_range3d.specs.Answers.{refusal}
+use Rattle.range3d_range3d.specs.Range.{sidesIn}
+use Rattle.range3d_range3d.proofs.DecodeExits.{rest-paths, paths-inside, rest-times, rest-read, rest-inside}
+use borrow.Author.Needs.{needs}
+use Rattle.range3d_range3d.proofs.range_decode.decode_rest.Statement.{statement}
+use Rattle.range3d_range3d.proofs.range_decode.decode_rest.Tie as tie
+
+abbrev known : tie.Start → PathRange
+known s = let a = s .args in pathsWith (pathOf (now (a .of-start-bytes)) (now (a .of-start-lengths)) (a .of-start-count)) (a .of-end-open) (pathOf (now (a .of-end-bytes)) (now (a .of-end-lengths)) (a .of-end-count))
+
+paths-are : (c : tie.After-known-told) → let s = c .before .before .before .before .before .before .before .before .before in
+    readAgainstPaths (s .args .header .«path_end_open») (sidesIn (s .args .header)) (known s) (now (s .args .message)) ≡ accepted (c .before .before .before .relative-decode .result .paths) (c .before .first-answer .given .0 .0)
+paths-are c = sym (c .before .before .before .relative-decode .ensures .answer) ∙ ap (λ (d : Decoded). answerOf d (c .before .before .before .relative-decode .result .paths)) (c .before .first-answer .given .1)
+
+paths-in : (c : tie.After-known-told) → c .before .first-answer .given .0 .0 ≤ length (now (c .before .before .before .before .before .before .before .before .before .args .message))
+paths-in c = let s = c .before .before .before .before .before .before .before .before .before in paths-inside (s .args .subspaces) (known s) (s .args .of-times) (s .args .header) (s .args .times) (now (s .args .message)) _ _ (paths-are c)
+
+times-told : (c : tie.After-relative-decode2) → let s = c .before .before .before .before .before .before .before .before .before .before .before in
+    answerOf (c .relative-decode2 .result .answer) (c .relative-decode2 .result .times)
+    ≡ readTimes (s .args .of-times) (s .args .header .«times_end_open») (unpackTimes (s .args .times)) (drop (c .before .before .before .first-answer .given .0 .0) (now (s .args .message)))
+times-told c = rw (to-end (c .before .before .before .first-answer .given .0 .0) (now (c .before .before .before .before .before .before .before .before .before .before .before .args .message))) at (c .relative-decode2 .ensures .answer)
+
+times-are : (c : tie.After-known-told2) → let s = c .before .before .before .before .before .before .before .before .before .before .before .before .before .before in
+    readTimes (s .args .of-times) (s .args .header .«times_end_open») (unpackTimes (s .args .times)) (drop (c .before .before .before .before .before .before .first-answer .given .0 .0) (now (s .args .message))) ≡ accepted (c .before .before .before .relative-decode2 .result .times) (c .before .second-answer .given .0 .0)
+times-are c = sym (times-told (c .before .before .before)) ∙ ap (λ (d : Decoded). answerOf d (c .before .before .before .relative-decode2 .result .times)) (c .before .second-answer .given .1)
+
+inside : (c : tie.After-known-told2) → c .before .before .before .before .before .before .first-answer .given .0 .0 + c .before .second-answer .given .0 .0 ≤ length (now (c .before .before .before .before .before .before .before .before .before .before .before .before .before .before .args .message))
+inside c = let s = c .before .before .before .before .before .before .before .before .before .before .before .before .before .before in rest-inside (s .args .subspaces) (known s) (s .args .of-times) (s .args .header) (s .args .times) (now (s .args .message)) _ _ (paths-are (c .before .before .before .before .before)) _ _ (times-are c)
+
+relative-decode-requires : tie.Need-relative-decode-requires
+relative-decode-requires c κs = search needs
+
+enum-known-first-answer : tie.Need-enum-known-first-answer
+enum-known-first-answer c = search needs
+
+refuse-requires : tie.Need-refuse-requires
+refuse-requires c κs = search needs
+
+returns : tie.Need-returns
+unfolding refusal
+returns c =
+    let s = c .before .before .before .before .before .before .before .before in
+    let x = no-value (c .before .before .relative-decode .result .answer) (c .before .match .keys2) in
+    rw (c .refuse .ensures) (gives-refused (x .why) (x .beside _) (ap (λ y. shift 2 (shift (s .args .a) y)) (rest-paths (s .args .subspaces) (known s) (s .args .of-times) (s .args .header) (s .args .times) (now (s .args .message)) (x .why) (sym (c .before .before .relative-decode .ensures .answer) ∙ x .beside _))))
+
+sub-relative-decode : tie.Need-sub-relative-decode
+sub-relative-decode c = paths-in c
+
+part-relative-decode-start : tie.Need-part-relative-decode-start
+part-relative-decode-start c = omega (arith, paths-in c)
+
+part-relative-decode-end : tie.Need-part-relative-decode-end
+part-relative-decode-end c = search needs
+
+relative-decode-requires-2 : tie.Need-relative-decode-requires-2
+relative-decode-requires-2 c κs = search needs
+
+enum-known-second-answer : tie.Need-enum-known-second-answer
+enum-known-second-answer c = search needs
+
+refuse-requires-2 : tie.Need-refuse-requires-2
+refuse-requires-2 c κs = search needs
+
+returns-2 : tie.Need-returns-2
+unfolding refusal
+returns-2 c =
+    let s = c .before .before .before .before .before .before .before .before .before .before .before .before .before in
+    let x = no-value (c .before .before .relative-decode2 .result .answer) (c .before .match2 .keys2) in
+    rw (c .refuse2 .ensures) (gives-refused (x .why) (x .beside _) (ap (λ y. shift 2 (shift (s .args .a) y)) (rest-times (s .args .subspaces) (known s) (s .args .of-times) (s .args .header) (s .args .times) (now (s .args .message)) _ _ (paths-are (c .before .before .before .before)) (x .why) (sym (times-told (c .before .before)) ∙ x .beside _))))
+
+add-t26 : tie.Need-add-t26
+add-t26 c = omega (arith, inside (c .before .before), c .before .before .before .before .before .before .before .before .before .before .before .before .before .before .before .before .pre)
+
+add-t29 : tie.Need-add-t29
+add-t29 c = omega (arith, inside (c .before .before), c .before .before .before .before .before .before .before .before .before .before .before .before .before .before .before .before .pre)
+
+add-t30 : tie.Need-add-t30
+add-t30 c = omega (arith, inside (c .before .before), c .before .before .before .before .before .before .before .before .before .before .before .before .before .before .before .before .pre)
+
+returns-3 : tie.Need-returns-3
+returns-3 c =
+    let s = c .before .before .before .before .before .before .before .before .before .before .before .before .before .before .before .before in
+    gives-accepted (ap (λ y. shift 2 (shift (s .args .a) y)) (rest-read (s .args .subspaces) (known s) (s .args .of-times) (s .args .header) (s .args .times) (now (s .args .message)) _ _ (paths-are (c .before .before .before .before .before .before .before)) _ _ (times-are (c .before .before))))
+
+pub decode-rest-spec : {M : Type 1} → statement M
+decode-rest-spec =
+    tie.close
+    (tie.spec
+    relative-decode-requires
+    enum-known-first-answer
+    refuse-requires
+    returns
+    sub-relative-decode
+    part-relative-decode-start
+    part-relative-decode-end
+    relative-decode-requires-2
+    enum-known-second-answer
+    refuse-requires-2
+    returns-2
+    add-t26
+    add-t29
+    add-t30
+    returns-3)

@@ -1,0 +1,108 @@
+use mathlib.Core.Path.{_≡_, refl, sym, ap, _∙_}
+use mathlib.Core.List.{List}
+use mathlib.Core.Bool.{false}
+use Prim.Native.Nat.{ℕ, _+_, _≤_}
+use native.Mathlib.Omega.{arith}
+use denote.Ref.{now}
+use lib.ListN.{length, length-append}
+use Rattle.codec.specs.Answers.{outcomeOf, wrote}
+use Rattle.codec.specs.Format.{over, writeAnswer, writeBuffer}
+use Rattle.codec.proofs.Lending.{put-fits, no-length, written-is, wrote-not-denied}
+use Rattle.path.specs.Record.{pathOf}
+use Rattle.path_relative.specs.Records.{sharedFrom}
+use Rattle.range_3d.specs.declared.PathRange.{PathRange}
+use Rattle.range_paths.specs.Records.{pathsWith}
+use Rattle.range3d_range3d.proofs.Writing.{start-within, both-open, both-closed, next-inside, put-next}
+use borrow.Author.Needs.{needs}
+use Rattle.range3d_range3d.proofs.range_encode.put_paths.Statement.{statement}
+use Rattle.range3d_range3d.proofs.range_encode.put_paths.Tie as tie
+
+abbrev paths : tie.Start → PathRange
+paths c = let a = c .args in pathsWith (pathOf (now (a .start-bytes)) (now (a .start-lengths)) (a .start-count)) (a .end-open) (pathOf (now (a .end-bytes)) (now (a .end-lengths)) (a .end-count))
+
+fits : (c : tie.Start) → let f = sharedFrom (c .args .start-shared) in
+    (wrote (length (f .encode (paths c .start))) ≡ writeAnswer f (paths c .start) (length (now (c .args .buffer)))) × (over (f .encode (paths c .start)) (now (c .args .buffer)) ≡ writeBuffer f (paths c .start) (now (c .args .buffer)))
+fits c =
+    let f = sharedFrom (c .args .start-shared) in
+    put-fits (f .check (paths c .start)) (f .encode (paths c .start)) (now (c .args .buffer)) (c .pre .0 .start) _ refl (omega (arith, c .pre .1, start-within (paths c) (c .args .start-shared) (c .args .end-shared)))
+
+-- both have room
+room : (c : tie.Start) → c .args .end-open ≡ false → length (sharedFrom (c .args .start-shared) .encode (paths c .start)) + length (sharedFrom (c .args .end-shared) .encode (paths c .end)) ≤ length (now (c .args .buffer))
+room c o = omega (arith, c .pre .1, ap length (both-closed (paths c) (c .args .start-shared) (c .args .end-shared) o), length-append (sharedFrom (c .args .start-shared) .encode (paths c .start)) (sharedFrom (c .args .end-shared) .encode (paths c .end)))
+
+-- the start is written
+answer : (c : tie.After-encode-shared) → let s = c .before .before .before .before .before .before .before in outcomeOf (c .encode-shared .result) ≡ wrote (length (sharedFrom (s .args .start-shared) .encode (paths s .start)))
+answer c = c .encode-shared .ensures .0 ∙ sym (fits (c .before .before .before .before .before .before .before) .0)
+
+there : (c : tie.After-encode-shared) → let s = c .before .before .before .before .before .before .before in c .encode-shared .last .0 ≡ over (sharedFrom (s .args .start-shared) .encode (paths s .start)) (now (s .args .buffer))
+there c = c .encode-shared .ensures .1 ∙ sym (fits (c .before .before .before .before .before .before .before) .1)
+
+long : (c : tie.After-known-told) → let s = c .before .before .before .before .before .before .before .before .before .before .before .before in c .before .start .given .0 .0 ≡ length (sharedFrom (s .args .start-shared) .encode (paths s .start))
+long c = written-is _ _ (ap outcomeOf (sym (c .before .start .given .1)) ∙ answer (c .before .before .before .before .before))
+
+inside : (c : tie.Else1) → c .before .before .start .given .0 .0 ≤ length (c .before .before .before .before .before .before .encode-shared .last .0)
+inside c =
+    let s = c .before .before .before .before .before .before .before .before .before .before .before .before .before in
+    omega (arith, next-inside (now (s .args .buffer)) (sharedFrom (s .args .start-shared) .encode (paths s .start)) (sharedFrom (s .args .end-shared) .encode (paths s .end)) _ _ (there (c .before .before .before .before .before .before)) (long (c .before)) (room s (c .if1 .left)))
+
+encode-shared-requires : tie.Need-encode-shared-requires
+encode-shared-requires c κs = search needs
+
+enum-known-start : tie.Need-enum-known-start
+enum-known-start c = search needs
+
+same-length : tie.Need-same-length
+same-length c = search needs
+
+returns : tie.Need-returns
+returns c =
+    let none = no-length (c .before .before .before .encode-shared .result) (c .match .keys2) in
+    absurd (wrote-not-denied _ (none .why) (sym (answer (c .before .before .before)) ∙ none .is))
+
+same-length-2 : tie.Need-same-length-2
+same-length-2 c = search needs
+
+returns-2 : tie.Need-returns-2
+returns-2 c =
+    let s = c .before .before .before .before .before .before .before .before .before .before .before .before .before in
+    there (c .before .before .before .before .before .before) ∙ ap (λ (bs : List ℕ). over bs (now (s .args .buffer))) (both-open (paths s) (s .args .start-shared) (s .args .end-shared) (c .if1 .taken))
+
+sub-encode-shared : tie.Need-sub-encode-shared
+sub-encode-shared c = inside c
+
+part-encode-shared-start : tie.Need-part-encode-shared-start
+part-encode-shared-start c = inside c
+
+part-encode-shared-end : tie.Need-part-encode-shared-end
+part-encode-shared-end c = search needs
+
+encode-shared-requires-2 : tie.Need-encode-shared-requires-2
+encode-shared-requires-2 c κs = search needs
+
+same-length-3 : tie.Need-same-length-3
+same-length-3 c = search needs
+
+returns-3 : tie.Need-returns-3
+returns-3 c =
+    let s = c .before .before .before .before .before .before .before .before .before .before .before .before .before .before .before .before .before in
+    let w = c .before .before .encode-shared2 in
+    let o = c .before .before .before .before .if1 .left in
+    put-next (now (s .args .buffer)) (sharedFrom (s .args .start-shared) .encode (paths s .start)) (sharedFrom (s .args .end-shared) .encode (paths s .end)) _ _ (there (c .before .before .before .before .before .before .before .before .before .before)) (long (c .before .before .before .before .before)) (room s o) (w .last .0) (rw (s .pre .0 .end o) at (w .ensures .1))
+    ∙ ap (λ (bs : List ℕ). over bs (now (s .args .buffer))) (both-closed (paths s) (s .args .start-shared) (s .args .end-shared) o)
+
+pub put-paths-spec : {M : Type 1} → statement M
+put-paths-spec =
+    tie.close
+    (tie.spec
+    encode-shared-requires
+    enum-known-start
+    same-length
+    returns
+    same-length-2
+    returns-2
+    sub-encode-shared
+    part-encode-shared-start
+    part-encode-shared-end
+    encode-shared-requires-2
+    same-length-3
+    returns-3)

@@ -1,0 +1,26 @@
+use mathlib.Core.Path.{_≡_, sym, _∙_}
+use mathlib.Core.Bool.{true, false}
+use denote.Ref.{now}
+use borrow.Author.Tests.{not-true, not-false}
+use Rattle.path.specs.Record.{pathOf, wellFormed}
+use borrow.Author.Needs.{needs}
+use Rattle.range_paths.proofs.parts.empty.Statement.{statement}
+use Rattle.range_paths.proofs.parts.empty.Tie as tie
+
+well-formed-requires : tie.Need-well-formed-requires
+well-formed-requires c κs = search needs
+
+returns : tie.Need-returns
+returns c =
+    let a = c .before .before .before .before .args in
+    let e : wellFormed (pathOf (now (a .bytes)) (now (a .lengths)) (a .count)) ≡ false = sym (c .before .well-formed .ensures) ∙ not-true _ (c .if1 .taken) in
+    rw e
+
+returns-2 : tie.Need-returns-2
+returns-2 c =
+    let a = c .before .before .before .before .args in
+    let e : wellFormed (pathOf (now (a .bytes)) (now (a .lengths)) (a .count)) ≡ true = sym (c .before .well-formed .ensures) ∙ not-false _ (c .if1 .left) in
+    rw e
+
+pub empty-spec : {M : Type 1} → statement M
+empty-spec = tie.close (tie.spec well-formed-requires returns returns-2)

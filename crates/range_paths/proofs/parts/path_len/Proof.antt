@@ -1,0 +1,42 @@
+use mathlib.Core.Path.{sym, ap, _∙_}
+use Prim.Native.Nat.{_≤_}
+use native.Mathlib.Omega.{arith}
+use denote.Ref.{now}
+use lib.ListN.{length}
+use Rattle.codec.specs.Answers.{outcomeOf}
+use Rattle.codec.proofs.Lawful.{verdict-allowed}
+use Rattle.codec.proofs.Lending.{length-wrote, length-not-denied, no-length}
+use Rattle.path.specs.declared.Path.{Path}
+use Rattle.path.specs.Record.{pathOf}
+use Rattle.path_relative.specs.Records.{sharedFrom}
+use Rattle.range_paths.proofs.Writing.{shared-short}
+use borrow.Author.Needs.{needs}
+use Rattle.range_paths.proofs.parts.path_len.Statement.{statement}
+use Rattle.range_paths.proofs.parts.path_len.Tie as tie
+
+abbrev path : tie.Start → Path
+path c = pathOf (now (c .args .bytes)) (now (c .args .lengths)) (c .args .count)
+
+short : (c : tie.Start) → length (sharedFrom (c .args .k) .encode (path c)) ≤ 900
+short c = shared-short (path c) (c .args .k) (verdict-allowed _ _ (c .pre) .0)
+
+shared-len-requires : tie.Need-shared-len-requires
+shared-len-requires c κs = search needs
+
+enum-known-whole : tie.Need-enum-known-whole
+enum-known-whole c = search needs
+
+returns : tie.Need-returns
+returns c =
+    let s = c .before .before .before .before in
+    let none = no-length (c .before .shared-len .result) (c .match .keys2) in
+    absurd (length-not-denied (sharedFrom (s .args .k)) (path s) (none .why) (s .pre) (sym (c .before .shared-len .ensures) ∙ none .is))
+
+returns-2 : tie.Need-returns-2
+returns-2 c =
+    let s = c .before .before .before .before .before .before in
+    let n = length-wrote (sharedFrom (s .args .k)) (path s) _ (sym (c .before .before .before .shared-len .ensures) ∙ ap outcomeOf (c .before .whole .given .1)) in
+    (n .1, omega (arith, n .1, short s))
+
+pub path-len-spec : {M : Type 1} → statement M
+path-len-spec = tie.close (tie.spec shared-len-requires enum-known-whole returns returns-2)

@@ -1,0 +1,32 @@
+use mathlib.Core.Path.{_≡_, sym, _∙_}
+use mathlib.Core.Bool.{true, false}
+use denote.Ref.{now}
+use borrow.Author.Tests.{not-true, not-false}
+use Rattle.path.specs.Record.{pathOf, wellFormed}
+use Rattle.range_3d.specs.Record.{wellFormedPaths}
+use borrow.Author.Needs.{needs}
+use Rattle.range_paths.proofs.parts.well_formed.Statement.{statement}
+use Rattle.range_paths.proofs.parts.well_formed.Tie as tie
+
+well-formed-requires : tie.Need-well-formed-requires
+well-formed-requires c κs = search needs
+
+returns : tie.Need-returns
+unfolding wellFormedPaths
+returns c =
+    let a = c .before .before .before .before .before .before .args in
+    let e : wellFormed (pathOf (now (a .start-bytes)) (now (a .start-lengths)) (a .start-count)) ≡ false = sym (c .before .well-formed .ensures) ∙ not-true _ (c .if1 .taken) in
+    rw e
+
+end-formed-requires : tie.Need-end-formed-requires
+end-formed-requires c κs = search needs
+
+returns-2 : tie.Need-returns-2
+unfolding wellFormedPaths
+returns-2 c =
+    let a = c .before .before .before .before .before .before .before .args in
+    let e : wellFormed (pathOf (now (a .start-bytes)) (now (a .start-lengths)) (a .start-count)) ≡ true = sym (c .before .before .well-formed .ensures) ∙ not-false _ (c .before .if1 .left) in
+    rw e (c .end-formed .ensures)
+
+pub well-formed-spec : {M : Type 1} → statement M
+well-formed-spec = tie.close (tie.spec well-formed-requires returns end-formed-requires returns-2)

@@ -1,0 +1,108 @@
+use mathlib.Core.Path.{_≡_, sym, ap, _∙_}
+use native.Mathlib.Omega.{arith}
+use Prim.Native.Nat.{_≤_}
+use denote.Ref.{now}
+use lib.ListN.{length, drop}
+use Rattle.codec.specs.Answers.{accepted, answerOf}
+use Rattle.codec.specs.declared.Decoded.{Decoded}
+use Rattle.codec.proofs.Answers.{no-value, gives-refused, gives-accepted}
+use Rattle.codec.proofs.Lending.{to-end}
+use Rattle.path.specs.Record.{pathOf}
+use Rattle.path_codec.specs.Answers.{GivesPath}
+use Rattle.range_3d.specs.declared.PathRange.{PathRange}
+use Rattle.range_paths.specs.Records.{pathsWith, readSideOf}
+use Rattle.range_paths.proofs.DecodeExits.{paths-start, start-inside, paths-open, paths-end, end-inside, paths-both}
+use borrow.Author.Needs.{needs}
+use Rattle.range_paths.proofs.paths_decode.decode_end.Statement.{statement}
+use Rattle.range_paths.proofs.paths_decode.decode_end.Tie as tie
+
+abbrev known : tie.Start → PathRange
+known s = let a = s .args in pathsWith (pathOf (now (a .of-start-bytes)) (now (a .of-start-lengths)) (a .of-start-count)) (a .of-end-open) (pathOf (now (a .of-end-bytes)) (now (a .of-end-lengths)) (a .of-end-count))
+
+start-is : (c : tie.After-known-told) → let s = c .before .before .before .before .before .before .before .before in
+    readSideOf (known s) (s .args .sides .«start_from_start») (now (s .args .message)) ≡ accepted (s .args .first .path) (c .before .first-answer .given .0 .0)
+start-is c = let s = c .before .before .before .before .before .before .before .before in sym (s .pre .1 .answer) ∙ ap (λ (d : Decoded). answerOf d (s .args .first .path)) (c .before .first-answer .given .1)
+
+start-in : (c : tie.After-known-told) → c .before .first-answer .given .0 .0 ≤ length (now (c .before .before .before .before .before .before .before .before .args .message))
+start-in c = let s = c .before .before .before .before .before .before .before .before in start-inside (s .args .end-open) (s .args .sides) (known s) (now (s .args .message)) (s .pre .0) _ _ (start-is c)
+
+end-told : (c : tie.After-decode-path) → let s = c .before .before .before .before .before .before .before .before .before .before .before .before in
+    GivesPath (c .decode-path .result) (readSideOf (known s) (s .args .sides .«end_from_start») (drop (c .before .before .before .before .before .first-answer .given .0 .0) (now (s .args .message))))
+end-told c = rw (to-end (c .before .before .before .before .before .first-answer .given .0 .0) (now (c .before .before .before .before .before .before .before .before .before .before .before .before .args .message))) at (c .decode-path .ensures)
+
+end-is : (c : tie.After-known-told2) → let s = c .before .before .before .before .before .before .before .before .before .before .before .before .before .before .before in
+    readSideOf (known s) (s .args .sides .«end_from_start») (drop (c .before .before .before .before .before .before .before .before .first-answer .given .0 .0) (now (s .args .message))) ≡ accepted (c .before .before .before .decode-path .result .path) (c .before .second-answer .given .0 .0)
+end-is c = sym (end-told (c .before .before .before) .answer) ∙ ap (λ (d : Decoded). answerOf d (c .before .before .before .decode-path .result .path)) (c .before .second-answer .given .1)
+
+enum-known-first-answer : tie.Need-enum-known-first-answer
+enum-known-first-answer c = search needs
+
+refuse-requires : tie.Need-refuse-requires
+refuse-requires c κs = search needs
+
+returns : tie.Need-returns
+returns c =
+    let s = c .before .before .before .before .before .before .before in
+    let x = no-value (s .args .first .answer) (c .before .match .keys2) in
+    rw (c .refuse .ensures .0, c .refuse .ensures .1) (gives-refused (x .why) (x .beside _) (paths-start (s .args .end-open) (s .args .sides) (known s) (now (s .args .message)) (s .pre .0) (x .why) (sym (s .pre .1 .answer) ∙ x .beside _)))
+
+new-empty-requires : tie.Need-new-empty-requires
+new-empty-requires c κs = search needs
+
+returns-2 : tie.Need-returns-2
+returns-2 c =
+    let s = c .before .before .before .before .before .before .before .before .before .before .before in
+    rw (c .new-empty .ensures) (gives-accepted (paths-open (s .args .end-open) (s .args .sides) (known s) (now (s .args .message)) (s .pre .0) _ _ (start-is (c .before .before .before)) (c .before .if1 .taken)))
+
+sub-decode-path : tie.Need-sub-decode-path
+sub-decode-path c = start-in (c .before .before)
+
+part-decode-path-start : tie.Need-part-decode-path-start
+part-decode-path-start c = omega (arith, start-in (c .before .before))
+
+part-decode-path-end : tie.Need-part-decode-path-end
+part-decode-path-end c = search needs
+
+decode-path-requires : tie.Need-decode-path-requires
+decode-path-requires c κs = search needs
+
+enum-known-second-answer : tie.Need-enum-known-second-answer
+enum-known-second-answer c = search needs
+
+refuse-requires-2 : tie.Need-refuse-requires-2
+refuse-requires-2 c κs = search needs
+
+returns-3 : tie.Need-returns-3
+returns-3 c =
+    let s = c .before .before .before .before .before .before .before .before .before .before .before .before .before .before in
+    let x = no-value (c .before .before .decode-path .result .answer) (c .before .match2 .keys2) in
+    rw (c .refuse2 .ensures .0, c .refuse2 .ensures .1) (gives-refused (x .why) (x .beside _) (paths-end (s .args .end-open) (s .args .sides) (known s) (now (s .args .message)) (s .pre .0) _ _ (start-is (c .before .before .before .before .before .before)) (c .before .before .before .before .if1 .left) (x .why) (sym (end-told (c .before .before) .answer) ∙ x .beside _)))
+
+add-t24 : tie.Need-add-t24
+add-t24 c =
+    let s = c .before .before .before .before .before .before .before .before .before .before .before .before .before .before .before .before in
+    omega (arith, end-inside (s .args .end-open) (s .args .sides) (known s) (now (s .args .message)) (s .pre .0) _ _ (start-is (c .before .before .before .before .before .before .before .before)) (c .before .before .before .before .before .before .if1 .left) _ _ (end-is (c .before)))
+
+returns-4 : tie.Need-returns-4
+returns-4 c =
+    let s = c .before .before .before .before .before .before .before .before .before .before .before .before .before .before .before .before in
+    gives-accepted (paths-both (s .args .end-open) (s .args .sides) (known s) (now (s .args .message)) (s .pre .0) _ _ (start-is (c .before .before .before .before .before .before .before .before)) (c .before .before .before .before .before .before .if1 .left) _ _ (end-is (c .before)))
+
+pub decode-end-spec : {M : Type 1} → statement M
+decode-end-spec =
+    tie.close
+    (tie.spec
+    enum-known-first-answer
+    refuse-requires
+    returns
+    new-empty-requires
+    returns-2
+    sub-decode-path
+    part-decode-path-start
+    part-decode-path-end
+    decode-path-requires
+    enum-known-second-answer
+    refuse-requires-2
+    returns-3
+    add-t24
+    returns-4)
