@@ -1,7 +1,7 @@
 -- Areas as flat bytes: there and back.
 use mathlib.Core.Path.{_≡_, refl, sym, ap, _∙_}
 use mathlib.Core.List.{List, [], _∷_, _++_}
-use mathlib.Core.Bool.{Bool, true, false, cond, _&&_}
+use mathlib.Core.Bool.{Bool, true, false, _&&_}
 use Prim.Native.Nat.{ℕ, suc, _≤_}
 use native.Mathlib.Omega.{arith}
 use lib.Dec.{leb}
@@ -14,10 +14,10 @@ use Rattle.codec.proofs.Tests.{and-left, and-right}
 use Rattle.path.specs.Record.{wellFormed}
 use Rattle.grouping.specs.declared.Area.{Area}
 use Rattle.grouping.specs.Record.{wellFormedArea, wellFormedSubspace, TypedArea}
-use Rattle.flat.specs.PathRecord.{pathFlat, noPath}
-use Rattle.flat.specs.Times.{timesFlat, timesMarked}
-use Rattle.flat.specs.AreaRecord.{subspaceFlat, areaFlat, areaFields, noArea, areaIn}
-use Rattle.flat.proofs.PathLaws.{path-long, path-loads, path-stores}
+use Rattle.flat.specs.PathRecord.{pathFlat, pathIf, pathIn}
+use Rattle.flat.specs.Times.{timesFlat, timesMarked, timesIn}
+use Rattle.flat.specs.AreaRecord.{subspaceFlat, areaFlat, areaMarked, areaIn}
+use Rattle.flat.proofs.PathLaws.{path-long, path-loads, path-stores, unmarked}
 use Rattle.flat.proofs.TimesLaws.{mark-loads, mark-small, mark-stores, times-marked, times-loads, times-stores, times-long, drop-two, three}
 
 pub area-long : (a : Area) → TypedArea a → length (areaFlat a) ≡ 691
@@ -25,7 +25,7 @@ unfolding areaFlat
 area-long a t = rw (length-append, length-append, path-long (a .path) (t .path), times-long (a .times)) (omega (arith, t .long))
 
 pub area-loads : (a : Area) → TypedArea a → wellFormedArea a ≡ true → areaIn (areaFlat a) ≡ a
-unfolding areaFlat areaIn wellFormedArea
+unfolding areaFlat areaIn areaMarked pathIn wellFormedArea
 area-loads a t w =
     let path = pathFlat (a .path) in
     let times = timesFlat (a .times) in
@@ -45,13 +45,9 @@ area-loads a t w =
       times-loads (a .times) (t .times),
     )
 
-no-area : wellFormedArea noArea ≡ true → ⊥
-unfolding wellFormedArea wellFormedSubspace wellFormed noArea noPath
-no-area e = let z : _≡_ {A = ℕ} 0 1 = cc in omega arith
-
 pub area-stores : (s : List ℕ) → length s ≡ 691 → AllBytes s → wellFormedArea (areaIn s) ≡ true → areaFlat (areaIn s) ≡ s
-unfolding areaFlat areaIn
-area-stores s long b w = go (leb (getD s 0 0) 1 && timesMarked (drop 674 s)) refl w
+unfolding areaFlat areaIn areaMarked pathIn wellFormedArea
+area-stores s long b w = go (leb (getD s 0 0) 1 && timesMarked (drop 674 s)) refl (and-right (wellFormedSubspace (areaIn s .subspace)) _ w)
   where
     first : (l : List ℕ) → 33 ≤ length l → take 33 l ≡ getD l 0 0 ∷ take 32 (drop 1 l)
     first [] h = absurd (omega arith)
@@ -60,12 +56,15 @@ area-stores s long b w = go (leb (getD s 0 0) 1 && timesMarked (drop 674 s)) ref
     whole : getD s 0 0 ∷ (take 32 (drop 1 s) ++ (take 641 (drop 33 s) ++ drop 674 s)) ≡ s
     whole = sym (ap (λ (l : List ℕ). l ++ (take 641 (drop 33 s) ++ drop 674 s)) (first s (omega arith))) ∙ three s 33 641
 
-    fields : leb (getD s 0 0) 1 ≡ true → timesMarked (drop 674 s) ≡ true → areaFlat (areaFields s) ≡ s
+    stored : Bool → List ℕ
+    stored ok = subspaceFlat (areaIn s .subspace) ++ (pathFlat (pathIf ok (drop 33 s)) ++ timesFlat (timesIn (drop 674 s)))
+
+    fields : leb (getD s 0 0) 1 ≡ true → timesMarked (drop 674 s) ≡ true → stored true ≡ s
     fields m q =
         let path = path-stores (drop 33 s) (rw length-drop (omega arith)) (AllBytes·drop 33 s b) in
         let times = times-stores (drop 674 s) (rw length-drop (omega arith)) (AllBytes·drop 674 s b) q in
         rw (mark-stores (getD s 0 0) (leb-true (getD s 0 0) 1 m), path, times) whole
 
-    go : (ok : Bool) → (leb (getD s 0 0) 1 && timesMarked (drop 674 s)) ≡ ok → wellFormedArea (cond ok (areaFields s) noArea) ≡ true → areaFlat (cond ok (areaFields s) noArea) ≡ s
+    go : (ok : Bool) → (leb (getD s 0 0) 1 && timesMarked (drop 674 s)) ≡ ok → wellFormed (pathIf ok (drop 33 s)) ≡ true → stored ok ≡ s
     go true e f = fields (and-left (leb (getD s 0 0) 1) (timesMarked (drop 674 s)) e) (and-right (leb (getD s 0 0) 1) (timesMarked (drop 674 s)) e)
-    go false e f = absurd (no-area f)
+    go false e f = absurd (unmarked (drop 33 s) f)

@@ -1,7 +1,7 @@
 -- Numbers, and paths, as flat bytes: there and back.
 use mathlib.Core.Path.{_≡_, refl, sym, ap, _∙_}
 use mathlib.Core.List.{List, [], _∷_, _++_, append-assoc, append-nil}
-use mathlib.Core.Bool.{true}
+use mathlib.Core.Bool.{true, false}
 use Prim.Native.Nat.{ℕ, zero, suc, _*_, _%_, _^_, _≤_, _<_}
 use native.Mathlib.Nat.{mod-eq-of-lt}
 use native.Mathlib.Omega.{arith}
@@ -17,7 +17,7 @@ use Rattle.compact_u64.proofs.BigEndian.{length-bigEndian, valueOf-bigEndian, b
 use Rattle.path.specs.declared.Path.{Path}
 use Rattle.path.specs.Record.{allAtMost, used, wellFormed, TypedPath}
 use Rattle.path.proofs.Record.{well-formed}
-use Rattle.flat.specs.PathRecord.{shorts, shortsIn, pathFlat, pathIn}
+use Rattle.flat.specs.PathRecord.{shorts, shortsIn, pathFlat, pathIf, pathIn}
 use Rattle.flat.specs.Laws.{Flat}
 
 -- ---- numbers of n bytes
@@ -87,6 +87,10 @@ path-stores (x ∷ s) h b =
     ap (λ (c : ℕ). c ∷ (shorts (shortsIn 20 s) ++ take 600 (drop 40 s))) count
     ∙ ap (λ (l : List ℕ). x ∷ (l ++ take 600 (drop 40 s))) (shorts-store 20 s (omega arith) bytes)
     ∙ ap (λ (l : List ℕ). x ∷ l) (sym (take-add 40 600 s))
+
+-- bytes whose marks are none are no path's
+pub unmarked : (s : List ℕ) → wellFormed (pathIf false s) ≡ true → ⊥
+unmarked s w = omega (arith, well-formed (pathIf false s) w .count)
 
 pub path-flat : Flat TypedPath wellFormed pathFlat pathIn 641
 path-flat = record {

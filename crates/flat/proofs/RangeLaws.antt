@@ -1,7 +1,7 @@
 -- 3d ranges as flat bytes: there and back.
 use mathlib.Core.Path.{_≡_, refl, sym, _∙_}
 use mathlib.Core.List.{List, _∷_, _++_, append-assoc}
-use mathlib.Core.Bool.{Bool, true, false, cond, _&&_}
+use mathlib.Core.Bool.{Bool, true, false, _&&_}
 use Prim.Native.Nat.{ℕ, suc, _+_, _≤_, _<_}
 use native.Mathlib.Omega.{arith}
 use lib.Dec.{leb}
@@ -15,10 +15,10 @@ use Rattle.codec.proofs.Tests.{and-left, and-right}
 use Rattle.path.specs.Record.{wellFormed}
 use Rattle.range_3d.specs.declared.Range3d.{Range3d}
 use Rattle.range_3d.specs.Record.{wellFormedSubspaces, wellFormedPaths, wellFormedRange3d, TypedRange3d}
-use Rattle.flat.specs.PathRecord.{pathFlat, noPath}
+use Rattle.flat.specs.PathRecord.{pathFlat, pathIf, pathIn}
 use Rattle.flat.specs.Times.{timesFlat, timesMarked, timesIn}
-use Rattle.flat.specs.RangeRecord.{rangeFlat, noRange, rangeMarked, subspacesIn, pathsIn, rangeIn}
-use Rattle.flat.proofs.PathLaws.{path-long, path-loads, path-stores}
+use Rattle.flat.specs.RangeRecord.{subspacesFlat, rangeFlat, rangeMarked, subspacesIn, rangeIn}
+use Rattle.flat.proofs.PathLaws.{path-long, path-loads, path-stores, unmarked}
 use Rattle.flat.proofs.TimesLaws.{mark-loads, mark-small, mark-stores, times-marked, times-loads, times-stores, times-long, three}
 
 pub range-long : (r : Range3d) → TypedRange3d r → length (rangeFlat r) ≡ 1365
@@ -75,7 +75,7 @@ module _ (a b p q t : List ℕ) (m k : ℕ) (la : length a ≡ 32) (lb : length 
   times-on = sym (drop-drop 641 707 rangeParts) ∙ rw path-end-on (drop-at q t 641 lq)
 
 pub range-loads : (r : Range3d) → TypedRange3d r → wellFormedRange3d r ≡ true → rangeIn (rangeFlat r) ≡ r
-unfolding rangeFlat rangeIn rangeMarked wellFormedRange3d wellFormedPaths
+unfolding rangeFlat rangeIn rangeMarked pathIn wellFormedRange3d wellFormedPaths
 range-loads r h w =
     let a = r .subspaces .start in
     let b = r .subspaces .end in
@@ -109,10 +109,6 @@ range-loads r h w =
       times-loads (r .times) (h .times),
     )
 
-no-range : wellFormedRange3d noRange ≡ true → ⊥
-unfolding wellFormedRange3d wellFormedSubspaces wellFormedPaths wellFormed noRange noPath
-no-range e = let z : _≡_ {A = ℕ} 0 1 = cc in omega arith
-
 middle : (s : List ℕ) (n m : ℕ) → n < length s → take n s ++ (getD s n 0 ∷ take m (drop (suc n) s)) ≡ take (n + suc m) s
 middle s n m h = sym (take-add n (suc m) s ∙ rw (drop-cons s n 0 h))
 
@@ -132,11 +128,11 @@ marks s e =
     }
 
 pub range-stores : (s : List ℕ) → length s ≡ 1365 → AllBytes s → wellFormedRange3d (rangeIn s) ≡ true → rangeFlat (rangeIn s) ≡ s
-unfolding rangeFlat rangeIn
-range-stores s long b w = go (rangeMarked s) refl w
+unfolding rangeFlat rangeIn pathIn wellFormedRange3d wellFormedPaths
+range-stores s long b w = go (rangeMarked s) refl (and-left (wellFormed (rangeIn s .paths .start)) _ (and-right (wellFormedSubspaces (rangeIn s .subspaces)) _ w))
   where
-    fields : Range3d
-    fields = record { subspaces = subspacesIn s; paths = pathsIn s; times = timesIn (drop 1348 s) }
+    stored : Bool → List ℕ
+    stored ok = subspacesFlat (subspacesIn s) ++ ((pathFlat (pathIf ok (drop 65 s)) ++ (bit (rangeIn s .paths .«end_open») ∷ pathFlat (pathIn (drop 707 s)))) ++ timesFlat (timesIn (drop 1348 s)))
 
     whole : (p q t : List ℕ) → p ≡ take 641 (drop 65 s) → q ≡ take 641 (drop 707 s) → t ≡ drop 1348 s
         → (take 32 s ++ (getD s 32 0 ∷ take 32 (drop 33 s))) ++ ((p ++ (getD s 706 0 ∷ q)) ++ t) ≡ s
@@ -146,13 +142,13 @@ range-stores s long b w = go (rangeMarked s) refl w
         let h : 641 < length (drop 65 s) = rw length-drop (omega arith) in
         rw (ep, eq, et, e, d, middle (drop 65 s) 641 641 h, middle s 32 32 (omega arith)) (three s 65 1283)
 
-    stored : Marks s → rangeFlat fields ≡ s
-    stored m =
+    fields : Marks s → stored true ≡ s
+    fields m =
         let p = path-stores (drop 65 s) (rw length-drop (omega arith)) (AllBytes·drop 65 s b) in
         let q = path-stores (drop 707 s) (rw length-drop (omega arith)) (AllBytes·drop 707 s b) in
         let t = times-stores (drop 1348 s) (rw length-drop (omega arith)) (AllBytes·drop 1348 s b) (m .times) in
         rw (mark-stores (getD s 32 0) (m .subspaces), mark-stores (getD s 706 0) (m .paths)) (whole _ _ _ p q t)
 
-    go : (ok : Bool) → rangeMarked s ≡ ok → wellFormedRange3d (cond ok fields noRange) ≡ true → rangeFlat (cond ok fields noRange) ≡ s
-    go true e f = stored (marks s e)
-    go false e f = absurd (no-range f)
+    go : (ok : Bool) → rangeMarked s ≡ ok → wellFormed (pathIf ok (drop 65 s)) ≡ true → stored ok ≡ s
+    go true e f = fields (marks s e)
+    go false e f = absurd (unmarked (drop 65 s) f)

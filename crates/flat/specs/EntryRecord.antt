@@ -4,17 +4,19 @@ use Prim.Native.Nat.{ℕ}
 use lib.ListN.{take, drop}
 use Rattle.compact_u64.specs.BigEndian.{bigEndian, valueOf}
 use Rattle.entry.specs.declared.Entry.{Entry}
+use Rattle.entry.specs.declared.EntryFields.{EntryFields}
+use Rattle.entry.specs.Record.{fieldsOf}
 use Rattle.flat.specs.PathRecord.{pathFlat, pathIn}
 
-abbrev pub idsFlat : Entry → List ℕ
-idsFlat e = e .«namespace_id» ++ e .«subspace_id»
+abbrev pub idsFlat : EntryFields → List ℕ
+idsFlat f = f .«namespace_id» ++ f .«subspace_id»
 
 -- what follows the path
-abbrev pub endFlat : Entry → List ℕ
-endFlat e = bigEndian 8 (e .timestamp) ++ (bigEndian 8 (e .«payload_length») ++ e .«payload_digest»)
+abbrev pub endFlat : EntryFields → List ℕ
+endFlat f = bigEndian 8 (f .timestamp) ++ (bigEndian 8 (f .«payload_length») ++ f .«payload_digest»)
 
 unfoldable pub entryFlat : Entry → List ℕ
-entryFlat e = idsFlat e ++ (pathFlat (e .path) ++ endFlat e)
+entryFlat e = idsFlat (fieldsOf e) ++ (pathFlat (e .path) ++ endFlat (fieldsOf e))
 
 unfoldable pub entryIn : List ℕ → Entry
 entryIn s = record {

@@ -2,11 +2,14 @@
 ghost use mathlib.Core.Path.{_≡_};
 ghost use Prim.Native.Nat.{_≤_};
 ghost use lib.ListN.{length};
-ghost use Rattle.flat.specs.AreaRecord.{noArea, subspaceFlat, areaIn, areaFlat};
+ghost use Rattle.path.specs.Record.{pathOf};
+ghost use Rattle.grouping.specs.Record.{areaWith};
+ghost use Rattle.flat.specs.PathRecord.{sizesOf, PathLong};
+ghost use Rattle.flat.specs.AreaRecord.{subspaceFlat, areaMarked, areaIn, areaFlat};
 ghost use Rattle.flat.specs.Puts.{Puts};
+use crate::PathSizes;
 use grouping::Area;
 use grouping::AreaSubspace;
-use grouping::RangeEnd;
 use grouping::TimeRange;
 
 // How many bytes an area has, and where its parts start.
@@ -20,48 +23,49 @@ const PATH: usize = 33;
 
 const TIMES: usize = 674;
 
-// An area that is not well formed, for bytes that are no area's.
-fn no_area() -> Area
-    ensures { λ r. ⌜ r ≡ noArea ⌝ }
+fn marked(flat: &[u8]) -> bool
+    requires { ⌜ 691 ≤ length (now flat) ⌝ }
+    ensures { λ r. ⌜ r ≡ areaMarked (now (flat .entry)) ⌝ }
 {
-    let path = crate::path_record::no_path();
-    Area {
-        subspace: AreaSubspace {
-            any: true,
-            id: [0u8; 32],
-        },
-        path: path,
-        times: TimeRange {
-            start: 0,
-            end: RangeEnd::Closed(0),
-        },
+    if 1 < flat[ANY] {
+        return false;
+    }
+    crate::times::marked(&flat[TIMES..])
+}
+
+fn subspace_in(flat: &[u8]) -> AreaSubspace
+    requires { ⌜ 691 ≤ length (now flat) ⌝ }
+    ensures { λ r. ⌜ r ≡ areaIn (now (flat .entry)) .subspace ⌝ }
+{
+    let read = codec::decode_id(flat, ID);
+    let id = read.id;
+    AreaSubspace {
+        any: flat[ANY] == 1,
+        id: id,
     }
 }
 
-// The area that starts with the first byte.
-fn area_in(flat: &[u8]) -> Area
+fn times_in(flat: &[u8]) -> TimeRange
     requires { ⌜ 691 ≤ length (now flat) ⌝ }
-    ensures { λ r. ⌜ r ≡ areaIn (now (flat .entry)) ⌝ }
+    ensures { λ r. ⌜ r ≡ areaIn (now (flat .entry)) .times ⌝ }
 {
-    if 1 < flat[ANY] {
-        return no_area();
-    }
-    let marked = crate::times::marked(&flat[TIMES..]);
-    if !marked {
-        return no_area();
-    }
-    let read = codec::decode_id(flat, ID);
-    let id = read.id;
-    let path = crate::path_record::path_in(&flat[PATH..]);
-    let times = crate::times::times_in(&flat[TIMES..]);
-    Area {
-        subspace: AreaSubspace {
-            any: flat[ANY] == 1,
-            id: id,
-        },
-        path: path,
-        times: times,
-    }
+    crate::times::times_in(&flat[TIMES..])
+}
+
+// A mark that is none shows as a count that no path has.
+fn path_sizes_in(flat: &[u8]) -> PathSizes
+    requires { ⌜ 691 ≤ length (now flat) ⌝ }
+    ensures { λ r. ⌜ r ≡ sizesOf (areaIn (now (flat .entry)) .path) ⌝ }
+{
+    let marked = marked(flat);
+    crate::path_record::sizes_in(&flat[PATH..], marked)
+}
+
+fn path_bytes_in<'a>(flat: &'a [u8]) -> &'a [u8]
+    requires { ⌜ 691 ≤ length (now flat) ⌝ }
+    ensures { λ r. ⌜ now r ≡ areaIn (now (flat .entry)) .path .bytes ⌝ }
+{
+    crate::path_record::bytes_in(&flat[PATH..])
 }
 
 fn put_subspace(flat: &mut [u8], subspace: AreaSubspace)
@@ -74,23 +78,55 @@ fn put_subspace(flat: &mut [u8], subspace: AreaSubspace)
 }
 
 // Writes an area from the first byte on.
-fn put_area(flat: &mut [u8], area: Area)
-    requires { ⌜ 691 ≤ length (now flat) ⌝ }
-    ensures { λ _. ⌜ Puts 691 (areaFlat area) (now (flat .entry)) (now (flat .exit)) ⌝ }
+fn put_area<'a>(
+    flat: &mut [u8],
+    subspace: AreaSubspace,
+    times: TimeRange,
+    bytes: &'a [u8],
+    lengths: &'a [usize],
+    count: usize,
+)
+    requires { ⌜ (691 ≤ length (now flat)) × PathLong (now bytes) (now lengths) ⌝ }
+    ensures { λ _. ⌜ Puts 691 (areaFlat (areaWith subspace (pathOf (now (bytes .entry)) (now (lengths .entry)) count) times)) (now (flat .entry)) (now (flat .exit)) ⌝ }
 {
-    put_subspace(flat, area.subspace);
-    crate::path_record::put_path(&mut flat[PATH..], area.path);
-    crate::times::put_times(&mut flat[TIMES..], area.times);
+    put_subspace(flat, subspace);
+    crate::path_record::put_path(&mut flat[PATH..], bytes, lengths, count);
+    crate::times::put_times(&mut flat[TIMES..], times);
 }
 
-pub fn load(flat: &[u8; SIZE]) -> Area
-    ensures { λ r. ⌜ r ≡ areaIn (now (flat .entry)) ⌝ }
+pub fn subspace(flat: &[u8; SIZE]) -> AreaSubspace
+    ensures { λ r. ⌜ r ≡ areaIn (now (flat .entry)) .subspace ⌝ }
 {
-    area_in(flat)
+    subspace_in(flat)
+}
+
+pub fn times(flat: &[u8; SIZE]) -> TimeRange
+    ensures { λ r. ⌜ r ≡ areaIn (now (flat .entry)) .times ⌝ }
+{
+    times_in(flat)
+}
+
+pub fn path_sizes(flat: &[u8; SIZE]) -> PathSizes
+    ensures { λ r. ⌜ r ≡ sizesOf (areaIn (now (flat .entry)) .path) ⌝ }
+{
+    path_sizes_in(flat)
+}
+
+pub fn path_bytes<'a>(flat: &'a [u8; SIZE]) -> &'a [u8]
+    ensures { λ r. ⌜ now r ≡ areaIn (now (flat .entry)) .path .bytes ⌝ }
+{
+    path_bytes_in(flat)
 }
 
 pub fn store(flat: &mut [u8; SIZE], area: Area)
     ensures { λ _. ⌜ now (flat .exit) ≡ areaFlat area ⌝ }
 {
-    put_area(flat, area);
+    put_area(
+        flat,
+        area.subspace,
+        area.times,
+        &area.path.bytes,
+        &area.path.lengths,
+        area.path.count,
+    );
 }

@@ -12,6 +12,12 @@ pub mod path_record;
 pub mod range_record;
 mod times;
 
+// The lengths of a path's components, and how many there are; its bytes stay where they are.
+pub struct PathSizes {
+    pub lengths: [usize; 20],
+    pub count: usize,
+}
+
 // The tag of eight bits that eight bytes follow.
 const EIGHT_BYTES: u8 = 255;
 

@@ -1,12 +1,15 @@
 // A 3d range: subspace start, mark, end; path start, mark, end; times. The marks say that an end is open.
 ghost use mathlib.Core.Path.{_≡_};
+ghost use mathlib.Core.List.{_++_};
 ghost use Prim.Native.Nat.{_≤_};
 ghost use lib.ListN.{length};
-ghost use Rattle.flat.specs.RangeRecord.{noRange, subspacesFlat, pathsFlat, subspacesIn, pathsIn, rangeMarked, rangeIn, rangeFlat};
+ghost use Rattle.path.specs.Record.{pathOf};
+ghost use Rattle.flat.specs.PathRecord.{sizesOf, PathLong};
+ghost use Rattle.flat.specs.RangeRecord.{subspacesFlat, pathsFlat, subspacesIn, rangeMarked, rangeIn, rangeFlat};
+ghost use Rattle.flat.specs.Times.{timesFlat};
 ghost use Rattle.flat.specs.Puts.{Puts};
-use grouping::RangeEnd;
+use crate::PathSizes;
 use grouping::TimeRange;
-use range_3d::PathRange;
 use range_3d::Range3d;
 use range_3d::SubspaceRange;
 
@@ -26,29 +29,6 @@ const PATH_OPEN: usize = 706;
 const PATH_END: usize = 707;
 
 const TIMES: usize = 1348;
-
-// A 3d range that is not well formed, for bytes that are no range's.
-fn no_range() -> Range3d
-    ensures { λ r. ⌜ r ≡ noRange ⌝ }
-{
-    let path = crate::path_record::no_path();
-    Range3d {
-        subspaces: SubspaceRange {
-            start: [0u8; 32],
-            end_open: false,
-            end: [0u8; 32],
-        },
-        paths: PathRange {
-            start: path,
-            end_open: false,
-            end: path,
-        },
-        times: TimeRange {
-            start: 0,
-            end: RangeEnd::Closed(0),
-        },
-    }
-}
 
 // Whether every mark is one.
 fn marked(flat: &[u8]) -> bool
@@ -79,37 +59,48 @@ fn subspaces_in(flat: &[u8]) -> SubspaceRange
     }
 }
 
-// The paths of the range that starts with the first byte.
-fn paths_in(flat: &[u8]) -> PathRange
-    requires { ⌜ 1348 ≤ length (now flat) ⌝ }
-    ensures { λ r. ⌜ r ≡ pathsIn (now (flat .entry)) ⌝ }
+fn end_open_in(flat: &[u8]) -> bool
+    requires { ⌜ 1365 ≤ length (now flat) ⌝ }
+    ensures { λ r. ⌜ r ≡ rangeIn (now (flat .entry)) .paths .«end_open» ⌝ }
 {
-    let start = crate::path_record::path_in(&flat[PATH_START..]);
-    let end = crate::path_record::path_in(&flat[PATH_END..]);
-    PathRange {
-        start: start,
-        end_open: flat[PATH_OPEN] == 1,
-        end: end,
-    }
+    flat[PATH_OPEN] == 1
 }
 
-// The 3d range that starts with the first byte.
-fn range_in(flat: &[u8]) -> Range3d
+fn times_in(flat: &[u8]) -> TimeRange
     requires { ⌜ 1365 ≤ length (now flat) ⌝ }
-    ensures { λ r. ⌜ r ≡ rangeIn (now (flat .entry)) ⌝ }
+    ensures { λ r. ⌜ r ≡ rangeIn (now (flat .entry)) .times ⌝ }
+{
+    crate::times::times_in(&flat[TIMES..])
+}
+
+// A mark that is none shows as a count that no path has.
+fn start_sizes_in(flat: &[u8]) -> PathSizes
+    requires { ⌜ 1365 ≤ length (now flat) ⌝ }
+    ensures { λ r. ⌜ r ≡ sizesOf (rangeIn (now (flat .entry)) .paths .start) ⌝ }
 {
     let marked = marked(flat);
-    if !marked {
-        return no_range();
-    }
-    let subspaces = subspaces_in(flat);
-    let paths = paths_in(flat);
-    let times = crate::times::times_in(&flat[TIMES..]);
-    Range3d {
-        subspaces: subspaces,
-        paths: paths,
-        times: times,
-    }
+    crate::path_record::sizes_in(&flat[PATH_START..], marked)
+}
+
+fn end_sizes_in(flat: &[u8]) -> PathSizes
+    requires { ⌜ 1365 ≤ length (now flat) ⌝ }
+    ensures { λ r. ⌜ r ≡ sizesOf (rangeIn (now (flat .entry)) .paths .end) ⌝ }
+{
+    crate::path_record::sizes_in(&flat[PATH_END..], true)
+}
+
+fn start_bytes_in<'a>(flat: &'a [u8]) -> &'a [u8]
+    requires { ⌜ 1365 ≤ length (now flat) ⌝ }
+    ensures { λ r. ⌜ now r ≡ rangeIn (now (flat .entry)) .paths .start .bytes ⌝ }
+{
+    crate::path_record::bytes_in(&flat[PATH_START..])
+}
+
+fn end_bytes_in<'a>(flat: &'a [u8]) -> &'a [u8]
+    requires { ⌜ 1365 ≤ length (now flat) ⌝ }
+    ensures { λ r. ⌜ now r ≡ rangeIn (now (flat .entry)) .paths .end .bytes ⌝ }
+{
+    crate::path_record::bytes_in(&flat[PATH_END..])
 }
 
 fn put_subspaces(flat: &mut [u8], subspaces: SubspaceRange)
@@ -124,35 +115,111 @@ fn put_subspaces(flat: &mut [u8], subspaces: SubspaceRange)
 }
 
 // The paths, from the first byte on.
-fn put_paths(flat: &mut [u8], paths: PathRange)
-    requires { ⌜ 1283 ≤ length (now flat) ⌝ }
-    ensures { λ _. ⌜ Puts 1283 (pathsFlat paths) (now (flat .entry)) (now (flat .exit)) ⌝ }
+fn put_paths<'a>(
+    flat: &mut [u8],
+    start_bytes: &'a [u8],
+    start_lengths: &'a [usize],
+    start_count: usize,
+    end_open: bool,
+    end_bytes: &'a [u8],
+    end_lengths: &'a [usize],
+    end_count: usize,
+)
+    requires { ⌜ (1283 ≤ length (now flat)) × PathLong (now «start_bytes») (now «start_lengths») × PathLong (now «end_bytes») (now «end_lengths») ⌝ }
+    ensures { λ _. ⌜ Puts 1283 (pathsFlat (pathOf (now («start_bytes» .entry)) (now («start_lengths» .entry)) «start_count») «end_open» (pathOf (now («end_bytes» .entry)) (now («end_lengths» .entry)) «end_count»)) (now (flat .entry)) (now (flat .exit)) ⌝ }
 {
     let open = PATH_OPEN - PATH_START;
     let end = PATH_END - PATH_START;
-    crate::path_record::put_path(flat, paths.start);
-    flat[open] = codec::bit(paths.end_open);
-    crate::path_record::put_path(&mut flat[end..], paths.end);
+    crate::path_record::put_path(flat, start_bytes, start_lengths, start_count);
+    flat[open] = codec::bit(end_open);
+    crate::path_record::put_path(&mut flat[end..], end_bytes, end_lengths, end_count);
 }
 
 // Writes a 3d range from the first byte on.
-fn put_range(flat: &mut [u8], range: Range3d)
-    requires { ⌜ 1365 ≤ length (now flat) ⌝ }
-    ensures { λ _. ⌜ Puts 1365 (rangeFlat range) (now (flat .entry)) (now (flat .exit)) ⌝ }
+fn put_range<'a>(
+    flat: &mut [u8],
+    subspaces: SubspaceRange,
+    times: TimeRange,
+    start_bytes: &'a [u8],
+    start_lengths: &'a [usize],
+    start_count: usize,
+    end_open: bool,
+    end_bytes: &'a [u8],
+    end_lengths: &'a [usize],
+    end_count: usize,
+)
+    requires { ⌜ (1365 ≤ length (now flat)) × PathLong (now «start_bytes») (now «start_lengths») × PathLong (now «end_bytes») (now «end_lengths») ⌝ }
+    ensures { λ _. ⌜ Puts 1365 (subspacesFlat subspaces ++ (pathsFlat (pathOf (now («start_bytes» .entry)) (now («start_lengths» .entry)) «start_count») «end_open» (pathOf (now («end_bytes» .entry)) (now («end_lengths» .entry)) «end_count») ++ timesFlat times)) (now (flat .entry)) (now (flat .exit)) ⌝ }
 {
-    put_subspaces(flat, range.subspaces);
-    put_paths(&mut flat[PATH_START..], range.paths);
-    crate::times::put_times(&mut flat[TIMES..], range.times);
+    put_subspaces(flat, subspaces);
+    put_paths(
+        &mut flat[PATH_START..],
+        start_bytes,
+        start_lengths,
+        start_count,
+        end_open,
+        end_bytes,
+        end_lengths,
+        end_count,
+    );
+    crate::times::put_times(&mut flat[TIMES..], times);
 }
 
-pub fn load(flat: &[u8; SIZE]) -> Range3d
-    ensures { λ r. ⌜ r ≡ rangeIn (now (flat .entry)) ⌝ }
+pub fn subspaces(flat: &[u8; SIZE]) -> SubspaceRange
+    ensures { λ r. ⌜ r ≡ rangeIn (now (flat .entry)) .subspaces ⌝ }
 {
-    range_in(flat)
+    subspaces_in(flat)
+}
+
+pub fn end_open(flat: &[u8; SIZE]) -> bool
+    ensures { λ r. ⌜ r ≡ rangeIn (now (flat .entry)) .paths .«end_open» ⌝ }
+{
+    end_open_in(flat)
+}
+
+pub fn times(flat: &[u8; SIZE]) -> TimeRange
+    ensures { λ r. ⌜ r ≡ rangeIn (now (flat .entry)) .times ⌝ }
+{
+    times_in(flat)
+}
+
+pub fn start_sizes(flat: &[u8; SIZE]) -> PathSizes
+    ensures { λ r. ⌜ r ≡ sizesOf (rangeIn (now (flat .entry)) .paths .start) ⌝ }
+{
+    start_sizes_in(flat)
+}
+
+pub fn end_sizes(flat: &[u8; SIZE]) -> PathSizes
+    ensures { λ r. ⌜ r ≡ sizesOf (rangeIn (now (flat .entry)) .paths .end) ⌝ }
+{
+    end_sizes_in(flat)
+}
+
+pub fn start_bytes<'a>(flat: &'a [u8; SIZE]) -> &'a [u8]
+    ensures { λ r. ⌜ now r ≡ rangeIn (now (flat .entry)) .paths .start .bytes ⌝ }
+{
+    start_bytes_in(flat)
+}
+
+pub fn end_bytes<'a>(flat: &'a [u8; SIZE]) -> &'a [u8]
+    ensures { λ r. ⌜ now r ≡ rangeIn (now (flat .entry)) .paths .end .bytes ⌝ }
+{
+    end_bytes_in(flat)
 }
 
 pub fn store(flat: &mut [u8; SIZE], range: Range3d)
     ensures { λ _. ⌜ now (flat .exit) ≡ rangeFlat range ⌝ }
 {
-    put_range(flat, range);
+    put_range(
+        flat,
+        range.subspaces,
+        range.times,
+        &range.paths.start.bytes,
+        &range.paths.start.lengths,
+        range.paths.start.count,
+        range.paths.end_open,
+        &range.paths.end.bytes,
+        &range.paths.end.lengths,
+        range.paths.end.count,
+    );
 }

@@ -25,6 +25,11 @@ pub encodes : {A : Type 0} {f : Format A} {v : A} {lent left : List ℕ} {x : Ou
     → (x ≡ writeAnswer f v (length lent)) × (left ≡ writeBuffer f v lent) → Told x r n → Encodes f v lent left r n
 encodes e t = record { told = told-as t (e .0); buffer = e .1 }
 
+-- the same of what the flat bytes stand for
+pub encodes-of : {A R : Type 0} (f : R → Format A) {r q : R} {v w : A} {lent left : List ℕ} {x : Outcome} {code n : ℕ} → r ≡ q → v ≡ w
+    → (x ≡ writeAnswer (f r) v (length lent)) × (left ≡ writeBuffer (f r) v lent) → Told x code n → Encodes (f q) w lent left code n
+encodes-of f er ev e t = rw (er, ev) at (encodes {f = f _} {v = _} e t)
+
 -- ---- reading
 module _ {A B : Type 0} (store : A → B) (a : A) {lent : B} where
   pub stores-refused : (d : Decoded) → OneOf (1 ∷ 2 ∷ 3 ∷ []) (declared.tagOf Rattle.codec.proofs.Decoded.the-type d) → {r : ℕ} → r ≡ readCode (answerOf {A = ℕ} d 0) → Stores store (answerOf d a) lent lent r 0

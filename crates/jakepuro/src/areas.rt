@@ -8,49 +8,81 @@ ghost use Rattle.jakepuro.specs.Calls.{Encodes, Told, Stores};
 
 // Writes an area against a reference.
 #[no_mangle]
-pub extern "C" fn jakepuro_area_area_encode(
+pub extern "C" fn jakepuro_area_area_encode<'a>(
     buffer: &mut [u8],
-    area: &[u8; 691],
-    reference: &[u8; 691],
+    area: &'a [u8; 691],
+    reference: &'a [u8; 691],
     written: &mut usize,
 ) -> u8
     ensures { λ r. ⌜ Encodes (againstArea (areaIn (now (reference .entry)))) (areaIn (now (area .entry))) (now (buffer .entry)) (now (buffer .exit)) r (now (written .exit)) ⌝ }
 {
-    let value = flat::area_record::load(area);
-    let against = flat::area_record::load(reference);
-    let answer = area_area::relative_encode(buffer, value, against);
+    let sizes = flat::area_record::path_sizes(area);
+    let of = flat::area_record::path_sizes(reference);
+    let answer = area_area::parts::relative_encode(
+        buffer,
+        flat::area_record::subspace(area),
+        flat::area_record::times(area),
+        flat::area_record::path_bytes(area),
+        &sizes.lengths,
+        sizes.count,
+        flat::area_record::subspace(reference),
+        flat::area_record::times(reference),
+        flat::area_record::path_bytes(reference),
+        &of.lengths,
+        of.count,
+    );
     crate::answers::tell_length(answer, written)
 }
 
 // How many bytes that takes.
 #[no_mangle]
-pub extern "C" fn jakepuro_area_area_len_of_encoding(
-    area: &[u8; 691],
-    reference: &[u8; 691],
+pub extern "C" fn jakepuro_area_area_len_of_encoding<'a>(
+    area: &'a [u8; 691],
+    reference: &'a [u8; 691],
     length: &mut usize,
 ) -> u8
     ensures { λ r. ⌜ Told (lengthAnswer (againstArea (areaIn (now (reference .entry)))) (areaIn (now (area .entry)))) r (now (length .exit)) ⌝ }
 {
-    let value = flat::area_record::load(area);
-    let against = flat::area_record::load(reference);
-    let answer = area_area::relative_len_of_encoding(value, against);
+    let sizes = flat::area_record::path_sizes(area);
+    let of = flat::area_record::path_sizes(reference);
+    let answer = area_area::parts::relative_len_of_encoding(
+        flat::area_record::subspace(area),
+        flat::area_record::times(area),
+        flat::area_record::path_bytes(area),
+        &sizes.lengths,
+        sizes.count,
+        flat::area_record::subspace(reference),
+        flat::area_record::times(reference),
+        flat::area_record::path_bytes(reference),
+        &of.lengths,
+        of.count,
+    );
     crate::answers::tell_length(answer, length)
 }
 
 // Reads an area against a reference.
 #[no_mangle]
-pub extern "C" fn jakepuro_area_area_decode(
-    message: &[u8],
+pub extern "C" fn jakepuro_area_area_decode<'a>(
+    message: &'a [u8],
     start: usize,
     canonic: bool,
-    reference: &[u8; 691],
+    reference: &'a [u8; 691],
     area: &mut [u8; 691],
     consumed: &mut usize,
 ) -> u8
     ensures { λ r. ⌜ Stores areaFlat (readAgainstArea canonic (areaIn (now (reference .entry))) (drop start (now (message .entry)))) (now (area .entry)) (now (area .exit)) r (now (consumed .exit)) ⌝ }
 {
-    let against = flat::area_record::load(reference);
-    let read = area_area::relative_decode(message, start, canonic, against);
+    let of = flat::area_record::path_sizes(reference);
+    let read = area_area::parts::relative_decode(
+        message,
+        start,
+        canonic,
+        flat::area_record::subspace(reference),
+        flat::area_record::times(reference),
+        flat::area_record::path_bytes(reference),
+        &of.lengths,
+        of.count,
+    );
     let answer = read.answer;
     let value = read.area;
     crate::answers::give_area(answer, value, area, consumed)

@@ -10,55 +10,90 @@ ghost use Rattle.jakepuro.specs.Calls.{Encodes, Told, Stores};
 
 // Writes an entry against a namespace and an area.
 #[no_mangle]
-pub extern "C" fn jakepuro_entry_area_encode(
+pub extern "C" fn jakepuro_entry_area_encode<'a>(
     buffer: &mut [u8],
-    entry: &[u8; 753],
+    entry: &'a [u8; 753],
     namespace: &[u8; 32],
-    area: &[u8; 691],
+    area: &'a [u8; 691],
     written: &mut usize,
 ) -> u8
     ensures { λ r. ⌜ Encodes (againstNamespaceArea (now (namespace .entry)) (areaIn (now (area .entry)))) (entryIn (now (entry .entry))) (now (buffer .entry)) (now (buffer .exit)) r (now (written .exit)) ⌝ }
 {
-    let value = flat::entry_record::load(entry);
+    let fields = flat::entry_record::fields(entry);
+    let sizes = flat::entry_record::path_sizes(entry);
     let space = *namespace;
-    let against = flat::area_record::load(area);
-    let answer = entry_area::relative_encode(buffer, value, space, against);
+    let of = flat::area_record::path_sizes(area);
+    let answer = entry_area::parts::relative_encode(
+        buffer,
+        fields,
+        flat::entry_record::path_bytes(entry),
+        &sizes.lengths,
+        sizes.count,
+        space,
+        flat::area_record::subspace(area),
+        flat::area_record::times(area),
+        flat::area_record::path_bytes(area),
+        &of.lengths,
+        of.count,
+    );
     crate::answers::tell_length(answer, written)
 }
 
 // How many bytes that takes.
 #[no_mangle]
-pub extern "C" fn jakepuro_entry_area_len_of_encoding(
-    entry: &[u8; 753],
+pub extern "C" fn jakepuro_entry_area_len_of_encoding<'a>(
+    entry: &'a [u8; 753],
     namespace: &[u8; 32],
-    area: &[u8; 691],
+    area: &'a [u8; 691],
     length: &mut usize,
 ) -> u8
     ensures { λ r. ⌜ Told (lengthAnswer (againstNamespaceArea (now (namespace .entry)) (areaIn (now (area .entry)))) (entryIn (now (entry .entry)))) r (now (length .exit)) ⌝ }
 {
-    let value = flat::entry_record::load(entry);
+    let fields = flat::entry_record::fields(entry);
+    let sizes = flat::entry_record::path_sizes(entry);
     let space = *namespace;
-    let against = flat::area_record::load(area);
-    let answer = entry_area::relative_len_of_encoding(value, space, against);
+    let of = flat::area_record::path_sizes(area);
+    let answer = entry_area::parts::relative_len_of_encoding(
+        fields,
+        flat::entry_record::path_bytes(entry),
+        &sizes.lengths,
+        sizes.count,
+        space,
+        flat::area_record::subspace(area),
+        flat::area_record::times(area),
+        flat::area_record::path_bytes(area),
+        &of.lengths,
+        of.count,
+    );
     crate::answers::tell_length(answer, length)
 }
 
 // Reads an entry against a namespace and an area.
 #[no_mangle]
-pub extern "C" fn jakepuro_entry_area_decode(
-    message: &[u8],
+pub extern "C" fn jakepuro_entry_area_decode<'a>(
+    message: &'a [u8],
     start: usize,
     canonic: bool,
     namespace: &[u8; 32],
-    area: &[u8; 691],
+    area: &'a [u8; 691],
     entry: &mut [u8; 753],
     consumed: &mut usize,
 ) -> u8
     ensures { λ r. ⌜ Stores entryFlat (readAgainstNamespaceArea canonic (now (namespace .entry)) (areaIn (now (area .entry))) (drop start (now (message .entry)))) (now (entry .entry)) (now (entry .exit)) r (now (consumed .exit)) ⌝ }
 {
     let space = *namespace;
-    let against = flat::area_record::load(area);
-    let read = entry_area::relative_decode(message, start, canonic, space, against);
+    let of = flat::area_record::path_sizes(area);
+    let read = entry_area::parts::relative_decode(
+        message,
+        start,
+        canonic,
+        space,
+        flat::area_record::subspace(area),
+        flat::area_record::times(area),
+        flat::area_record::path_bytes(area),
+        &of.lengths,
+        of.count,
+    );
     let answer = read.answer;
     let value = read.entry;
     crate::answers::give_entry(answer, value, entry, consumed)
@@ -66,48 +101,79 @@ pub extern "C" fn jakepuro_entry_area_decode(
 
 // Writes an entry against an entry.
 #[no_mangle]
-pub extern "C" fn jakepuro_entry_entry_encode(
+pub extern "C" fn jakepuro_entry_entry_encode<'a>(
     buffer: &mut [u8],
-    entry: &[u8; 753],
-    reference: &[u8; 753],
+    entry: &'a [u8; 753],
+    reference: &'a [u8; 753],
     written: &mut usize,
 ) -> u8
     ensures { λ r. ⌜ Encodes (againstEntry (entryIn (now (reference .entry)))) (entryIn (now (entry .entry))) (now (buffer .entry)) (now (buffer .exit)) r (now (written .exit)) ⌝ }
 {
-    let value = flat::entry_record::load(entry);
-    let against = flat::entry_record::load(reference);
-    let answer = entry_entry::relative_encode(buffer, value, against);
+    let fields = flat::entry_record::fields(entry);
+    let sizes = flat::entry_record::path_sizes(entry);
+    let of = flat::entry_record::fields(reference);
+    let of_sizes = flat::entry_record::path_sizes(reference);
+    let answer = entry_entry::parts::relative_encode(
+        buffer,
+        fields,
+        flat::entry_record::path_bytes(entry),
+        &sizes.lengths,
+        sizes.count,
+        of,
+        flat::entry_record::path_bytes(reference),
+        &of_sizes.lengths,
+        of_sizes.count,
+    );
     crate::answers::tell_length(answer, written)
 }
 
 // How many bytes that takes.
 #[no_mangle]
-pub extern "C" fn jakepuro_entry_entry_len_of_encoding(
-    entry: &[u8; 753],
-    reference: &[u8; 753],
+pub extern "C" fn jakepuro_entry_entry_len_of_encoding<'a>(
+    entry: &'a [u8; 753],
+    reference: &'a [u8; 753],
     length: &mut usize,
 ) -> u8
     ensures { λ r. ⌜ Told (lengthAnswer (againstEntry (entryIn (now (reference .entry)))) (entryIn (now (entry .entry)))) r (now (length .exit)) ⌝ }
 {
-    let value = flat::entry_record::load(entry);
-    let against = flat::entry_record::load(reference);
-    let answer = entry_entry::relative_len_of_encoding(value, against);
+    let fields = flat::entry_record::fields(entry);
+    let sizes = flat::entry_record::path_sizes(entry);
+    let of = flat::entry_record::fields(reference);
+    let of_sizes = flat::entry_record::path_sizes(reference);
+    let answer = entry_entry::parts::relative_len_of_encoding(
+        fields,
+        flat::entry_record::path_bytes(entry),
+        &sizes.lengths,
+        sizes.count,
+        of,
+        flat::entry_record::path_bytes(reference),
+        &of_sizes.lengths,
+        of_sizes.count,
+    );
     crate::answers::tell_length(answer, length)
 }
 
 // Reads an entry against an entry.
 #[no_mangle]
-pub extern "C" fn jakepuro_entry_entry_decode(
-    message: &[u8],
+pub extern "C" fn jakepuro_entry_entry_decode<'a>(
+    message: &'a [u8],
     start: usize,
-    reference: &[u8; 753],
+    reference: &'a [u8; 753],
     entry: &mut [u8; 753],
     consumed: &mut usize,
 ) -> u8
     ensures { λ r. ⌜ Stores entryFlat (readAgainstEntry (entryIn (now (reference .entry))) (drop start (now (message .entry)))) (now (entry .entry)) (now (entry .exit)) r (now (consumed .exit)) ⌝ }
 {
-    let against = flat::entry_record::load(reference);
-    let read = entry_entry::relative_decode(message, start, against);
+    let of = flat::entry_record::fields(reference);
+    let of_sizes = flat::entry_record::path_sizes(reference);
+    let read = entry_entry::parts::relative_decode(
+        message,
+        start,
+        of,
+        flat::entry_record::path_bytes(reference),
+        &of_sizes.lengths,
+        of_sizes.count,
+    );
     let answer = read.answer;
     let value = read.entry;
     crate::answers::give_entry(answer, value, entry, consumed)

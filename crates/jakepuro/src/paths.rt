@@ -16,8 +16,9 @@ pub extern "C" fn jakepuro_path_encode(
 ) -> u8
     ensures { λ r. ⌜ Encodes (plainPath) (pathIn (now (path .entry))) (now (buffer .entry)) (now (buffer .exit)) r (now (written .exit)) ⌝ }
 {
-    let value = flat::path_record::load(path);
-    let answer = path_codec::encode(buffer, value);
+    let sizes = flat::path_record::sizes(path);
+    let bytes = flat::path_record::bytes(path);
+    let answer = path_codec::parts::encode(buffer, bytes, &sizes.lengths, sizes.count);
     crate::answers::tell_length(answer, written)
 }
 
@@ -26,8 +27,9 @@ pub extern "C" fn jakepuro_path_encode(
 pub extern "C" fn jakepuro_path_len_of_encoding(path: &[u8; 641], length: &mut usize) -> u8
     ensures { λ r. ⌜ Told (lengthAnswer (plainPath) (pathIn (now (path .entry)))) r (now (length .exit)) ⌝ }
 {
-    let value = flat::path_record::load(path);
-    let answer = path_codec::len_of_encoding(value);
+    let sizes = flat::path_record::sizes(path);
+    let bytes = flat::path_record::bytes(path);
+    let answer = path_codec::parts::len_of_encoding(bytes, &sizes.lengths, sizes.count);
     crate::answers::tell_length(answer, length)
 }
 
@@ -50,49 +52,72 @@ pub extern "C" fn jakepuro_path_decode(
 
 // Writes a path against a reference.
 #[no_mangle]
-pub extern "C" fn jakepuro_path_path_encode(
+pub extern "C" fn jakepuro_path_path_encode<'a>(
     buffer: &mut [u8],
-    path: &[u8; 641],
-    reference: &[u8; 641],
+    path: &'a [u8; 641],
+    reference: &'a [u8; 641],
     written: &mut usize,
 ) -> u8
     ensures { λ r. ⌜ Encodes (againstPath (pathIn (now (reference .entry)))) (pathIn (now (path .entry))) (now (buffer .entry)) (now (buffer .exit)) r (now (written .exit)) ⌝ }
 {
-    let value = flat::path_record::load(path);
-    let against = flat::path_record::load(reference);
-    let answer = path_relative::relative_encode(buffer, value, against);
+    let sizes = flat::path_record::sizes(path);
+    let of = flat::path_record::sizes(reference);
+    let answer = path_relative::parts::relative_encode(
+        buffer,
+        flat::path_record::bytes(path),
+        &sizes.lengths,
+        sizes.count,
+        flat::path_record::bytes(reference),
+        &of.lengths,
+        of.count,
+    );
     crate::answers::tell_length(answer, written)
 }
 
 // How many bytes that takes.
 #[no_mangle]
-pub extern "C" fn jakepuro_path_path_len_of_encoding(
-    path: &[u8; 641],
-    reference: &[u8; 641],
+pub extern "C" fn jakepuro_path_path_len_of_encoding<'a>(
+    path: &'a [u8; 641],
+    reference: &'a [u8; 641],
     length: &mut usize,
 ) -> u8
     ensures { λ r. ⌜ Told (lengthAnswer (againstPath (pathIn (now (reference .entry)))) (pathIn (now (path .entry)))) r (now (length .exit)) ⌝ }
 {
-    let value = flat::path_record::load(path);
-    let against = flat::path_record::load(reference);
-    let answer = path_relative::relative_len_of_encoding(value, against);
+    let sizes = flat::path_record::sizes(path);
+    let of = flat::path_record::sizes(reference);
+    let answer = path_relative::parts::relative_len_of_encoding(
+        flat::path_record::bytes(path),
+        &sizes.lengths,
+        sizes.count,
+        flat::path_record::bytes(reference),
+        &of.lengths,
+        of.count,
+    );
     crate::answers::tell_length(answer, length)
 }
 
 // Reads a path against a reference.
 #[no_mangle]
-pub extern "C" fn jakepuro_path_path_decode(
-    message: &[u8],
+pub extern "C" fn jakepuro_path_path_decode<'a>(
+    message: &'a [u8],
     start: usize,
     canonic: bool,
-    reference: &[u8; 641],
+    reference: &'a [u8; 641],
     path: &mut [u8; 641],
     consumed: &mut usize,
 ) -> u8
     ensures { λ r. ⌜ Stores pathFlat (readAgainstPath canonic (pathIn (now (reference .entry))) (drop start (now (message .entry)))) (now (path .entry)) (now (path .exit)) r (now (consumed .exit)) ⌝ }
 {
-    let against = flat::path_record::load(reference);
-    let read = path_relative::relative_decode(message, start, canonic, against);
+    let of = flat::path_record::sizes(reference);
+    let bytes = flat::path_record::bytes(reference);
+    let read = path_relative::path_decode::relative_decode(
+        message,
+        start,
+        canonic,
+        bytes,
+        &of.lengths,
+        of.count,
+    );
     let answer = read.answer;
     let value = read.path;
     crate::answers::give_path(answer, value, path, consumed)
@@ -100,49 +125,72 @@ pub extern "C" fn jakepuro_path_path_decode(
 
 // Writes a path as an extension of another.
 #[no_mangle]
-pub extern "C" fn jakepuro_path_extends_encode(
+pub extern "C" fn jakepuro_path_extends_encode<'a>(
     buffer: &mut [u8],
-    path: &[u8; 641],
-    extends: &[u8; 641],
+    path: &'a [u8; 641],
+    extends: &'a [u8; 641],
     written: &mut usize,
 ) -> u8
     ensures { λ r. ⌜ Encodes (extendsPath (pathIn (now (extends .entry)))) (pathIn (now (path .entry))) (now (buffer .entry)) (now (buffer .exit)) r (now (written .exit)) ⌝ }
 {
-    let value = flat::path_record::load(path);
-    let prefix = flat::path_record::load(extends);
-    let answer = path_relative::encode_path_extends_path(buffer, value, prefix);
+    let sizes = flat::path_record::sizes(path);
+    let of = flat::path_record::sizes(extends);
+    let answer = path_relative::parts::encode_path_extends_path(
+        buffer,
+        flat::path_record::bytes(path),
+        &sizes.lengths,
+        sizes.count,
+        flat::path_record::bytes(extends),
+        &of.lengths,
+        of.count,
+    );
     crate::answers::tell_length(answer, written)
 }
 
 // How many bytes that takes.
 #[no_mangle]
-pub extern "C" fn jakepuro_path_extends_len_of_encoding(
-    path: &[u8; 641],
-    extends: &[u8; 641],
+pub extern "C" fn jakepuro_path_extends_len_of_encoding<'a>(
+    path: &'a [u8; 641],
+    extends: &'a [u8; 641],
     length: &mut usize,
 ) -> u8
     ensures { λ r. ⌜ Told (lengthAnswer (extendsPath (pathIn (now (extends .entry)))) (pathIn (now (path .entry)))) r (now (length .exit)) ⌝ }
 {
-    let value = flat::path_record::load(path);
-    let prefix = flat::path_record::load(extends);
-    let answer = path_relative::path_extends_path_encoding_len(value, prefix);
+    let sizes = flat::path_record::sizes(path);
+    let of = flat::path_record::sizes(extends);
+    let answer = path_relative::parts::path_extends_path_encoding_len(
+        flat::path_record::bytes(path),
+        &sizes.lengths,
+        sizes.count,
+        flat::path_record::bytes(extends),
+        &of.lengths,
+        of.count,
+    );
     crate::answers::tell_length(answer, length)
 }
 
 // Reads a path as an extension of another.
 #[no_mangle]
-pub extern "C" fn jakepuro_path_extends_decode(
-    message: &[u8],
+pub extern "C" fn jakepuro_path_extends_decode<'a>(
+    message: &'a [u8],
     start: usize,
     canonic: bool,
-    extends: &[u8; 641],
+    extends: &'a [u8; 641],
     path: &mut [u8; 641],
     consumed: &mut usize,
 ) -> u8
     ensures { λ r. ⌜ Stores pathFlat (readExtendsPath canonic (pathIn (now (extends .entry))) (drop start (now (message .entry)))) (now (path .entry)) (now (path .exit)) r (now (consumed .exit)) ⌝ }
 {
-    let prefix = flat::path_record::load(extends);
-    let read = path_relative::decode_path_extends_path(message, start, canonic, prefix);
+    let of = flat::path_record::sizes(extends);
+    let bytes = flat::path_record::bytes(extends);
+    let read = path_relative::path_decode::decode_path_extends_path(
+        message,
+        start,
+        canonic,
+        bytes,
+        &of.lengths,
+        of.count,
+    );
     let answer = read.answer;
     let value = read.path;
     crate::answers::give_path(answer, value, path, consumed)

@@ -8,48 +8,104 @@ ghost use Rattle.jakepuro.specs.Calls.{Encodes, Told, Stores};
 
 // Writes a 3d range against a 3d range.
 #[no_mangle]
-pub extern "C" fn jakepuro_range3d_range3d_encode(
+pub extern "C" fn jakepuro_range3d_range3d_encode<'a>(
     buffer: &mut [u8],
-    range: &[u8; 1365],
-    reference: &[u8; 1365],
+    range: &'a [u8; 1365],
+    reference: &'a [u8; 1365],
     written: &mut usize,
 ) -> u8
     ensures { λ r. ⌜ Encodes (againstRange (rangeIn (now (reference .entry)))) (rangeIn (now (range .entry))) (now (buffer .entry)) (now (buffer .exit)) r (now (written .exit)) ⌝ }
 {
-    let value = flat::range_record::load(range);
-    let against = flat::range_record::load(reference);
-    let answer = range3d_range3d::relative_encode(buffer, value, against);
+    let start = flat::range_record::start_sizes(range);
+    let end = flat::range_record::end_sizes(range);
+    let of_start = flat::range_record::start_sizes(reference);
+    let of_end = flat::range_record::end_sizes(reference);
+    let answer = range3d_range3d::parts::relative_encode(
+        buffer,
+        flat::range_record::subspaces(range),
+        flat::range_record::start_bytes(range),
+        &start.lengths,
+        start.count,
+        flat::range_record::end_open(range),
+        flat::range_record::end_bytes(range),
+        &end.lengths,
+        end.count,
+        flat::range_record::times(range),
+        flat::range_record::subspaces(reference),
+        flat::range_record::start_bytes(reference),
+        &of_start.lengths,
+        of_start.count,
+        flat::range_record::end_open(reference),
+        flat::range_record::end_bytes(reference),
+        &of_end.lengths,
+        of_end.count,
+        flat::range_record::times(reference),
+    );
     crate::answers::tell_length(answer, written)
 }
 
 // How many bytes that takes.
 #[no_mangle]
-pub extern "C" fn jakepuro_range3d_range3d_len_of_encoding(
-    range: &[u8; 1365],
-    reference: &[u8; 1365],
+pub extern "C" fn jakepuro_range3d_range3d_len_of_encoding<'a>(
+    range: &'a [u8; 1365],
+    reference: &'a [u8; 1365],
     length: &mut usize,
 ) -> u8
     ensures { λ r. ⌜ Told (lengthAnswer (againstRange (rangeIn (now (reference .entry)))) (rangeIn (now (range .entry)))) r (now (length .exit)) ⌝ }
 {
-    let value = flat::range_record::load(range);
-    let against = flat::range_record::load(reference);
-    let answer = range3d_range3d::relative_len_of_encoding(value, against);
+    let start = flat::range_record::start_sizes(range);
+    let end = flat::range_record::end_sizes(range);
+    let of_start = flat::range_record::start_sizes(reference);
+    let of_end = flat::range_record::end_sizes(reference);
+    let answer = range3d_range3d::parts::relative_len_of_encoding(
+        flat::range_record::subspaces(range),
+        flat::range_record::start_bytes(range),
+        &start.lengths,
+        start.count,
+        flat::range_record::end_open(range),
+        flat::range_record::end_bytes(range),
+        &end.lengths,
+        end.count,
+        flat::range_record::times(range),
+        flat::range_record::subspaces(reference),
+        flat::range_record::start_bytes(reference),
+        &of_start.lengths,
+        of_start.count,
+        flat::range_record::end_open(reference),
+        flat::range_record::end_bytes(reference),
+        &of_end.lengths,
+        of_end.count,
+        flat::range_record::times(reference),
+    );
     crate::answers::tell_length(answer, length)
 }
 
 // Reads a 3d range against a 3d range.
 #[no_mangle]
-pub extern "C" fn jakepuro_range3d_range3d_decode(
-    message: &[u8],
+pub extern "C" fn jakepuro_range3d_range3d_decode<'a>(
+    message: &'a [u8],
     start: usize,
-    reference: &[u8; 1365],
+    reference: &'a [u8; 1365],
     range: &mut [u8; 1365],
     consumed: &mut usize,
 ) -> u8
     ensures { λ r. ⌜ Stores rangeFlat (readAgainstRange (rangeIn (now (reference .entry))) (drop start (now (message .entry)))) (now (range .entry)) (now (range .exit)) r (now (consumed .exit)) ⌝ }
 {
-    let against = flat::range_record::load(reference);
-    let read = range3d_range3d::relative_decode(message, start, against);
+    let of_start = flat::range_record::start_sizes(reference);
+    let of_end = flat::range_record::end_sizes(reference);
+    let read = range3d_range3d::parts::relative_decode(
+        message,
+        start,
+        flat::range_record::subspaces(reference),
+        flat::range_record::start_bytes(reference),
+        &of_start.lengths,
+        of_start.count,
+        flat::range_record::end_open(reference),
+        flat::range_record::end_bytes(reference),
+        &of_end.lengths,
+        of_end.count,
+        flat::range_record::times(reference),
+    );
     let answer = read.answer;
     let value = read.range;
     crate::answers::give_range(answer, value, range, consumed)

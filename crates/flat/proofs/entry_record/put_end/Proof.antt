@@ -1,8 +1,8 @@
-use Rattle.compact_u64.specs.BigEndian.{bigEndian}
 use mathlib.Core.List.{append-assoc}
 use native.Mathlib.Omega.{arith}
+use Rattle.compact_u64.specs.BigEndian.{bigEndian}
+use Rattle.entry.proofs.Typed.{digest-long}
 use Rattle.flat.proofs.Puts.{puts-put, puts-number, puts-tail, puts-as, room-after}
-use Rattle.entry.proofs.Typed.{typed-entry}
 use borrow.Author.Needs.{needs}
 use Rattle.flat.proofs.entry_record.put_end.Statement.{statement}
 use Rattle.flat.proofs.entry_record.put_end.Tie as tie
@@ -31,9 +31,6 @@ part-put-bytes-start c = search needs
 part-put-bytes-end : tie.Need-part-put-bytes-end
 part-put-bytes-end c = search needs
 
-slice-aggregate-put-bytes : tie.Need-slice-aggregate-put-bytes
-slice-aggregate-put-bytes c = search needs
-
 put-bytes-requires : tie.Need-put-bytes-requires
 put-bytes-requires c κs = search needs
 
@@ -42,13 +39,12 @@ same-length c = search needs
 
 returns : tie.Need-returns
 returns c =
-    let s = c .before .before .before .before .before .before .before .before .before .before .before .before .before .before .before in
-    let e = s .args .entry in
-    let t = typed-entry e (s .good .1 .0) in
-    let first = puts-number 8 (e .timestamp) (omega (arith, s .pre)) (c .before .before .before .before .before .before .before .before .before .before .before .put-big-endian .ensures .1) in
-    let second = puts-tail first (puts-number 8 (e .«payload_length») (room-after first 8 (omega (arith, s .pre))) (c .before .before .before .before .before .before .before .put-big-endian2 .ensures .1)) in
-    let whole = puts-tail second (puts-put 32 (t .digest .0) (room-after second 32 (s .pre)) (c .before .before .put-bytes .ensures .1)) in
-    puts-as whole (append-assoc (bigEndian 8 (e .timestamp)) (bigEndian 8 (e .«payload_length»)) (e .«payload_digest»))
+    let s = c .before .before .before .before .before .before .before .before .before .before .before .before .before .before .before .before in
+    let f = s .args .t2 in
+    let first = puts-number 8 (f .timestamp) (omega (arith, s .pre)) (c .before .before .before .before .before .before .before .before .before .before .before .before .before .put-big-endian .ensures .1) in
+    let second = puts-tail first (puts-number 8 (f .«payload_length») (room-after first 8 (omega (arith, s .pre))) (c .before .before .before .before .before .before .before .before .before .put-big-endian2 .ensures .1)) in
+    let whole = puts-tail second (puts-put 32 (digest-long f (s .good .1 .0)) (room-after second 32 (s .pre)) (c .before .before .put-bytes .ensures .1)) in
+    puts-as whole (append-assoc (bigEndian 8 (f .timestamp)) (bigEndian 8 (f .«payload_length»)) (f .«payload_digest»))
 
 pub put-end-spec : {M : Type 1} → statement M
 put-end-spec =
@@ -62,7 +58,6 @@ put-end-spec =
     sub-put-bytes
     part-put-bytes-start
     part-put-bytes-end
-    slice-aggregate-put-bytes
     put-bytes-requires
     same-length
     returns)

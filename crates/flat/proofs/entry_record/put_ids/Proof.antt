@@ -1,12 +1,9 @@
 use native.Mathlib.Omega.{arith}
+use Rattle.entry.proofs.Typed.{namespace-long, subspace-long}
 use Rattle.flat.proofs.Puts.{puts-put, puts-tail, room-after}
-use Rattle.entry.proofs.Typed.{typed-entry}
 use borrow.Author.Needs.{needs}
 use Rattle.flat.proofs.entry_record.put_ids.Statement.{statement}
 use Rattle.flat.proofs.entry_record.put_ids.Tie as tie
-
-slice-aggregate-put-bytes : tie.Need-slice-aggregate-put-bytes
-slice-aggregate-put-bytes c = search needs
 
 put-bytes-requires : tie.Need-put-bytes-requires
 put-bytes-requires c κs = search needs
@@ -20,9 +17,6 @@ part-put-bytes-start c = search needs
 part-put-bytes-end : tie.Need-part-put-bytes-end
 part-put-bytes-end c = search needs
 
-slice-aggregate-put-bytes-2 : tie.Need-slice-aggregate-put-bytes-2
-slice-aggregate-put-bytes-2 c = search needs
-
 put-bytes-requires-2 : tie.Need-put-bytes-requires-2
 put-bytes-requires-2 c κs = search needs
 
@@ -31,21 +25,18 @@ same-length c = search needs
 
 returns : tie.Need-returns
 returns c =
-    let s = c .before .before .before .before .before .before .before .before .before .before .before .before .before in
-    let t = typed-entry (s .args .entry) (s .good .1 .0) in
-    let first = puts-put 32 (t .namespace .0) (omega (arith, s .pre)) (c .before .before .before .before .before .before .before .put-bytes .ensures .1) in
-    puts-tail first (puts-put 32 (t .subspace .0) (room-after first 32 (s .pre)) (c .before .before .put-bytes2 .ensures .1))
+    let s = c .before .before .before .before .before .before .before .before .before .before .before .before .before .before .before in
+    let first = puts-put 32 (namespace-long (s .args .t2) (s .good .1 .0)) (omega (arith, s .pre)) (c .before .before .before .before .before .before .before .before .before .put-bytes .ensures .1) in
+    puts-tail first (puts-put 32 (subspace-long (s .args .t2) (s .good .1 .0)) (room-after first 32 (s .pre)) (c .before .before .put-bytes2 .ensures .1))
 
 pub put-ids-spec : {M : Type 1} → statement M
 put-ids-spec =
     tie.close
     (tie.spec
-    slice-aggregate-put-bytes
     put-bytes-requires
     sub-put-bytes
     part-put-bytes-start
     part-put-bytes-end
-    slice-aggregate-put-bytes-2
     put-bytes-requires-2
     same-length
     returns)

@@ -1,10 +1,10 @@
 use mathlib.Core.Path.{_≡_, refl}
-use native.Mathlib.Omega.{arith}
 use Prim.Native.Nat.{_*_, _-_, _≤_}
+use native.Mathlib.Omega.{arith}
+use denote.Ref.{now}
 use lib.ListN.{take, getD}
-use borrow.Author.Needs.{needs}
 use lib.Seq.{take-all}
-use Rattle.path.proofs.Typed.{typed}
+use borrow.Author.Needs.{needs}
 use Rattle.flat.specs.PathRecord.{shorts}
 use Rattle.flat.specs.Puts.{Puts}
 use Rattle.flat.proofs.Puts.{puts-number, puts-long, puts-tail, puts-as, room-after}
@@ -13,19 +13,19 @@ use Rattle.flat.proofs.path_record.put_lengths.Statement.{statement}
 use Rattle.flat.proofs.path_record.put_lengths.Tie as tie
 
 abbrev Inv-loop : tie.InvT-loop
-Inv-loop flat₀ path at₀ i₀ flat at i = (i ≤ 20) × (at ≡ 2 * i) × Puts at (shorts (take i (path .lengths))) flat₀ flat
+Inv-loop flat₀ lengths at₀ i₀ flat at i = (i ≤ 20) × (at ≡ 2 * i) × Puts at (shorts (take i lengths)) flat₀ flat
 
 abbrev μ-loop : tie.MeasureT-loop
-μ-loop flat₀ path at₀ i₀ flat at i = 20 - i
+μ-loop flat₀ lengths at₀ i₀ flat at i = 20 - i
 
 loop-holds : tie.Need-loop-holds Inv-loop μ-loop
 loop-holds c = (omega arith, refl, record { long = refl; is = refl })
 
 sub-put-big-endian : tie.Need-sub-put-big-endian Inv-loop μ-loop
-sub-put-big-endian c = omega (arith, c .before .before .before .pre, puts-long (c .before .loop .inv .2) (omega (arith, c .before .before .before .pre)))
+sub-put-big-endian c = omega (arith, c .before .before .before .before .pre, puts-long (c .before .loop .inv .2) (omega (arith, c .before .before .before .before .pre)))
 
 part-put-big-endian-start : tie.Need-part-put-big-endian-start Inv-loop μ-loop
-part-put-big-endian-start c = omega (arith, c .before .before .before .pre, puts-long (c .before .loop .inv .2) (omega (arith, c .before .before .before .pre)))
+part-put-big-endian-start c = omega (arith, c .before .before .before .before .pre, puts-long (c .before .loop .inv .2) (omega (arith, c .before .before .before .before .pre)))
 
 part-put-big-endian-end : tie.Need-part-put-big-endian-end Inv-loop μ-loop
 part-put-big-endian-end c = search needs
@@ -33,8 +33,8 @@ part-put-big-endian-end c = search needs
 mul-put-big-endian : tie.Need-mul-put-big-endian Inv-loop μ-loop
 mul-put-big-endian c = search needs
 
-element-copy-out-put-big-endian : tie.Need-element-copy-out-put-big-endian Inv-loop μ-loop
-element-copy-out-put-big-endian c = search needs
+shared-slice-read-put-big-endian : tie.Need-shared-slice-read-put-big-endian Inv-loop μ-loop
+shared-slice-read-put-big-endian c = omega (arith, c .before .before .before .before .before .before .pre .1)
 
 put-big-endian-requires : tie.Need-put-big-endian-requires Inv-loop μ-loop
 put-big-endian-requires c κs = search needs
@@ -50,23 +50,24 @@ loop-less c = omega arith
 
 loop-again : tie.Need-loop-again Inv-loop μ-loop
 loop-again c =
-    let s = c .before .before .before .before .before .before .before .before in
+    let s = c .before .before .before .before .before .before .before .before .before in
     let l = c .before .before .before .before .before .before .loop in
-    let p = s .args .t2 in
+    let ls = now (s .args .lengths) in
     let room = room-after (l .inv .2) 2 (omega (arith, s .pre)) in
-    let put = puts-tail (l .inv .2) (puts-number 2 (getD (p .lengths) (l .i) 0) room (c .before .before .put-big-endian .ensures .1)) in
-    (omega arith, omega arith, puts-as put (shorts-next (p .lengths) (l .i) (omega (arith, typed p (s .good .1 .0) .lengths))))
+    let put = puts-tail (l .inv .2) (puts-number 2 (getD ls (l .i) 0) room (c .before .before .put-big-endian .ensures .1)) in
+    (omega arith, omega arith, puts-as put (shorts-next ls (l .i) (omega (arith, s .pre .1))))
 
 same-length : tie.Need-same-length Inv-loop μ-loop
-same-length c = puts-long (c .before .loop .inv .2) (omega (arith, c .before .before .before .pre))
+same-length c = puts-long (c .before .loop .inv .2) (omega (arith, c .before .before .before .before .pre))
 
 returns : tie.Need-returns Inv-loop μ-loop
 returns c =
     let l = c .before .loop in
-    let p = c .before .before .before .args .t2 in
+    let s = c .before .before .before .before in
+    let ls = now (s .args .lengths) in
     let i : l .i ≡ 20 = omega arith in
     let at : l .at ≡ 40 = omega arith in
-    let all : take 20 (p .lengths) ≡ p .lengths = take-all 20 (p .lengths) (omega (arith, typed p (c .before .before .before .good .1 .0) .lengths)) in
+    let all : take 20 ls ≡ ls = take-all 20 ls (omega (arith, s .pre .1)) in
     rw (i, at, all) at (l .inv .2)
 
 pub put-lengths-spec : {M : Type 1} → statement M
@@ -80,7 +81,7 @@ put-lengths-spec =
     part-put-big-endian-start
     part-put-big-endian-end
     mul-put-big-endian
-    element-copy-out-put-big-endian
+    shared-slice-read-put-big-endian
     put-big-endian-requires
     add-at
     add-i

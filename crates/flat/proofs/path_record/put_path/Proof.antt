@@ -2,9 +2,8 @@ use Prim.Native.Nat.{_%_}
 use native.Mathlib.Omega.{arith}
 use denote.Ref.{now}
 use lib.ListN.{length-set}
-use Rattle.flat.proofs.Puts.{puts-put, puts-first, puts-long, puts-tail, room-after}
-use Rattle.path.proofs.Typed.{typed}
 use Rattle.flat.specs.PathRecord.{pathFlat}
+use Rattle.flat.proofs.Puts.{puts-put, puts-first, puts-long, puts-tail, room-after}
 use borrow.Author.Needs.{needs}
 use Rattle.flat.proofs.path_record.put_path.Statement.{statement}
 use Rattle.flat.proofs.path_record.put_path.Tie as tie
@@ -25,19 +24,16 @@ part-put-lengths-end : tie.Need-part-put-lengths-end
 part-put-lengths-end c = search needs
 
 put-lengths-requires : tie.Need-put-lengths-requires
-put-lengths-requires c κs = room-after (puts-first (now (c .before .before .before .args .flat)) (c .before .before .before .args .path .count % 256) (omega (arith, c .before .before .before .pre))) 40 (omega (arith, c .before .before .before .pre))
+put-lengths-requires c κs = let s = c .before .before .before .before in (room-after (puts-first (now (s .args .flat)) (s .args .count % 256) (omega (arith, s .pre))) 40 (omega (arith, s .pre)), s .pre .1 .1)
 
 sub-put-bytes : tie.Need-sub-put-bytes
-sub-put-bytes c = omega (arith, c .before .before .before .before .before .before .before .pre, puts-long (puts-tail (puts-first (now (c .before .before .before .before .before .before .before .args .flat)) (c .before .before .before .before .before .before .before .args .path .count % 256) (omega (arith, c .before .before .before .before .before .before .before .pre))) (c .before .before .before .put-lengths .ensures)) (omega (arith, c .before .before .before .before .before .before .before .pre)))
+sub-put-bytes c = let s = c .before .before .before .before .before .before .before in omega (arith, s .pre, puts-long (puts-tail (puts-first (now (s .args .flat)) (s .args .count % 256) (omega (arith, s .pre))) (c .before .before .put-lengths .ensures)) (omega (arith, s .pre)))
 
 part-put-bytes-start : tie.Need-part-put-bytes-start
-part-put-bytes-start c = omega (arith, c .before .before .before .before .before .before .before .pre, puts-long (puts-tail (puts-first (now (c .before .before .before .before .before .before .before .args .flat)) (c .before .before .before .before .before .before .before .args .path .count % 256) (omega (arith, c .before .before .before .before .before .before .before .pre))) (c .before .before .before .put-lengths .ensures)) (omega (arith, c .before .before .before .before .before .before .before .pre)))
+part-put-bytes-start c = let s = c .before .before .before .before .before .before .before in omega (arith, s .pre, puts-long (puts-tail (puts-first (now (s .args .flat)) (s .args .count % 256) (omega (arith, s .pre))) (c .before .before .put-lengths .ensures)) (omega (arith, s .pre)))
 
 part-put-bytes-end : tie.Need-part-put-bytes-end
 part-put-bytes-end c = search needs
-
-slice-aggregate-put-bytes : tie.Need-slice-aggregate-put-bytes
-slice-aggregate-put-bytes c = search needs
 
 put-bytes-requires : tie.Need-put-bytes-requires
 put-bytes-requires c κs = search needs
@@ -45,14 +41,13 @@ put-bytes-requires c κs = search needs
 returns : tie.Need-returns
 unfolding pathFlat
 returns c =
-    let s = c .before .before .before .before .before .before .before .before .before .before .before .before in
-    let p = s .args .path in
-    let first = puts-first (now (s .args .flat)) (p .count % 256) (omega (arith, s .pre)) in
-    let second = puts-tail first (c .before .before .before .before .before .before .before .before .put-lengths .ensures) in
-    puts-tail second (puts-put 600 (typed p (s .good .1 .0) .bytes) (room-after second 600 (s .pre)) (c .before .before .put-bytes .ensures .1))
+    let s = c .before .before .before .before .before .before .before .before .before .before .before in
+    let first = puts-first (now (s .args .flat)) (s .args .count % 256) (omega (arith, s .pre)) in
+    let second = puts-tail first (c .before .before .before .before .before .before .put-lengths .ensures) in
+    puts-tail second (puts-put 600 (s .pre .1 .0) (room-after second 600 (s .pre .0)) (c .before .before .put-bytes .ensures .1))
 
 same-length : tie.Need-same-length
-same-length c = puts-long (returns c) (c .before .before .before .before .before .before .before .before .before .before .before .before .pre)
+same-length c = puts-long (returns c) (c .before .before .before .before .before .before .before .before .before .before .before .pre .0)
 
 pub put-path-spec : {M : Type 1} → statement M
 put-path-spec =
@@ -67,7 +62,6 @@ put-path-spec =
     sub-put-bytes
     part-put-bytes-start
     part-put-bytes-end
-    slice-aggregate-put-bytes
     put-bytes-requires
     same-length
     returns)

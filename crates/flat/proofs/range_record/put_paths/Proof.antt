@@ -1,10 +1,11 @@
-use Prim.Native.Nat.{ℕ}
-use Rattle.codec.specs.Header.{bit}
-use Rattle.flat.specs.PathRecord.{pathFlat}
 use mathlib.Core.Path.{ap, _∙_}
 use mathlib.Core.List.{[], _∷_, _++_, append-assoc}
+use Prim.Native.Nat.{ℕ}
 use native.Mathlib.Omega.{arith}
+use denote.Ref.{now}
 use lib.ListN.{length-set}
+use Rattle.path.specs.Record.{pathOf}
+use Rattle.flat.specs.PathRecord.{pathFlat}
 use Rattle.flat.proofs.Puts.{puts-long, puts-tail, puts-byte, puts-as, room-after}
 use borrow.Author.Needs.{needs}
 use Rattle.flat.proofs.range_record.put_paths.Statement.{statement}
@@ -35,17 +36,19 @@ part-put-path-end : tie.Need-part-put-path-end
 part-put-path-end c = search needs
 
 put-path-requires-2 : tie.Need-put-path-requires-2
-put-path-requires-2 c κs = room-after (puts-byte (c .before .before .before .before .put-path .ensures) (c .before .bit .result) (omega (arith, c .before .before .before .before .before .before .before .pre))) 641 (c .before .before .before .before .before .before .before .pre)
+put-path-requires-2 c κs = let s = c .before .before .before .before .before .before .before .before .before .before .before in (room-after (puts-byte (c .before .before .before .before .put-path .ensures) (c .before .bit .result) (omega (arith, s .pre))) 641 (s .pre .0), s .pre .2)
 
 returns : tie.Need-returns
 returns c =
-    let r = c .before .before .before .before .before .before .before .before .before .before .args .paths in
-    let mark = puts-byte (c .before .before .before .before .before .before .before .put-path .ensures) (c .before .before .before .before .bit .result) (omega (arith, c .before .before .before .before .before .before .before .before .before .before .pre)) in
+    let s = c .before .before .before .before .before .before .before .before .before .before .before .before .before .before in
+    let start = pathOf (now (s .args .start-bytes)) (now (s .args .start-lengths)) (s .args .start-count) in
+    let end = pathOf (now (s .args .end-bytes)) (now (s .args .end-lengths)) (s .args .end-count) in
+    let mark = puts-byte (c .before .before .before .before .before .before .before .put-path .ensures) (c .before .before .before .before .bit .result) (omega (arith, s .pre)) in
     puts-as (puts-tail mark (c .before .before .put-path2 .ensures))
-    (append-assoc (pathFlat (r .start)) (c .before .before .before .before .bit .result ∷ []) (pathFlat (r .end)) ∙ ap (λ (b : ℕ). pathFlat (r .start) ++ (b ∷ pathFlat (r .end))) (c .before .before .before .before .bit .ensures .0))
+    (append-assoc (pathFlat start) (c .before .before .before .before .bit .result ∷ []) (pathFlat end) ∙ ap (λ (b : ℕ). pathFlat start ++ (b ∷ pathFlat end)) (c .before .before .before .before .bit .ensures .0))
 
 same-length : tie.Need-same-length
-same-length c = puts-long (returns c) (c .before .before .before .before .before .before .before .before .before .before .pre)
+same-length c = puts-long (returns c) (c .before .before .before .before .before .before .before .before .before .before .before .before .before .before .pre .0)
 
 pub put-paths-spec : {M : Type 1} → statement M
 put-paths-spec =

@@ -1,6 +1,5 @@
 use mathlib.Core.List.{append-assoc}
 use Rattle.flat.proofs.Puts.{puts-tail}
-use Rattle.flat.specs.RangeRecord.{rangeFlat}
 use borrow.Author.Needs.{needs}
 use Rattle.flat.proofs.range_record.put_range.Statement.{statement}
 use Rattle.flat.proofs.range_record.put_range.Tie as tie
@@ -36,7 +35,6 @@ same-length : tie.Need-same-length
 same-length c = search needs
 
 returns : tie.Need-returns
-unfolding rangeFlat
 returns c = rw append-assoc at (puts-tail (puts-tail (c .before .before .before .before .before .before .before .before .before .before .put-subspaces .ensures) (c .before .before .before .before .before .before .put-paths .ensures)) (c .before .before .put-times .ensures))
 
 pub put-range-spec : {M : Type 1} → statement M

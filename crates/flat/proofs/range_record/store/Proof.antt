@@ -1,5 +1,6 @@
 use native.Mathlib.Omega.{arith}
 use Rattle.flat.proofs.Puts.{puts-whole}
+use Rattle.flat.specs.RangeRecord.{rangeFlat}
 use borrow.Author.Needs.{needs}
 use Rattle.flat.proofs.range_record.store.Statement.{statement}
 use Rattle.flat.proofs.range_record.store.Tie as tie
@@ -8,6 +9,7 @@ put-range-requires : tie.Need-put-range-requires
 put-range-requires c κs = search needs
 
 returns : tie.Need-returns
+unfolding rangeFlat
 returns c = puts-whole (c .put-range .ensures) (omega arith)
 
 pub store-spec : {M : Type 1} → statement M

@@ -1,5 +1,5 @@
 use native.Mathlib.Numerals.{add-one}
-use lib.Seq.{drop-drop, take-all, take-suc-set, length-take-le}
+use lib.Seq.{drop-drop, take-all, take-suc-set}
 use Rattle.compact_u64.specs.BigEndian.{valueOf}
 use mathlib.Core.Path.{_≡_, refl, sym, ap, _∙_}
 use native.Mathlib.Omega.{arith}
@@ -7,18 +7,17 @@ use denote.Ref.{now}
 use Prim.Native.Nat.{ℕ, _+_, _*_, _-_, _≤_}
 use lib.ListN.{length, take, drop, set, length-set}
 use borrow.Author.Needs.{needs}
-use Rattle.flat.specs.PathRecord.{shortsIn, pathIn}
-use Rattle.flat.proofs.Puts.{puts-put, puts-whole}
-use Rattle.flat.proofs.Parts.{from-room}
+use borrow.Author.Tests.{not-true, not-false}
+use Rattle.flat.specs.PathRecord.{shortsIn}
 use Rattle.flat.proofs.Shorts.{short-there, shorts-in-next}
-use Rattle.flat.proofs.path_record.path_in.Statement.{statement}
-use Rattle.flat.proofs.path_record.path_in.Tie as tie
+use Rattle.flat.proofs.path_record.sizes_in.Statement.{statement}
+use Rattle.flat.proofs.path_record.sizes_in.Tie as tie
 
 abbrev Inv-loop : tie.InvT-loop
-Inv-loop flat lengths₀ i₀ lengths i = (i ≤ 20) × (length lengths ≡ 20) × (take i lengths ≡ shortsIn i (drop 1 flat))
+Inv-loop flat marked lengths₀ i₀ lengths i = (i ≤ 20) × (length lengths ≡ 20) × (take i lengths ≡ shortsIn i (drop 1 flat))
 
 abbrev μ-loop : tie.MeasureT-loop
-μ-loop flat lengths₀ i₀ lengths i = 20 - i
+μ-loop flat marked lengths₀ i₀ lengths i = 20 - i
 
 loop-holds : tie.Need-loop-holds Inv-loop μ-loop
 loop-holds c = (omega arith, refl, refl)
@@ -76,40 +75,29 @@ loop-again c =
     ∙ rw (l .inv .2, v) (shorts-in-next (l .i) (drop 1 f)) in
     (omega arith, simp length-set (l .inv .1), t)
 
-slice-aggregate-put-bytes : tie.Need-slice-aggregate-put-bytes Inv-loop μ-loop
-slice-aggregate-put-bytes c = search needs
+all : (c : tie.After-loop Inv-loop μ-loop) → c .before .loop .lengths ≡ shortsIn 20 (drop 1 (now (c .before .before .before .args .flat)))
+all c =
+    let l = c .before .loop in
+    let i : l .i ≡ 20 = omega arith in
+    sym (take-all 20 (l .lengths) (omega arith)) ∙ rw i at (l .inv .2)
 
-sub-put-bytes : tie.Need-sub-put-bytes Inv-loop μ-loop
-sub-put-bytes c = search needs
+add-t21 : tie.Need-add-t21 Inv-loop μ-loop
+add-t21 c = omega arith
 
-part-put-bytes-start : tie.Need-part-put-bytes-start Inv-loop μ-loop
-part-put-bytes-start c = search needs
-
-part-put-bytes-end : tie.Need-part-put-bytes-end Inv-loop μ-loop
-part-put-bytes-end c = omega (arith, c .before .before .before .before .pre)
-
-put-bytes-requires : tie.Need-put-bytes-requires Inv-loop μ-loop
-put-bytes-requires c κs = search needs
+returns : tie.Need-returns Inv-loop μ-loop
+returns c = rw (all (c .before), not-true (c .before .before .before .before .args .marked) (c .if1 .taken))
 
 shared-slice-read-wide-3 : tie.Need-shared-slice-read-wide-3 Inv-loop μ-loop
-shared-slice-read-wide-3 c = omega (arith, c .before .before .before .before .before .before .before .before .pre)
+shared-slice-read-wide-3 c = omega (arith, c .before .before .before .before .before .pre)
 
 wide-requires-3 : tie.Need-wide-requires-3 Inv-loop μ-loop
 wide-requires-3 c κs = search needs
 
-returns : tie.Need-returns Inv-loop μ-loop
-unfolding pathIn
-returns c =
-    let f = now (c .before .before .before .before .before .before .before .before .before .args .flat) in
-    let l = c .before .before .before .before .before .before .before .loop in
-    let long = length-take-le 600 (drop 41 f) (from-room f 41 600 (c .before .before .before .before .before .before .before .before .before .pre)) in
-    let bytes : c .before .before .before .put-bytes .last .0 ≡ take 600 (drop 41 f) = puts-whole (puts-put 600 long (omega arith) (c .before .before .before .put-bytes .ensures .1)) (omega arith) in
-    let i : l .i ≡ 20 = omega arith in
-    let all : l .lengths ≡ shortsIn 20 (drop 1 f) = sym (take-all 20 (l .lengths) (omega arith)) ∙ rw i at (l .inv .2) in
-    rw (bytes, all, c .wide3 .ensures .0)
+returns-2 : tie.Need-returns-2 Inv-loop μ-loop
+returns-2 c = rw (all (c .before .before .before), not-false (c .before .before .before .before .before .before .args .marked) (c .before .before .if1 .left), c .wide3 .ensures .0)
 
-pub path-in-spec : {M : Type 1} → statement M
-path-in-spec =
+pub sizes-in-spec : {M : Type 1} → statement M
+sizes-in-spec =
     tie.close
     (tie.spec
     Inv-loop
@@ -129,11 +117,8 @@ path-in-spec =
     add-i
     loop-less
     loop-again
-    slice-aggregate-put-bytes
-    sub-put-bytes
-    part-put-bytes-start
-    part-put-bytes-end
-    put-bytes-requires
+    add-t21
+    returns
     shared-slice-read-wide-3
     wide-requires-3
-    returns)
+    returns-2)
