@@ -1,4 +1,4 @@
--- What every path has that is read after a prefix, in either mode: it is within the limits.
+-- What every path has that is read, in either mode: a plain one is well formed, one after a prefix within the limits.
 use mathlib.Core.Path.{_≡_, refl}
 use mathlib.Core.List.{List, _++_}
 use mathlib.Core.Bool.{Bool, true}
@@ -7,14 +7,24 @@ use native.Mathlib.Omega.{arith}
 use lib.ListN.{length, length-append}
 use Rattle.codec.specs.Reads.{Yields}
 use Rattle.codec.proofs.Yields.{yields-as, guard-yields, mapped-yields}
-use Rattle.path.specs.Limits.{limits, Component, PathOk}
+use Rattle.path.specs.Limits.{totalOf, limits, Component, PathOk}
 use Rattle.path.specs.declared.Path.{Path}
-use Rattle.path.specs.Record.{sumOf, cutUp, pathFrom}
+use Rattle.path.specs.Record.{sumOf, cutUp, pathFrom, wellFormed, TypedPath}
 use Rattle.path.proofs.Lists.{cut}
+use Rattle.path.proofs.Record.{formed-well, made}
 use Rattle.path.proofs.Limits.{limits-total, limits-count, total-append, all-append}
-use Rattle.path_suffix.proofs.Yields.{components-yields}
-use Rattle.path_codec.specs.Plain.{partsOk, readAfter}
+use Rattle.path_suffix.proofs.Yields.{components-yields, suffix-yields}
+use Rattle.path_codec.specs.Plain.{readPath, partsOk, readAfter}
 use Rattle.path_codec.proofs.After.{parts}
+
+pub path-yields : (canonic : Bool) → Yields (readPath canonic) (λ p. TypedPath p × (wellFormed p ≡ true))
+unfolding readPath
+path-yields canonic =
+    mapped-yields pathFrom _ _ (
+    yields-as _ _ _ (suffix-yields canonic limits) (λ cs y.
+    let ok : PathOk cs = record { total = limits-total (totalOf cs) (length cs) (y .limited); count = limits-count (totalOf cs) (length cs) (y .limited); all = y .all } in
+    let m = made cs ok in
+    (m .typed, formed-well (pathFrom cs) (m .well))))
 
 pub record After (cs : List (List ℕ)) (p : Path) : Type 0 where
   pub rest : List (List ℕ)
