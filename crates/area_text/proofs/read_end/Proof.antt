@@ -3,24 +3,9 @@ use borrow.Author.Needs.{needs}
 use Rattle.area_text.proofs.read_end.Statement.{statement}
 use Rattle.area_text.proofs.read_end.Tie as tie
 
-slice-aggregate-same-bytes : tie.Need-slice-aggregate-same-bytes
-slice-aggregate-same-bytes c = search needs
-
-same-bytes-requires : tie.Need-same-bytes-requires
-same-bytes-requires c κs = search needs
-
 returns : tie.Need-returns
 unfolding readEndText
 returns c = rw (← (c .before .same-bytes .ensures), c .if1 .taken)
-
-read-decimal-requires : tie.Need-read-decimal-requires
-read-decimal-requires c κs = search needs
-
-enum-known-number : tie.Need-enum-known-number
-enum-known-number c = search needs
-
-enum-told : tie.Need-enum-told
-enum-told c = search needs
 
 returns-2 : tie.Need-returns-2
 unfolding readEndText
@@ -34,11 +19,4 @@ pub read-end-spec : {M : Type 1} → statement M
 read-end-spec =
     tie.close
     (tie.spec
-    slice-aggregate-same-bytes
-    same-bytes-requires
-    returns
-    read-decimal-requires
-    enum-known-number
-    enum-told
-    returns-2
-    returns-3)
+    (λ c. search needs) (λ c κs. search needs) returns (λ c κs. search needs) (λ c. search needs) (λ c. search needs) returns-2 returns-3)

@@ -3,24 +3,13 @@ use borrow.Author.Needs.{needs}
 use Rattle.area_text.proofs.read_subspace.Statement.{statement}
 use Rattle.area_text.proofs.read_subspace.Tie as tie
 
-slice-aggregate-same-bytes : tie.Need-slice-aggregate-same-bytes
-slice-aggregate-same-bytes c = search needs
-
-same-bytes-requires : tie.Need-same-bytes-requires
-same-bytes-requires c κs = search needs
-
 returns : tie.Need-returns
 unfolding readSubspaceText
 returns c = rw (← (c .before .same-bytes .ensures), c .if1 .taken)
-
-read-id-requires : tie.Need-read-id-requires
-read-id-requires c κs = search needs
 
 returns-2 : tie.Need-returns-2
 unfolding readSubspaceText
 returns-2 c = rw (← (c .before .before .before .same-bytes .ensures), c .before .before .if1 .left, ← (c .before .read-id .ensures))
 
 pub read-subspace-spec : {M : Type 1} → statement M
-read-subspace-spec =
-    tie.close
-    (tie.spec slice-aggregate-same-bytes same-bytes-requires returns read-id-requires returns-2)
+read-subspace-spec = tie.close (tie.spec (λ c. search needs) (λ c κs. search needs) returns (λ c κs. search needs) returns-2)

@@ -15,15 +15,6 @@ returns c = sym (end-fault _ _ _ _ (c .before .if1 .taken) (c .if2 .taken))
 returns-2 : tie.Need-returns-2
 returns-2 c = sym (end-open _ _ _ _ (c .before .if1 .taken) (c .if2 .left))
 
-relative-decode-requires : tie.Need-relative-decode-requires
-relative-decode-requires c κs = search needs
-
-enum-known-read : tie.Need-enum-known-read
-enum-known-read c = search needs
-
-refusal-requires : tie.Need-refusal-requires
-refusal-requires c κs = search needs
-
 returns-3 : tie.Need-returns-3
 returns-3 c =
     let a = c .before .before .before .before .before .args in
@@ -37,12 +28,4 @@ returns-4 c =
 
 pub decode-end-spec : {M : Type 1} → statement M
 decode-end-spec =
-    tie.close
-    (tie.spec
-    returns
-    returns-2
-    relative-decode-requires
-    enum-known-read
-    refusal-requires
-    returns-3
-    returns-4)
+    tie.close (tie.spec returns returns-2 (λ c κs. search needs) (λ c. search needs) (λ c κs. search needs) returns-3 returns-4)

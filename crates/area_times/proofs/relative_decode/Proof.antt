@@ -31,35 +31,17 @@ times-are c =
     let a = c .before .before .before .before .before .before .before .before .before .before .before .args in
     times-read (a .canonic) (a .reference) (a .header) (now (a .message)) _ _ (start-is (c .before .before .before .before .before .before)) _ _ (end-is (c .before .before)) (sym (c .before .includes-range .ensures) ∙ not-false _ (c .if1 .left))
 
-relative-decode-requires : tie.Need-relative-decode-requires
-relative-decode-requires c κs = search needs
-
-enum-known-first : tie.Need-enum-known-first
-enum-known-first c = search needs
-
-refusal-requires : tie.Need-refusal-requires
-refusal-requires c κs = search needs
-
 returns : tie.Need-returns
 returns c =
     let a = c .before .before .before .before .args in
     let x = refused-number (a .reference) (c .before .before .relative-decode .result) (c .before .match .keys2) in
     rw (c .refusal .ensures) (gives-refused (x .why) (x .whole) (times-start (a .canonic) (a .reference) (a .header) (now (a .message)) (x .why) (sym (c .before .before .relative-decode .ensures) ∙ x .number)))
 
-decode-end-requires : tie.Need-decode-end-requires
-decode-end-requires c κs = search needs
-
-enum-known-answer : tie.Need-enum-known-answer
-enum-known-answer c = search needs
-
 returns-2 : tie.Need-returns-2
 returns-2 c =
     let a = c .before .before .before .before .before .before .before .args in
     let x = no-value (c .before .decode-end .result .answer) (c .match2 .keys2) in
     gives-refused (x .why) (x .beside (a .reference)) (times-end (a .canonic) (a .reference) (a .header) (now (a .message)) _ _ (start-is (c .before .before)) (x .why) (sym (c .before .decode-end .ensures) ∙ x .beside (c .before .decode-end .result .end)))
-
-includes-range-requires : tie.Need-includes-range-requires
-includes-range-requires c κs = search needs
 
 returns-3 : tie.Need-returns-3
 returns-3 c =
@@ -78,14 +60,5 @@ pub relative-decode-spec : {M : Type 1} → statement M
 relative-decode-spec =
     tie.close
     (tie.spec
-    relative-decode-requires
-    enum-known-first
-    refusal-requires
-    returns
-    decode-end-requires
-    enum-known-answer
-    returns-2
-    includes-range-requires
-    returns-3
-    add-t17
-    returns-4)
+    (λ c κs. search needs) (λ c. search needs) (λ c κs. search needs) returns (λ c κs. search needs) (λ c. search needs) returns-2
+    (λ c κs. search needs) returns-3 add-t17 returns-4)

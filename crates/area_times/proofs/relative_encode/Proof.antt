@@ -22,31 +22,10 @@ inside : (c : tie.After-difference2) → c .before .before .before .before .befo
 inside c =
     omega (arith, c .before .before .before .before .before .before .before .before .before .before .if1 .left, c .before .before .before .before .before .before .before .before .before .before .before .relative-len-of-encoding .ensures .0, ap length (bytes c), length-append (numberBytes 2 (c .before .before .before .before .before .before .before .before .before .difference .result .difference)) (numberBytes 2 (c .difference2 .result .difference)), c .before .before .before .before .before .before .before .before .relative-len-of-encoding2 .ensures .0, c .before .before .before .before .before .before .relative-encode .kept .0)
 
-relative-len-of-encoding-requires : tie.Need-relative-len-of-encoding-requires
-relative-len-of-encoding-requires c κs = search needs
-
 returns : tie.Need-returns
 returns c =
     let a = c .before .before .before .args in
     put-full allowed (timesBytes (a .reference) (a .times)) (now (a .buffer)) refl (c .before .relative-len-of-encoding .result) (c .before .relative-len-of-encoding .ensures .0) (c .if1 .taken)
-
-difference-requires : tie.Need-difference-requires
-difference-requires c κs = search needs
-
-relative-len-of-encoding-requires-2 : tie.Need-relative-len-of-encoding-requires-2
-relative-len-of-encoding-requires-2 c κs = search needs
-
-relative-encode-requires : tie.Need-relative-encode-requires
-relative-encode-requires c κs = search needs
-
-enum-known-end : tie.Need-enum-known-end
-enum-known-end c = search needs
-
-enum-told : tie.Need-enum-told
-enum-told c = search needs
-
-same-length : tie.Need-same-length
-same-length c = search needs
 
 returns-2 : tie.Need-returns-2
 returns-2 c =
@@ -57,23 +36,11 @@ returns-2 c =
     let f = put-fits allowed (timesBytes (a .reference) (a .times)) l refl (c .before .before .before .before .before .before .before .before .before .relative-len-of-encoding .result) n (omega (arith, c .before .before .before .before .before .before .before .before .if1 .left)) in
     (f .0, c .before .before .before .before .relative-encode .ensures .1 ∙ put-over _ l (omega (arith, c .before .before .before .before .before .before .before .before .if1 .left, n, ap length e)) ∙ ap (λ (bs : List ℕ). over bs l) (sym e) ∙ f .1)
 
-difference-requires-2 : tie.Need-difference-requires-2
-difference-requires-2 c κs = search needs
-
 sub-relative-encode : tie.Need-sub-relative-encode
 sub-relative-encode c = inside c
 
 part-relative-encode-start : tie.Need-part-relative-encode-start
 part-relative-encode-start c = inside c
-
-part-relative-encode-end : tie.Need-part-relative-encode-end
-part-relative-encode-end c = search needs
-
-relative-encode-requires-2 : tie.Need-relative-encode-requires-2
-relative-encode-requires-2 c κs = search needs
-
-same-length-2 : tie.Need-same-length-2
-same-length-2 c = search needs
 
 returns-3 : tie.Need-returns-3
 returns-3 c =
@@ -98,19 +65,6 @@ pub relative-encode-spec : {M : Type 1} → statement M
 relative-encode-spec =
     tie.close
     (tie.spec
-    relative-len-of-encoding-requires
-    returns
-    difference-requires
-    relative-len-of-encoding-requires-2
-    relative-encode-requires
-    enum-known-end
-    enum-told
-    same-length
-    returns-2
-    difference-requires-2
-    sub-relative-encode
-    part-relative-encode-start
-    part-relative-encode-end
-    relative-encode-requires-2
-    same-length-2
-    returns-3)
+    (λ c κs. search needs) returns (λ c κs. search needs) (λ c κs. search needs) (λ c κs. search needs) (λ c. search needs)
+    (λ c. search needs) (λ c. search needs) returns-2 (λ c κs. search needs) sub-relative-encode part-relative-encode-start
+    (λ c. search needs) (λ c κs. search needs) (λ c. search needs) returns-3)

@@ -3,34 +3,16 @@ use Rattle.case_answers.specs.Lines.{recordKind}
 use Rattle.case_answers.proofs.record_kind.Statement.{statement}
 use Rattle.case_answers.proofs.record_kind.Tie as tie
 
-slice-aggregate-same-bytes : tie.Need-slice-aggregate-same-bytes
-slice-aggregate-same-bytes c = search needs
-
-same-bytes-requires : tie.Need-same-bytes-requires
-same-bytes-requires c κs = search needs
-
 returns : tie.Need-returns
 unfolding recordKind
 returns c =
     rw (← (c .before .same-bytes .ensures), c .if1 .taken)
-
-slice-aggregate-same-bytes-2 : tie.Need-slice-aggregate-same-bytes-2
-slice-aggregate-same-bytes-2 c = search needs
-
-same-bytes-requires-2 : tie.Need-same-bytes-requires-2
-same-bytes-requires-2 c κs = search needs
 
 returns-2 : tie.Need-returns-2
 unfolding recordKind
 returns-2 c =
     let c1 = c .before .before .before in
     rw (← (c1 .before .same-bytes .ensures), c1 .if1 .left, ← (c .before .same-bytes2 .ensures), c .if2 .taken)
-
-slice-aggregate-same-bytes-3 : tie.Need-slice-aggregate-same-bytes-3
-slice-aggregate-same-bytes-3 c = search needs
-
-same-bytes-requires-3 : tie.Need-same-bytes-requires-3
-same-bytes-requires-3 c κs = search needs
 
 returns-3 : tie.Need-returns-3
 unfolding recordKind
@@ -39,12 +21,6 @@ returns-3 c =
     let c1 = c2 .before .before .before in
     rw (← (c1 .before .same-bytes .ensures), c1 .if1 .left, ← (c2 .before .same-bytes2 .ensures), c2 .if2 .left, ← (c .before .same-bytes3 .ensures), c .if3 .taken)
 
-slice-aggregate-same-bytes-4 : tie.Need-slice-aggregate-same-bytes-4
-slice-aggregate-same-bytes-4 c = search needs
-
-same-bytes-requires-4 : tie.Need-same-bytes-requires-4
-same-bytes-requires-4 c κs = search needs
-
 returns-4 : tie.Need-returns-4
 unfolding recordKind
 returns-4 c =
@@ -52,12 +28,6 @@ returns-4 c =
     let c2 = c3 .before .before .before in
     let c1 = c2 .before .before .before in
     rw (← (c1 .before .same-bytes .ensures), c1 .if1 .left, ← (c2 .before .same-bytes2 .ensures), c2 .if2 .left, ← (c3 .before .same-bytes3 .ensures), c3 .if3 .left, ← (c .before .same-bytes4 .ensures), c .if4 .taken)
-
-slice-aggregate-same-bytes-5 : tie.Need-slice-aggregate-same-bytes-5
-slice-aggregate-same-bytes-5 c = search needs
-
-same-bytes-requires-5 : tie.Need-same-bytes-requires-5
-same-bytes-requires-5 c κs = search needs
 
 returns-5 : tie.Need-returns-5
 unfolding recordKind
@@ -81,19 +51,6 @@ pub record-kind-spec : {M : Type 1} → statement M
 record-kind-spec =
     tie.close
     (tie.spec
-    slice-aggregate-same-bytes
-    same-bytes-requires
-    returns
-    slice-aggregate-same-bytes-2
-    same-bytes-requires-2
-    returns-2
-    slice-aggregate-same-bytes-3
-    same-bytes-requires-3
-    returns-3
-    slice-aggregate-same-bytes-4
-    same-bytes-requires-4
-    returns-4
-    slice-aggregate-same-bytes-5
-    same-bytes-requires-5
-    returns-5
-    returns-6)
+    (λ c. search needs) (λ c κs. search needs) returns (λ c. search needs) (λ c κs. search needs) returns-2 (λ c. search needs)
+    (λ c κs. search needs) returns-3 (λ c. search needs) (λ c κs. search needs) returns-4 (λ c. search needs) (λ c κs. search needs)
+    returns-5 returns-6)

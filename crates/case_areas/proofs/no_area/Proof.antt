@@ -4,12 +4,9 @@ use borrow.Author.Needs.{needs}
 use Rattle.case_areas.proofs.no_area.Statement.{statement}
 use Rattle.case_areas.proofs.no_area.Tie as tie
 
-new-empty-requires : tie.Need-new-empty-requires
-new-empty-requires c κs = search needs
-
 returns : tie.Need-returns
 unfolding noArea areaFrom
 returns c = rw (c .new-empty .ensures)
 
 pub no-area-spec : {M : Type 1} → statement M
-no-area-spec = tie.close (tie.spec new-empty-requires returns)
+no-area-spec = tie.close (tie.spec (λ c κs. search needs) returns)

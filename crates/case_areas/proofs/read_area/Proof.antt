@@ -29,18 +29,6 @@ path-of i line s p k = decimalField (i + 2) line (λ t. start-of i line s p t k)
 abbrev subspace-of : ℕ → List ℕ → AreaSubspace → (Area → List ℕ) → List ℕ
 subspace-of i line s k = pathField (i + 1) line (λ p. path-of i line s p k)
 
--- src/lib.rt:56:42
-part-requires : tie.Need-part-requires
-part-requires c κs = search needs
-
--- src/lib.rt:56:9
-read-subspace-requires : tie.Need-read-subspace-requires
-read-subspace-requires c κs = search needs
-
--- src/lib.rt:58:9
-no-area-requires : tie.Need-no-area-requires
-no-area-requires c κs = search needs
-
 -- src/lib.rt:58:9
 returns : tie.Need-returns
 unfolding noArea
@@ -48,29 +36,6 @@ returns c =
     let i = c .before .before .before .before .before .before .args .place in
     let line = now (c .before .before .before .before .before .before .args .line) in
     rw (c .no-area .ensures) (says-none (subspace-of i line) _ (field-says readSubspaceText (λ r. r .ok) (λ r. r .subspace) i line (c .before .before .before .before .part .ensures) (c .before .before .before .read-subspace .ensures) false (not-true _ (c .before .if1 .taken))), refl)
-
--- src/lib.rt:60:63
-add-part : tie.Need-add-part
-add-part c = search needs
-
--- src/lib.rt:60:39
-part-requires-2 : tie.Need-part-requires-2
-part-requires-2 c κs = search needs
-
--- src/lib.rt:60:9
-read-path-requires : tie.Need-read-path-requires
-read-path-requires c κs = search needs
-
-enum-told : tie.Need-enum-told
-enum-told c = search needs
-
--- src/lib.rt:63:9
-enum-told-2 : tie.Need-enum-told-2
-enum-told-2 c = search needs
-
--- src/lib.rt:63:9
-no-area-requires-2 : tie.Need-no-area-requires-2
-no-area-requires-2 c κs = search needs
 
 -- src/lib.rt:63:9
 returns-2 : tie.Need-returns-2
@@ -81,30 +46,6 @@ returns-2 c =
     let first = field-says readSubspaceText (λ r. r .ok) (λ r. r .subspace) i line (c .before .before .before .before .before .before .before .before .part .ensures) (c .before .before .before .before .before .before .before .read-subspace .ensures) true (not-false _ (c .before .before .before .before .before .if1 .left)) in
     rw (c .no-area2 .ensures) (says-then (subspace-of i line) first (says-none (path-of i line _) _ (path-says-no (i + 1) line (c .before .before .before .before .part2 .ensures) (c .before .before .before .read-path .ensures) (c .before .enum-told2 .given .1))), refl)
 
--- src/lib.rt:65:60
-add-part-2 : tie.Need-add-part-2
-add-part-2 c = search needs
-
--- src/lib.rt:65:36
-part-requires-3 : tie.Need-part-requires-3
-part-requires-3 c κs = search needs
-
--- src/lib.rt:65:9
-read-decimal-requires : tie.Need-read-decimal-requires
-read-decimal-requires c κs = search needs
-
--- src/lib.rt:66:24
-enum-known-third : tie.Need-enum-known-third
-enum-known-third c = search needs
-
--- src/lib.rt:67:9
-enum-told-3 : tie.Need-enum-told-3
-enum-told-3 c = search needs
-
--- src/lib.rt:67:9
-no-area-requires-3 : tie.Need-no-area-requires-3
-no-area-requires-3 c κs = search needs
-
 -- src/lib.rt:67:9
 returns-3 : tie.Need-returns-3
 unfolding noArea
@@ -114,22 +55,6 @@ returns-3 c =
     let first = field-says readSubspaceText (λ r. r .ok) (λ r. r .subspace) i line (c .before .before .before .before .before .before .before .before .before .before .before .before .part .ensures) (c .before .before .before .before .before .before .before .before .before .before .before .read-subspace .ensures) true (not-false _ (c .before .before .before .before .before .before .before .before .before .if1 .left)) in
     let second = path-says (i + 1) line (c .before .before .before .before .before .before .before .before .part2 .ensures) (c .before .before .before .before .before .before .before .read-path .ensures) (c .before .before .before .before .before .enum-told .given .1) in
     rw (c .no-area3 .ensures) (says-then (subspace-of i line) first (says-then (path-of i line _) second (says-none (start-of i line _ _) _ (decimal-says-no (i + 2) line (c .before .before .before .before .part3 .ensures) (c .before .before .before .read-decimal .ensures) (c .before .enum-told3 .given .1)))), refl)
-
--- src/lib.rt:69:62
-add-part-3 : tie.Need-add-part-3
-add-part-3 c = search needs
-
--- src/lib.rt:69:38
-part-requires-4 : tie.Need-part-requires-4
-part-requires-4 c κs = search needs
-
--- src/lib.rt:69:9
-read-end-requires : tie.Need-read-end-requires
-read-end-requires c κs = search needs
-
--- src/lib.rt:71:9
-no-area-requires-4 : tie.Need-no-area-requires-4
-no-area-requires-4 c κs = search needs
 
 -- src/lib.rt:71:9
 returns-4 : tie.Need-returns-4
@@ -156,27 +81,7 @@ pub read-area-spec : {M : Type 1} → statement M
 read-area-spec =
     tie.close
     (tie.spec
-    part-requires
-    read-subspace-requires
-    no-area-requires
-    returns
-    add-part
-    part-requires-2
-    read-path-requires
-    enum-told
-    enum-told-2
-    no-area-requires-2
-    returns-2
-    add-part-2
-    part-requires-3
-    read-decimal-requires
-    enum-known-third
-    enum-told-3
-    no-area-requires-3
-    returns-3
-    add-part-3
-    part-requires-4
-    read-end-requires
-    no-area-requires-4
-    returns-4
-    returns-5)
+    (λ c κs. search needs) (λ c κs. search needs) (λ c κs. search needs) returns (λ c. search needs) (λ c κs. search needs)
+    (λ c κs. search needs) (λ c. search needs) (λ c. search needs) (λ c κs. search needs) returns-2 (λ c. search needs)
+    (λ c κs. search needs) (λ c κs. search needs) (λ c. search needs) (λ c. search needs) (λ c κs. search needs) returns-3
+    (λ c. search needs) (λ c κs. search needs) (λ c κs. search needs) (λ c κs. search needs) returns-4 returns-5)

@@ -11,31 +11,10 @@ use borrow.Author.Needs.{needs}
 use Rattle.case_entries.proofs.entry.Statement.{statement}
 use Rattle.case_entries.proofs.entry.Tie as tie
 
-part-requires : tie.Need-part-requires
-part-requires c κs = search needs
-
-read-id-requires : tie.Need-read-id-requires
-read-id-requires c κs = search needs
-
-refuse-requires : tie.Need-refuse-requires
-refuse-requires c κs = search needs
-
-same-length : tie.Need-same-length
-same-length c = search needs
-
 returns : tie.Need-returns
 returns c =
     let line = now (c .before .before .before .before .before .before .before .before .before .before .args .line) in
     puts (says-refused (field-says readId (λ r. r .ok) (λ r. r .id) 2 line (c .before .before .before .before .before .before .before .part .ensures) (c .before .before .before .before .before .before .read-id .ensures) false (not-true _ (c .before .before .before .before .if1 .taken))) refl (onNamespace line)) (c .before .before .refuse .ensures)
-
-read-area-requires : tie.Need-read-area-requires
-read-area-requires c κs = search needs
-
-refuse-requires-2 : tie.Need-refuse-requires-2
-refuse-requires-2 c κs = search needs
-
-same-length-2 : tie.Need-same-length-2
-same-length-2 c = search needs
 
 returns-2 : tie.Need-returns-2
 returns-2 c =
@@ -43,45 +22,6 @@ returns-2 c =
     let namespace = c .before .before .before .before .before .before .before .before .before .read-id .result .id in
     let first = says-value (field-says readId (λ r. r .ok) (λ r. r .id) 2 line (c .before .before .before .before .before .before .before .before .before .before .part .ensures) (c .before .before .before .before .before .before .before .before .before .read-id .ensures) true (not-false _ (c .before .before .before .before .before .before .before .if1 .left))) refl in
     puts (first (onNamespace line) ∙ says-refused (c .before .before .before .before .before .before .read-area .ensures .0) (not-true _ (c .before .before .before .before .if2 .taken)) (λ r. againstLine namespace r (opOf (field 1 line)) line)) (c .before .before .refuse2 .ensures)
-
-part-requires-2 : tie.Need-part-requires-2
-part-requires-2 c κs = search needs
-
-op-requires : tie.Need-op-requires
-op-requires c κs = search needs
-
-enum-told : tie.Need-enum-told
-enum-told c = search needs
-
-read-line-requires : tie.Need-read-line-requires
-read-line-requires c κs = search needs
-
-enum-told-2 : tie.Need-enum-told-2
-enum-told-2 c = search needs
-
-read-line-requires-2 : tie.Need-read-line-requires-2
-read-line-requires-2 c κs = search needs
-
-enum-told-3 : tie.Need-enum-told-3
-enum-told-3 c = search needs
-
-write-line-requires : tie.Need-write-line-requires
-write-line-requires c κs = search needs
-
-enum-told-4 : tie.Need-enum-told-4
-enum-told-4 c = search needs
-
-len-line-requires : tie.Need-len-line-requires
-len-line-requires c κs = search needs
-
-enum-told-5 : tie.Need-enum-told-5
-enum-told-5 c = search needs
-
-refuse-requires-3 : tie.Need-refuse-requires-3
-refuse-requires-3 c κs = search needs
-
-same-length-3 : tie.Need-same-length-3
-same-length-3 c = search needs
 
 returns-3 : tie.Need-returns-3
 returns-3 c =
@@ -93,9 +33,6 @@ returns-3 c =
     let told = op-told line (c .before .before .before .before .before .before .before .part2 .ensures) (c .before .before .before .before .before .before .op .ensures) (c .before .before .before .before .enum-told .given .1) in
     puts (first (onNamespace line) ∙ second (λ r. againstLine namespace r (opOf (field 1 line)) line) ∙ told (λ o. againstLine namespace area o line)) (c .before .before .read-line .ensures)
 
-same-length-4 : tie.Need-same-length-4
-same-length-4 c = search needs
-
 returns-4 : tie.Need-returns-4
 returns-4 c =
     let line = now (c .before .before .before .before .before .before .before .before .before .before .before .before .before .before .before .before .before .before .before .args .line) in
@@ -105,9 +42,6 @@ returns-4 c =
     let second = says-value (c .before .before .before .before .before .before .before .before .before .before .before .before .read-area .ensures .0) (not-false _ (c .before .before .before .before .before .before .before .before .before .before .if2 .left)) in
     let told = op-told line (c .before .before .before .before .before .before .before .part2 .ensures) (c .before .before .before .before .before .before .op .ensures) (c .before .before .before .before .enum-told2 .given .1) in
     puts (first (onNamespace line) ∙ second (λ r. againstLine namespace r (opOf (field 1 line)) line) ∙ told (λ o. againstLine namespace area o line)) (c .before .before .read-line2 .ensures)
-
-same-length-5 : tie.Need-same-length-5
-same-length-5 c = search needs
 
 returns-5 : tie.Need-returns-5
 returns-5 c =
@@ -119,9 +53,6 @@ returns-5 c =
     let told = op-told line (c .before .before .before .before .before .before .before .part2 .ensures) (c .before .before .before .before .before .before .op .ensures) (c .before .before .before .before .enum-told3 .given .1) in
     puts (first (onNamespace line) ∙ second (λ r. againstLine namespace r (opOf (field 1 line)) line) ∙ told (λ o. againstLine namespace area o line)) (c .before .before .write-line .ensures)
 
-same-length-6 : tie.Need-same-length-6
-same-length-6 c = search needs
-
 returns-6 : tie.Need-returns-6
 returns-6 c =
     let line = now (c .before .before .before .before .before .before .before .before .before .before .before .before .before .before .before .before .before .before .before .args .line) in
@@ -131,9 +62,6 @@ returns-6 c =
     let second = says-value (c .before .before .before .before .before .before .before .before .before .before .before .before .read-area .ensures .0) (not-false _ (c .before .before .before .before .before .before .before .before .before .before .if2 .left)) in
     let told = op-told line (c .before .before .before .before .before .before .before .part2 .ensures) (c .before .before .before .before .before .before .op .ensures) (c .before .before .before .before .enum-told4 .given .1) in
     puts (first (onNamespace line) ∙ second (λ r. againstLine namespace r (opOf (field 1 line)) line) ∙ told (λ o. againstLine namespace area o line)) (c .before .before .len-line .ensures)
-
-same-length-7 : tie.Need-same-length-7
-same-length-7 c = search needs
 
 returns-7 : tie.Need-returns-7
 returns-7 c =
@@ -149,34 +77,8 @@ pub entry-spec : {M : Type 1} → statement M
 entry-spec =
     tie.close
     (tie.spec
-    part-requires
-    read-id-requires
-    refuse-requires
-    same-length
-    returns
-    read-area-requires
-    refuse-requires-2
-    same-length-2
-    returns-2
-    part-requires-2
-    op-requires
-    enum-told
-    read-line-requires
-    enum-told-2
-    read-line-requires-2
-    enum-told-3
-    write-line-requires
-    enum-told-4
-    len-line-requires
-    enum-told-5
-    refuse-requires-3
-    same-length-3
-    returns-3
-    same-length-4
-    returns-4
-    same-length-5
-    returns-5
-    same-length-6
-    returns-6
-    same-length-7
-    returns-7)
+    (λ c κs. search needs) (λ c κs. search needs) (λ c κs. search needs) (λ c. search needs) returns (λ c κs. search needs)
+    (λ c κs. search needs) (λ c. search needs) returns-2 (λ c κs. search needs) (λ c κs. search needs) (λ c. search needs)
+    (λ c κs. search needs) (λ c. search needs) (λ c κs. search needs) (λ c. search needs) (λ c κs. search needs) (λ c. search needs)
+    (λ c κs. search needs) (λ c. search needs) (λ c κs. search needs) (λ c. search needs) returns-3 (λ c. search needs) returns-4
+    (λ c. search needs) returns-5 (λ c. search needs) returns-6 (λ c. search needs) returns-7)

@@ -9,24 +9,6 @@ use borrow.Author.Needs.{needs}
 use Rattle.case_entry_entry.proofs.read_line.Statement.{statement}
 use Rattle.case_entry_entry.proofs.read_line.Tie as tie
 
-slice-aggregate-message : tie.Need-slice-aggregate-message
-slice-aggregate-message c = search needs
-
-message-requires : tie.Need-message-requires
-message-requires c κs = search needs
-
-enum-known-message : tie.Need-enum-known-message
-enum-known-message c = search needs
-
-enum-told : tie.Need-enum-told
-enum-told c = search needs
-
-refuse-requires : tie.Need-refuse-requires
-refuse-requires c κs = search needs
-
-same-length : tie.Need-same-length
-same-length c = search needs
-
 returns : tie.Need-returns
 returns c =
     let a = c .before .before .before .before .before .before .before .before .before .before .before .args in
@@ -37,18 +19,6 @@ array-share-prefix-bytes c = message-inside 8 (now (c .before .before .before .b
 
 slice-aggregate-relative-decode : tie.Need-slice-aggregate-relative-decode
 slice-aggregate-relative-decode c = sym (message-long 8 (now (c .before .before .before .before .before .before .before .before .before .args .line)) (c .before .before .before .before .before .message .ensures) (c .before .before .message2 .given .1))
-
-relative-decode-requires : tie.Need-relative-decode-requires
-relative-decode-requires c κs = search needs
-
-print-entry-requires : tie.Need-print-entry-requires
-print-entry-requires c κs = search needs
-
-value-requires : tie.Need-value-requires
-value-requires c κs = search needs
-
-same-length-2 : tie.Need-same-length-2
-same-length-2 c = search needs
 
 returns-2 : tie.Need-returns-2
 returns-2 c =
@@ -63,17 +33,6 @@ pub read-line-spec : {M : Type 1} → statement M
 read-line-spec =
     tie.close
     (tie.spec
-    slice-aggregate-message
-    message-requires
-    enum-known-message
-    enum-told
-    refuse-requires
-    same-length
-    returns
-    array-share-prefix-bytes
-    slice-aggregate-relative-decode
-    relative-decode-requires
-    print-entry-requires
-    value-requires
-    same-length-2
-    returns-2)
+    (λ c. search needs) (λ c κs. search needs) (λ c. search needs) (λ c. search needs) (λ c κs. search needs) (λ c. search needs) returns
+    array-share-prefix-bytes slice-aggregate-relative-decode (λ c κs. search needs) (λ c κs. search needs) (λ c κs. search needs)
+    (λ c. search needs) returns-2)

@@ -4,12 +4,9 @@ use borrow.Author.Needs.{needs}
 use Rattle.case_entry_text.proofs.no_entry.Statement.{statement}
 use Rattle.case_entry_text.proofs.no_entry.Tie as tie
 
-new-empty-requires : tie.Need-new-empty-requires
-new-empty-requires c κs = search needs
-
 returns : tie.Need-returns
 unfolding noEntry entryFrom
 returns c = rw (c .new-empty .ensures)
 
 pub no-entry-spec : {M : Type 1} → statement M
-no-entry-spec = tie.close (tie.spec new-empty-requires returns)
+no-entry-spec = tie.close (tie.spec (λ c κs. search needs) returns)

@@ -3,12 +3,9 @@ use borrow.Author.Needs.{needs}
 use Rattle.case_entry_text.proofs.no_names.Statement.{statement}
 use Rattle.case_entry_text.proofs.no_names.Tie as tie
 
-new-empty-requires : tie.Need-new-empty-requires
-new-empty-requires c κs = search needs
-
 returns : tie.Need-returns
 unfolding noNames
 returns c = rw (c .new-empty .ensures)
 
 pub no-names-spec : {M : Type 1} → statement M
-no-names-spec = tie.close (tie.spec new-empty-requires returns)
+no-names-spec = tie.close (tie.spec (λ c κs. search needs) returns)

@@ -16,38 +16,8 @@ use borrow.Author.Needs.{needs}
 use Rattle.case_entry_text.proofs.print_entry.Statement.{statement}
 use Rattle.case_entry_text.proofs.print_entry.Tie as tie
 
-print-names-requires : tie.Need-print-names-requires
-print-names-requires c κs = search needs
-
-slice-aggregate-put-bytes : tie.Need-slice-aggregate-put-bytes
-slice-aggregate-put-bytes c = search needs
-
-put-bytes-requires : tie.Need-put-bytes-requires
-put-bytes-requires c κs = search needs
-
-put-decimal-requires : tie.Need-put-decimal-requires
-put-decimal-requires c κs = search needs
-
-slice-aggregate-put-bytes-2 : tie.Need-slice-aggregate-put-bytes-2
-slice-aggregate-put-bytes-2 c = search needs
-
-put-bytes-requires-2 : tie.Need-put-bytes-requires-2
-put-bytes-requires-2 c κs = search needs
-
-put-decimal-requires-2 : tie.Need-put-decimal-requires-2
-put-decimal-requires-2 c κs = search needs
-
-slice-aggregate-put-bytes-3 : tie.Need-slice-aggregate-put-bytes-3
-slice-aggregate-put-bytes-3 c = search needs
-
-put-bytes-requires-3 : tie.Need-put-bytes-requires-3
-put-bytes-requires-3 c κs = search needs
-
 slice-aggregate-put-hex : tie.Need-slice-aggregate-put-hex
 slice-aggregate-put-hex c = search (needs, typed-entry (c .before .before .before .before .before .before .before .before .before .before .before .before .before .before .before .before .before .before .args .entry) (c .before .before .before .before .before .before .before .before .before .before .before .before .before .before .before .before .before .before .good .0) .digest .0)
-
-put-hex-requires : tie.Need-put-hex-requires
-put-hex-requires c κs = search needs
 
 returns : tie.Need-returns
 returns c =
@@ -78,15 +48,5 @@ pub print-entry-spec : {M : Type 1} → statement M
 print-entry-spec =
     tie.close
     (tie.spec
-    print-names-requires
-    slice-aggregate-put-bytes
-    put-bytes-requires
-    put-decimal-requires
-    slice-aggregate-put-bytes-2
-    put-bytes-requires-2
-    put-decimal-requires-2
-    slice-aggregate-put-bytes-3
-    put-bytes-requires-3
-    slice-aggregate-put-hex
-    put-hex-requires
-    returns)
+    (λ c κs. search needs) (λ c. search needs) (λ c κs. search needs) (λ c κs. search needs) (λ c. search needs) (λ c κs. search needs)
+    (λ c κs. search needs) (λ c. search needs) (λ c κs. search needs) slice-aggregate-put-hex (λ c κs. search needs) returns)

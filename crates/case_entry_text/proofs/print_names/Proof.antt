@@ -12,33 +12,6 @@ use borrow.Author.Needs.{needs}
 use Rattle.case_entry_text.proofs.print_names.Statement.{statement}
 use Rattle.case_entry_text.proofs.print_names.Tie as tie
 
-slice-aggregate-put-hex : tie.Need-slice-aggregate-put-hex
-slice-aggregate-put-hex c = search needs
-
-put-hex-requires : tie.Need-put-hex-requires
-put-hex-requires c κs = search needs
-
-slice-aggregate-put-bytes : tie.Need-slice-aggregate-put-bytes
-slice-aggregate-put-bytes c = search needs
-
-put-bytes-requires : tie.Need-put-bytes-requires
-put-bytes-requires c κs = search needs
-
-slice-aggregate-put-hex-2 : tie.Need-slice-aggregate-put-hex-2
-slice-aggregate-put-hex-2 c = search needs
-
-put-hex-requires-2 : tie.Need-put-hex-requires-2
-put-hex-requires-2 c κs = search needs
-
-slice-aggregate-put-bytes-2 : tie.Need-slice-aggregate-put-bytes-2
-slice-aggregate-put-bytes-2 c = search needs
-
-put-bytes-requires-2 : tie.Need-put-bytes-requires-2
-put-bytes-requires-2 c κs = search needs
-
-put-path-requires : tie.Need-put-path-requires
-put-path-requires c κs = search needs
-
 returns : tie.Need-returns
 returns c =
     let a = c .before .before .before .before .before .before .before .before .before .before .before .before .before .before .before .before .args .entry in
@@ -64,13 +37,5 @@ pub print-names-spec : {M : Type 1} → statement M
 print-names-spec =
     tie.close
     (tie.spec
-    slice-aggregate-put-hex
-    put-hex-requires
-    slice-aggregate-put-bytes
-    put-bytes-requires
-    slice-aggregate-put-hex-2
-    put-hex-requires-2
-    slice-aggregate-put-bytes-2
-    put-bytes-requires-2
-    put-path-requires
-    returns)
+    (λ c. search needs) (λ c κs. search needs) (λ c. search needs) (λ c κs. search needs) (λ c. search needs) (λ c κs. search needs)
+    (λ c. search needs) (λ c κs. search needs) (λ c κs. search needs) returns)

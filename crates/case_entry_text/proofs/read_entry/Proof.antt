@@ -27,36 +27,12 @@ time-of i line n t k = decimalField (i + 4) line (λ z. size-of i line n t z k)
 abbrev names-of : ℕ → List ℕ → Names → (Entry → List ℕ) → List ℕ
 names-of i line n k = decimalField (i + 3) line (λ t. time-of i line n t k)
 
-read-names-requires : tie.Need-read-names-requires
-read-names-requires c κs = search needs
-
-no-entry-requires : tie.Need-no-entry-requires
-no-entry-requires c κs = search needs
-
 returns : tie.Need-returns
 unfolding noEntry
 returns c =
     let i = c .before .before .before .before .before .args .place in
     let line = now (c .before .before .before .before .before .args .line) in
     rw (c .no-entry .ensures) (says-none (names-of i line) _ (says-as (c .before .before .before .read-names .ensures) (not-true _ (c .before .if1 .taken))), refl)
-
-add-part : tie.Need-add-part
-add-part c = search needs
-
-part-requires : tie.Need-part-requires
-part-requires c κs = search needs
-
-read-decimal-requires : tie.Need-read-decimal-requires
-read-decimal-requires c κs = search needs
-
-enum-known-fourth : tie.Need-enum-known-fourth
-enum-known-fourth c = search needs
-
-enum-told : tie.Need-enum-told
-enum-told c = search needs
-
-no-entry-requires-2 : tie.Need-no-entry-requires-2
-no-entry-requires-2 c κs = search needs
 
 returns-2 : tie.Need-returns-2
 unfolding noEntry
@@ -66,24 +42,6 @@ returns-2 c =
     let names = says-as (c .before .before .before .before .before .before .before .read-names .ensures) (not-false _ (c .before .before .before .before .before .if1 .left)) in
     rw (c .no-entry2 .ensures) (says-then (names-of i line) names (says-none (time-of i line _) _ (decimal-says-no (i + 3) line (c .before .before .before .before .part .ensures) (c .before .before .before .read-decimal .ensures) (c .before .enum-told .given .1))), refl)
 
-add-part-2 : tie.Need-add-part-2
-add-part-2 c = search needs
-
-part-requires-2 : tie.Need-part-requires-2
-part-requires-2 c κs = search needs
-
-read-decimal-requires-2 : tie.Need-read-decimal-requires-2
-read-decimal-requires-2 c κs = search needs
-
-enum-known-fifth : tie.Need-enum-known-fifth
-enum-known-fifth c = search needs
-
-enum-told-2 : tie.Need-enum-told-2
-enum-told-2 c = search needs
-
-no-entry-requires-3 : tie.Need-no-entry-requires-3
-no-entry-requires-3 c κs = search needs
-
 returns-3 : tie.Need-returns-3
 unfolding noEntry
 returns-3 c =
@@ -92,18 +50,6 @@ returns-3 c =
     let names = says-as (c .before .before .before .before .before .before .before .before .before .before .before .before .read-names .ensures) (not-false _ (c .before .before .before .before .before .before .before .before .before .before .if1 .left)) in
     let fourth = decimal-says (i + 3) line (c .before .before .before .before .before .before .before .before .before .part .ensures) (c .before .before .before .before .before .before .before .before .read-decimal .ensures) (c .before .before .before .before .before .before .fourth .given .1) in
     rw (c .no-entry3 .ensures) (says-then (names-of i line) names (says-then (time-of i line _) fourth (says-none (size-of i line _ _) _ (decimal-says-no (i + 4) line (c .before .before .before .before .part2 .ensures) (c .before .before .before .read-decimal2 .ensures) (c .before .enum-told2 .given .1)))), refl)
-
-add-part-3 : tie.Need-add-part-3
-add-part-3 c = search needs
-
-part-requires-3 : tie.Need-part-requires-3
-part-requires-3 c κs = search needs
-
-read-id-requires : tie.Need-read-id-requires
-read-id-requires c κs = search needs
-
-no-entry-requires-4 : tie.Need-no-entry-requires-4
-no-entry-requires-4 c κs = search needs
 
 returns-4 : tie.Need-returns-4
 unfolding noEntry
@@ -128,26 +74,7 @@ pub read-entry-spec : {M : Type 1} → statement M
 read-entry-spec =
     tie.close
     (tie.spec
-    read-names-requires
-    no-entry-requires
-    returns
-    add-part
-    part-requires
-    read-decimal-requires
-    enum-known-fourth
-    enum-told
-    no-entry-requires-2
-    returns-2
-    add-part-2
-    part-requires-2
-    read-decimal-requires-2
-    enum-known-fifth
-    enum-told-2
-    no-entry-requires-3
-    returns-3
-    add-part-3
-    part-requires-3
-    read-id-requires
-    no-entry-requires-4
-    returns-4
-    returns-5)
+    (λ c κs. search needs) (λ c κs. search needs) returns (λ c. search needs) (λ c κs. search needs) (λ c κs. search needs)
+    (λ c. search needs) (λ c. search needs) (λ c κs. search needs) returns-2 (λ c. search needs) (λ c κs. search needs)
+    (λ c κs. search needs) (λ c. search needs) (λ c. search needs) (λ c κs. search needs) returns-3 (λ c. search needs)
+    (λ c κs. search needs) (λ c κs. search needs) (λ c κs. search needs) returns-4 returns-5)

@@ -24,33 +24,12 @@ second-of i line n s k = pathField (i + 2) line (λ p. third-of n s p k)
 abbrev first-of : ℕ → List ℕ → List ℕ → (Names → List ℕ) → List ℕ
 first-of i line n k = idField (i + 1) line (λ s. second-of i line n s k)
 
-part-requires : tie.Need-part-requires
-part-requires c κs = search needs
-
-read-id-requires : tie.Need-read-id-requires
-read-id-requires c κs = search needs
-
-no-names-requires : tie.Need-no-names-requires
-no-names-requires c κs = search needs
-
 returns : tie.Need-returns
 unfolding noNames
 returns c =
     let i = c .before .before .before .before .before .before .args .place in
     let line = now (c .before .before .before .before .before .before .args .line) in
     rw (c .no-names .ensures) (says-none (first-of i line) _ (field-says readId (λ r. r .ok) (λ r. r .id) i line (c .before .before .before .before .part .ensures) (c .before .before .before .read-id .ensures) false (not-true _ (c .before .if1 .taken))))
-
-add-part : tie.Need-add-part
-add-part c = search needs
-
-part-requires-2 : tie.Need-part-requires-2
-part-requires-2 c κs = search needs
-
-read-id-requires-2 : tie.Need-read-id-requires-2
-read-id-requires-2 c κs = search needs
-
-no-names-requires-2 : tie.Need-no-names-requires-2
-no-names-requires-2 c κs = search needs
 
 returns-2 : tie.Need-returns-2
 unfolding noNames
@@ -59,24 +38,6 @@ returns-2 c =
     let line = now (c .before .before .before .before .before .before .before .before .before .before .args .line) in
     let first = field-says readId (λ r. r .ok) (λ r. r .id) i line (c .before .before .before .before .before .before .before .before .part .ensures) (c .before .before .before .before .before .before .before .read-id .ensures) true (not-false _ (c .before .before .before .before .before .if1 .left)) in
     rw (c .no-names2 .ensures) (says-then (first-of i line) first (says-none (second-of i line _) _ (field-says readId (λ r. r .ok) (λ r. r .id) (i + 1) line (c .before .before .before .before .part2 .ensures) (c .before .before .before .read-id2 .ensures) false (not-true _ (c .before .if2 .taken)))))
-
-add-part-2 : tie.Need-add-part-2
-add-part-2 c = search needs
-
-part-requires-3 : tie.Need-part-requires-3
-part-requires-3 c κs = search needs
-
-read-path-requires : tie.Need-read-path-requires
-read-path-requires c κs = search needs
-
-enum-told : tie.Need-enum-told
-enum-told c = search needs
-
-enum-told-2 : tie.Need-enum-told-2
-enum-told-2 c = search needs
-
-no-names-requires-3 : tie.Need-no-names-requires-3
-no-names-requires-3 c κs = search needs
 
 returns-3 : tie.Need-returns-3
 unfolding noNames
@@ -99,20 +60,6 @@ pub read-names-spec : {M : Type 1} → statement M
 read-names-spec =
     tie.close
     (tie.spec
-    part-requires
-    read-id-requires
-    no-names-requires
-    returns
-    add-part
-    part-requires-2
-    read-id-requires-2
-    no-names-requires-2
-    returns-2
-    add-part-2
-    part-requires-3
-    read-path-requires
-    enum-told
-    enum-told-2
-    no-names-requires-3
-    returns-3
-    returns-4)
+    (λ c κs. search needs) (λ c κs. search needs) (λ c κs. search needs) returns (λ c. search needs) (λ c κs. search needs)
+    (λ c κs. search needs) (λ c κs. search needs) returns-2 (λ c. search needs) (λ c κs. search needs) (λ c κs. search needs)
+    (λ c. search needs) (λ c. search needs) (λ c κs. search needs) returns-3 returns-4)

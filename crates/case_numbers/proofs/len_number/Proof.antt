@@ -6,39 +6,12 @@ use borrow.Author.Needs.{needs}
 use Rattle.case_numbers.proofs.len_number.Statement.{statement}
 use Rattle.case_numbers.proofs.len_number.Tie as tie
 
-part-count-requires : tie.Need-part-count-requires
-part-count-requires c κs = search needs
-
-refuse-requires : tie.Need-refuse-requires
-refuse-requires c κs = search needs
-
-same-length : tie.Need-same-length
-same-length c = search needs
-
 returns : tie.Need-returns
 returns c =
     let a = c .before .before .before .before .before .before .before .before .args in
     let line = now (a .line) in
     let counted = c .before .before .before .before .before .part-count .ensures in
     puts (length-fields (bits (a .width)) line counted (c .before .before .before .before .if1 .taken)) (c .before .before .refuse .ensures)
-
-part-requires : tie.Need-part-requires
-part-requires c κs = search needs
-
-read-decimal-requires : tie.Need-read-decimal-requires
-read-decimal-requires c κs = search needs
-
-enum-known-value : tie.Need-enum-known-value
-enum-known-value c = search needs
-
-enum-told : tie.Need-enum-told
-enum-told c = search needs
-
-refuse-requires-2 : tie.Need-refuse-requires-2
-refuse-requires-2 c κs = search needs
-
-same-length-2 : tie.Need-same-length-2
-same-length-2 c = search needs
 
 returns-2 : tie.Need-returns-2
 returns-2 c =
@@ -48,15 +21,6 @@ returns-2 c =
     let many = c .before .before .before .before .before .before .before .before .if1 .left in
     let value = decimal-refused 3 line (c .before .before .before .before .before .before .before .part .ensures) (c .before .before .before .before .before .before .read-decimal .ensures) (c .before .before .before .before .enum-told .given .1) in
     puts (length-value (bits (a .width)) line counted many value) (c .before .before .refuse2 .ensures)
-
-relative-len-of-encoding-requires : tie.Need-relative-len-of-encoding-requires
-relative-len-of-encoding-requires c κs = search needs
-
-length-requires : tie.Need-length-requires
-length-requires c κs = search needs
-
-same-length-3 : tie.Need-same-length-3
-same-length-3 c = search needs
 
 returns-3 : tie.Need-returns-3
 returns-3 c =
@@ -71,18 +35,6 @@ pub len-number-spec : {M : Type 1} → statement M
 len-number-spec =
     tie.close
     (tie.spec
-    part-count-requires
-    refuse-requires
-    same-length
-    returns
-    part-requires
-    read-decimal-requires
-    enum-known-value
-    enum-told
-    refuse-requires-2
-    same-length-2
-    returns-2
-    relative-len-of-encoding-requires
-    length-requires
-    same-length-3
-    returns-3)
+    (λ c κs. search needs) (λ c κs. search needs) (λ c. search needs) returns (λ c κs. search needs) (λ c κs. search needs)
+    (λ c. search needs) (λ c. search needs) (λ c κs. search needs) (λ c. search needs) returns-2 (λ c κs. search needs)
+    (λ c κs. search needs) (λ c. search needs) returns-3)

@@ -9,38 +9,11 @@ use borrow.Author.Needs.{needs}
 use Rattle.case_numbers.proofs.len_standalone.Statement.{statement}
 use Rattle.case_numbers.proofs.len_standalone.Tie as tie
 
-part-count-requires : tie.Need-part-count-requires
-part-count-requires c κs = search needs
-
-refuse-requires : tie.Need-refuse-requires
-refuse-requires c κs = search needs
-
-same-length : tie.Need-same-length
-same-length c = search needs
-
 returns : tie.Need-returns
 returns c =
     let line = now (c .before .before .before .before .before .before .before .before .args .line) in
     let counted = c .before .before .before .before .before .part-count .ensures in
     puts (length-fields decimalField standalone 2 3 line counted (c .before .before .before .before .if1 .taken)) (c .before .before .refuse .ensures)
-
-part-requires : tie.Need-part-requires
-part-requires c κs = search needs
-
-read-decimal-requires : tie.Need-read-decimal-requires
-read-decimal-requires c κs = search needs
-
-enum-known-value : tie.Need-enum-known-value
-enum-known-value c = search needs
-
-enum-told : tie.Need-enum-told
-enum-told c = search needs
-
-refuse-requires-2 : tie.Need-refuse-requires-2
-refuse-requires-2 c κs = search needs
-
-same-length-2 : tie.Need-same-length-2
-same-length-2 c = search needs
 
 returns-2 : tie.Need-returns-2
 returns-2 c =
@@ -49,15 +22,6 @@ returns-2 c =
     let many = c .before .before .before .before .before .before .before .before .if1 .left in
     let value = decimal-refused 2 line (c .before .before .before .before .before .before .before .part .ensures) (c .before .before .before .before .before .before .read-decimal .ensures) (c .before .before .before .before .enum-told .given .1) in
     puts (length-value decimalField standalone 2 3 line counted many value) (c .before .before .refuse2 .ensures)
-
-len-of-encoding-requires : tie.Need-len-of-encoding-requires
-len-of-encoding-requires c κs = search needs
-
-length-requires : tie.Need-length-requires
-length-requires c κs = search needs
-
-same-length-3 : tie.Need-same-length-3
-same-length-3 c = search needs
 
 returns-3 : tie.Need-returns-3
 returns-3 c =
@@ -72,18 +36,6 @@ pub len-standalone-spec : {M : Type 1} → statement M
 len-standalone-spec =
     tie.close
     (tie.spec
-    part-count-requires
-    refuse-requires
-    same-length
-    returns
-    part-requires
-    read-decimal-requires
-    enum-known-value
-    enum-told
-    refuse-requires-2
-    same-length-2
-    returns-2
-    len-of-encoding-requires
-    length-requires
-    same-length-3
-    returns-3)
+    (λ c κs. search needs) (λ c κs. search needs) (λ c. search needs) returns (λ c κs. search needs) (λ c κs. search needs)
+    (λ c. search needs) (λ c. search needs) (λ c κs. search needs) (λ c. search needs) returns-2 (λ c κs. search needs)
+    (λ c κs. search needs) (λ c. search needs) returns-3)

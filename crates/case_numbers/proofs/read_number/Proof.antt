@@ -7,24 +7,6 @@ use borrow.Author.Needs.{needs}
 use Rattle.case_numbers.proofs.read_number.Statement.{statement}
 use Rattle.case_numbers.proofs.read_number.Tie as tie
 
-part-requires : tie.Need-part-requires
-part-requires c κs = search needs
-
-read-decimal-requires : tie.Need-read-decimal-requires
-read-decimal-requires c κs = search needs
-
-enum-known-tag : tie.Need-enum-known-tag
-enum-known-tag c = search needs
-
-enum-told : tie.Need-enum-told
-enum-told c = search needs
-
-refuse-requires : tie.Need-refuse-requires
-refuse-requires c κs = search needs
-
-same-length : tie.Need-same-length
-same-length c = search needs
-
 returns : tie.Need-returns
 returns c =
     let a = c .before .before .before .before .before .before .before .before .before .before .args in
@@ -32,39 +14,12 @@ returns c =
     let tag = decimal-refused 3 line (c .before .before .before .before .before .before .before .part .ensures) (c .before .before .before .before .before .before .read-decimal .ensures) (c .before .before .before .before .enum-told .given .1) in
     puts (read-tag (bits (a .width)) line (a .canonic) tag) (c .before .before .refuse .ensures)
 
-tag-limit-requires : tie.Need-tag-limit-requires
-tag-limit-requires c κs = search needs
-
-refuse-requires-2 : tie.Need-refuse-requires-2
-refuse-requires-2 c κs = search needs
-
-same-length-2 : tie.Need-same-length-2
-same-length-2 c = search needs
-
 returns-2 : tie.Need-returns-2
 returns-2 c =
     let a = c .before .before .before .before .before .before .before .before .before .before .before .before .before .args in
     let line = now (a .line) in
     let tag = decimal-value 3 line (c .before .before .before .before .before .before .before .before .before .before .part .ensures) (c .before .before .before .before .before .before .before .before .before .read-decimal .ensures) (c .before .before .before .before .before .before .before .tag .given .1) in
     puts (read-over (bits (a .width)) line (a .canonic) _ tag (c .before .before .before .before .before .tag-limit .ensures .0) (c .before .before .before .before .if1 .taken)) (c .before .before .refuse2 .ensures)
-
-slice-aggregate-message : tie.Need-slice-aggregate-message
-slice-aggregate-message c = search needs
-
-message-requires : tie.Need-message-requires
-message-requires c κs = search needs
-
-enum-known-message : tie.Need-enum-known-message
-enum-known-message c = search needs
-
-enum-told-2 : tie.Need-enum-told-2
-enum-told-2 c = search needs
-
-refuse-requires-3 : tie.Need-refuse-requires-3
-refuse-requires-3 c κs = search needs
-
-same-length-3 : tie.Need-same-length-3
-same-length-3 c = search needs
 
 returns-3 : tie.Need-returns-3
 returns-3 c =
@@ -80,18 +35,6 @@ array-share-prefix-bytes c = message-inside 4 (now (c .before .before .before .b
 slice-aggregate-relative-decode : tie.Need-slice-aggregate-relative-decode
 slice-aggregate-relative-decode c = sym (message-long 4 (now (c .before .before .before .before .before .before .before .before .before .before .before .before .before .before .before .before .before .args .line)) (c .before .before .before .before .before .before .message .ensures) (c .before .before .before .message2 .given .1))
 
-cast-relative-decode : tie.Need-cast-relative-decode
-cast-relative-decode c = search needs
-
-relative-decode-requires : tie.Need-relative-decode-requires
-relative-decode-requires c κs = search needs
-
-number-requires : tie.Need-number-requires
-number-requires c κs = search needs
-
-same-length-4 : tie.Need-same-length-4
-same-length-4 c = search needs
-
 returns-4 : tie.Need-returns-4
 returns-4 c =
     let a = c .before .before .before .before .before .before .before .before .before .before .before .before .before .before .before .before .before .before .before .before .before .args in
@@ -105,28 +48,7 @@ pub read-number-spec : {M : Type 1} → statement M
 read-number-spec =
     tie.close
     (tie.spec
-    part-requires
-    read-decimal-requires
-    enum-known-tag
-    enum-told
-    refuse-requires
-    same-length
-    returns
-    tag-limit-requires
-    refuse-requires-2
-    same-length-2
-    returns-2
-    slice-aggregate-message
-    message-requires
-    enum-known-message
-    enum-told-2
-    refuse-requires-3
-    same-length-3
-    returns-3
-    array-share-prefix-bytes
-    slice-aggregate-relative-decode
-    cast-relative-decode
-    relative-decode-requires
-    number-requires
-    same-length-4
-    returns-4)
+    (λ c κs. search needs) (λ c κs. search needs) (λ c. search needs) (λ c. search needs) (λ c κs. search needs) (λ c. search needs) returns
+    (λ c κs. search needs) (λ c κs. search needs) (λ c. search needs) returns-2 (λ c. search needs) (λ c κs. search needs)
+    (λ c. search needs) (λ c. search needs) (λ c κs. search needs) (λ c. search needs) returns-3 array-share-prefix-bytes
+    slice-aggregate-relative-decode (λ c. search needs) (λ c κs. search needs) (λ c κs. search needs) (λ c. search needs) returns-4)

@@ -8,24 +8,6 @@ use borrow.Author.Needs.{needs}
 use Rattle.case_numbers.proofs.read_standalone.Statement.{statement}
 use Rattle.case_numbers.proofs.read_standalone.Tie as tie
 
-slice-aggregate-message : tie.Need-slice-aggregate-message
-slice-aggregate-message c = search needs
-
-message-requires : tie.Need-message-requires
-message-requires c κs = search needs
-
-enum-known-message : tie.Need-enum-known-message
-enum-known-message c = search needs
-
-enum-told : tie.Need-enum-told
-enum-told c = search needs
-
-refuse-requires : tie.Need-refuse-requires
-refuse-requires c κs = search needs
-
-same-length : tie.Need-same-length
-same-length c = search needs
-
 returns : tie.Need-returns
 returns c =
     let a = c .before .before .before .before .before .before .before .before .before .before .before .args in
@@ -37,15 +19,6 @@ array-share-prefix-bytes c = message-inside 2 (now (c .before .before .before .b
 slice-aggregate-decode : tie.Need-slice-aggregate-decode
 slice-aggregate-decode c = sym (message-long 2 (now (c .before .before .before .before .before .before .before .before .before .before .args .line)) (c .before .before .before .before .before .before .message .ensures) (c .before .before .before .message2 .given .1))
 
-decode-requires : tie.Need-decode-requires
-decode-requires c κs = search needs
-
-number-requires : tie.Need-number-requires
-number-requires c κs = search needs
-
-same-length-2 : tie.Need-same-length-2
-same-length-2 c = search needs
-
 returns-2 : tie.Need-returns-2
 returns-2 c =
     let a = c .before .before .before .before .before .before .before .before .before .before .before .before .before .before .args in
@@ -55,16 +28,5 @@ pub read-standalone-spec : {M : Type 1} → statement M
 read-standalone-spec =
     tie.close
     (tie.spec
-    slice-aggregate-message
-    message-requires
-    enum-known-message
-    enum-told
-    refuse-requires
-    same-length
-    returns
-    array-share-prefix-bytes
-    slice-aggregate-decode
-    decode-requires
-    number-requires
-    same-length-2
-    returns-2)
+    (λ c. search needs) (λ c κs. search needs) (λ c. search needs) (λ c. search needs) (λ c κs. search needs) (λ c. search needs) returns
+    array-share-prefix-bytes slice-aggregate-decode (λ c κs. search needs) (λ c κs. search needs) (λ c. search needs) returns-2)

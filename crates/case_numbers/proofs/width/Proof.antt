@@ -3,33 +3,15 @@ use Rattle.case_numbers.specs.Lines.{onWidth}
 use Rattle.case_numbers.proofs.width.Statement.{statement}
 use Rattle.case_numbers.proofs.width.Tie as tie
 
-slice-aggregate-same-bytes : tie.Need-slice-aggregate-same-bytes
-slice-aggregate-same-bytes c = search needs
-
-same-bytes-requires : tie.Need-same-bytes-requires
-same-bytes-requires c κs = search needs
-
 returns : tie.Need-returns
 unfolding onWidth
 returns c k = rw (← (c .before .same-bytes .ensures), c .if1 .taken)
-
-slice-aggregate-same-bytes-2 : tie.Need-slice-aggregate-same-bytes-2
-slice-aggregate-same-bytes-2 c = search needs
-
-same-bytes-requires-2 : tie.Need-same-bytes-requires-2
-same-bytes-requires-2 c κs = search needs
 
 returns-2 : tie.Need-returns-2
 unfolding onWidth
 returns-2 c k =
     let c1 = c .before .before .before in
     rw (← (c1 .before .same-bytes .ensures), c1 .if1 .left, ← (c .before .same-bytes2 .ensures), c .if2 .taken)
-
-slice-aggregate-same-bytes-3 : tie.Need-slice-aggregate-same-bytes-3
-slice-aggregate-same-bytes-3 c = search needs
-
-same-bytes-requires-3 : tie.Need-same-bytes-requires-3
-same-bytes-requires-3 c κs = search needs
 
 returns-3 : tie.Need-returns-3
 unfolding onWidth
@@ -44,12 +26,6 @@ returns-3 c k =
       ← (c .before .same-bytes3 .ensures),
       c .if3 .taken,
     )
-
-slice-aggregate-same-bytes-4 : tie.Need-slice-aggregate-same-bytes-4
-slice-aggregate-same-bytes-4 c = search needs
-
-same-bytes-requires-4 : tie.Need-same-bytes-requires-4
-same-bytes-requires-4 c κs = search needs
 
 returns-4 : tie.Need-returns-4
 unfolding onWidth
@@ -89,16 +65,5 @@ pub width-spec : {M : Type 1} → statement M
 width-spec =
     tie.close
     (tie.spec
-    slice-aggregate-same-bytes
-    same-bytes-requires
-    returns
-    slice-aggregate-same-bytes-2
-    same-bytes-requires-2
-    returns-2
-    slice-aggregate-same-bytes-3
-    same-bytes-requires-3
-    returns-3
-    slice-aggregate-same-bytes-4
-    same-bytes-requires-4
-    returns-4
-    returns-5)
+    (λ c. search needs) (λ c κs. search needs) returns (λ c. search needs) (λ c κs. search needs) returns-2 (λ c. search needs)
+    (λ c κs. search needs) returns-3 (λ c. search needs) (λ c κs. search needs) returns-4 returns-5)

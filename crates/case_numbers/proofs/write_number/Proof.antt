@@ -7,39 +7,12 @@ use borrow.Author.Needs.{needs}
 use Rattle.case_numbers.proofs.write_number.Statement.{statement}
 use Rattle.case_numbers.proofs.write_number.Tie as tie
 
-part-count-requires : tie.Need-part-count-requires
-part-count-requires c κs = search needs
-
-refuse-requires : tie.Need-refuse-requires
-refuse-requires c κs = search needs
-
-same-length : tie.Need-same-length
-same-length c = search needs
-
 returns : tie.Need-returns
 returns c =
     let a = c .before .before .before .before .before .before .before .before .args in
     let line = now (a .line) in
     let counted = c .before .before .before .before .before .part-count .ensures in
     puts (write-fields (bits (a .width)) line counted (c .before .before .before .before .if1 .taken)) (c .before .before .refuse .ensures)
-
-part-requires : tie.Need-part-requires
-part-requires c κs = search needs
-
-read-decimal-requires : tie.Need-read-decimal-requires
-read-decimal-requires c κs = search needs
-
-enum-known-value : tie.Need-enum-known-value
-enum-known-value c = search needs
-
-enum-told : tie.Need-enum-told
-enum-told c = search needs
-
-refuse-requires-2 : tie.Need-refuse-requires-2
-refuse-requires-2 c κs = search needs
-
-same-length-2 : tie.Need-same-length-2
-same-length-2 c = search needs
 
 returns-2 : tie.Need-returns-2
 returns-2 c =
@@ -49,24 +22,6 @@ returns-2 c =
     let many = c .before .before .before .before .before .before .before .before .if1 .left in
     let value = decimal-refused 3 line (c .before .before .before .before .before .before .before .part .ensures) (c .before .before .before .before .before .before .read-decimal .ensures) (c .before .before .before .before .enum-told .given .1) in
     puts (write-value (bits (a .width)) line counted many value) (c .before .before .refuse2 .ensures)
-
-slice-aggregate-hex : tie.Need-slice-aggregate-hex
-slice-aggregate-hex c = search needs
-
-hex-requires : tie.Need-hex-requires
-hex-requires c κs = search needs
-
-enum-known-hex : tie.Need-enum-known-hex
-enum-known-hex c = search needs
-
-enum-told-2 : tie.Need-enum-told-2
-enum-told-2 c = search needs
-
-refuse-requires-3 : tie.Need-refuse-requires-3
-refuse-requires-3 c κs = search needs
-
-same-length-3 : tie.Need-same-length-3
-same-length-3 c = search needs
 
 returns-3 : tie.Need-returns-3
 returns-3 c =
@@ -90,18 +45,6 @@ slice-aggregate-relative-encode c =
     let read = c .before .before .before .before .before .hex .ensures in
     sym (hex-long 4 line read (c .before .before .hex2 .given .1))
 
-relative-encode-requires : tie.Need-relative-encode-requires
-relative-encode-requires c κs = search needs
-
-min-tag-requires : tie.Need-min-tag-requires
-min-tag-requires c κs = search needs
-
-written-number-requires : tie.Need-written-number-requires
-written-number-requires c κs = search needs
-
-same-length-4 : tie.Need-same-length-4
-same-length-4 c = search needs
-
 returns-4 : tie.Need-returns-4
 returns-4 c =
     let a = c .before .before .before .before .before .before .before .before .before .before .before .before .before .before .before .before .before .before .before .before .before .before .before .before .args in
@@ -119,28 +62,7 @@ pub write-number-spec : {M : Type 1} → statement M
 write-number-spec =
     tie.close
     (tie.spec
-    part-count-requires
-    refuse-requires
-    same-length
-    returns
-    part-requires
-    read-decimal-requires
-    enum-known-value
-    enum-told
-    refuse-requires-2
-    same-length-2
-    returns-2
-    slice-aggregate-hex
-    hex-requires
-    enum-known-hex
-    enum-told-2
-    refuse-requires-3
-    same-length-3
-    returns-3
-    array-borrow-prefix-buffer
-    slice-aggregate-relative-encode
-    relative-encode-requires
-    min-tag-requires
-    written-number-requires
-    same-length-4
-    returns-4)
+    (λ c κs. search needs) (λ c κs. search needs) (λ c. search needs) returns (λ c κs. search needs) (λ c κs. search needs)
+    (λ c. search needs) (λ c. search needs) (λ c κs. search needs) (λ c. search needs) returns-2 (λ c. search needs) (λ c κs. search needs)
+    (λ c. search needs) (λ c. search needs) (λ c κs. search needs) (λ c. search needs) returns-3 array-borrow-prefix-buffer
+    slice-aggregate-relative-encode (λ c κs. search needs) (λ c κs. search needs) (λ c κs. search needs) (λ c. search needs) returns-4)

@@ -8,38 +8,11 @@ use borrow.Author.Needs.{needs}
 use Rattle.case_numbers.proofs.write_standalone.Statement.{statement}
 use Rattle.case_numbers.proofs.write_standalone.Tie as tie
 
-part-count-requires : tie.Need-part-count-requires
-part-count-requires c κs = search needs
-
-refuse-requires : tie.Need-refuse-requires
-refuse-requires c κs = search needs
-
-same-length : tie.Need-same-length
-same-length c = search needs
-
 returns : tie.Need-returns
 returns c =
     let line = now (c .before .before .before .before .before .before .before .before .args .line) in
     let counted = c .before .before .before .before .before .part-count .ensures in
     puts (write-fields decimalField standalone 2 3 line counted (c .before .before .before .before .if1 .taken)) (c .before .before .refuse .ensures)
-
-part-requires : tie.Need-part-requires
-part-requires c κs = search needs
-
-read-decimal-requires : tie.Need-read-decimal-requires
-read-decimal-requires c κs = search needs
-
-enum-known-value : tie.Need-enum-known-value
-enum-known-value c = search needs
-
-enum-told : tie.Need-enum-told
-enum-told c = search needs
-
-refuse-requires-2 : tie.Need-refuse-requires-2
-refuse-requires-2 c κs = search needs
-
-same-length-2 : tie.Need-same-length-2
-same-length-2 c = search needs
 
 returns-2 : tie.Need-returns-2
 returns-2 c =
@@ -48,24 +21,6 @@ returns-2 c =
     let many = c .before .before .before .before .before .before .before .before .if1 .left in
     let value = decimal-refused 2 line (c .before .before .before .before .before .before .before .part .ensures) (c .before .before .before .before .before .before .read-decimal .ensures) (c .before .before .before .before .enum-told .given .1) in
     puts (write-value decimalField standalone 2 3 line counted many value) (c .before .before .refuse2 .ensures)
-
-slice-aggregate-hex : tie.Need-slice-aggregate-hex
-slice-aggregate-hex c = search needs
-
-hex-requires : tie.Need-hex-requires
-hex-requires c κs = search needs
-
-enum-known-hex : tie.Need-enum-known-hex
-enum-known-hex c = search needs
-
-enum-told-2 : tie.Need-enum-told-2
-enum-told-2 c = search needs
-
-refuse-requires-3 : tie.Need-refuse-requires-3
-refuse-requires-3 c κs = search needs
-
-same-length-3 : tie.Need-same-length-3
-same-length-3 c = search needs
 
 returns-3 : tie.Need-returns-3
 returns-3 c =
@@ -88,15 +43,6 @@ slice-aggregate-encode c =
     let read = c .before .before .before .before .before .hex .ensures in
     sym (hex-long 3 line read (c .before .before .hex2 .given .1))
 
-encode-requires : tie.Need-encode-requires
-encode-requires c κs = search needs
-
-written-requires : tie.Need-written-requires
-written-requires c κs = search needs
-
-same-length-4 : tie.Need-same-length-4
-same-length-4 c = search needs
-
 returns-4 : tie.Need-returns-4
 returns-4 c =
     let line = now (c .before .before .before .before .before .before .before .before .before .before .before .before .before .before .before .before .before .before .before .before .before .before .before .args .line) in
@@ -112,27 +58,7 @@ pub write-standalone-spec : {M : Type 1} → statement M
 write-standalone-spec =
     tie.close
     (tie.spec
-    part-count-requires
-    refuse-requires
-    same-length
-    returns
-    part-requires
-    read-decimal-requires
-    enum-known-value
-    enum-told
-    refuse-requires-2
-    same-length-2
-    returns-2
-    slice-aggregate-hex
-    hex-requires
-    enum-known-hex
-    enum-told-2
-    refuse-requires-3
-    same-length-3
-    returns-3
-    array-borrow-prefix-buffer
-    slice-aggregate-encode
-    encode-requires
-    written-requires
-    same-length-4
-    returns-4)
+    (λ c κs. search needs) (λ c κs. search needs) (λ c. search needs) returns (λ c κs. search needs) (λ c κs. search needs)
+    (λ c. search needs) (λ c. search needs) (λ c κs. search needs) (λ c. search needs) returns-2 (λ c. search needs) (λ c κs. search needs)
+    (λ c. search needs) (λ c. search needs) (λ c κs. search needs) (λ c. search needs) returns-3 array-borrow-prefix-buffer
+    slice-aggregate-encode (λ c κs. search needs) (λ c κs. search needs) (λ c. search needs) returns-4)

@@ -7,13 +7,10 @@ use borrow.Author.Needs.{needs}
 use Rattle.case_paths.proofs.print.Statement.{statement}
 use Rattle.case_paths.proofs.print.Tie as tie
 
-put-path-requires : tie.Need-put-path-requires
-put-path-requires c κs = search needs
-
 returns : tie.Need-returns
 returns c =
     let p = c .before .before .args .path in
     puts-first (puts-fits (pathTextOf p) (omega (arith, path-text-laws .path-few p (typed p (c .before .before .good .0)))) (c .put-path .ensures))
 
 pub print-spec : {M : Type 1} → statement M
-print-spec = tie.close (tie.spec put-path-requires returns)
+print-spec = tie.close (tie.spec (λ c κs. search needs) returns)

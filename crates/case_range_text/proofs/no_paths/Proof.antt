@@ -3,15 +3,9 @@ use borrow.Author.Needs.{needs}
 use Rattle.case_range_text.proofs.no_paths.Statement.{statement}
 use Rattle.case_range_text.proofs.no_paths.Tie as tie
 
-new-empty-requires : tie.Need-new-empty-requires
-new-empty-requires c κs = search needs
-
-new-empty-requires-2 : tie.Need-new-empty-requires-2
-new-empty-requires-2 c κs = search needs
-
 returns : tie.Need-returns
 unfolding noPathsField
 returns c = rw (c .before .new-empty .ensures, c .new-empty2 .ensures)
 
 pub no-paths-spec : {M : Type 1} → statement M
-no-paths-spec = tie.close (tie.spec new-empty-requires new-empty-requires-2 returns)
+no-paths-spec = tie.close (tie.spec (λ c κs. search needs) (λ c κs. search needs) returns)

@@ -18,45 +18,6 @@ use borrow.Author.Needs.{needs}
 use Rattle.case_range_text.proofs.print_range.Statement.{statement}
 use Rattle.case_range_text.proofs.print_range.Tie as tie
 
-print-subspaces-requires : tie.Need-print-subspaces-requires
-print-subspaces-requires c κs = search needs
-
-slice-aggregate-put-bytes : tie.Need-slice-aggregate-put-bytes
-slice-aggregate-put-bytes c = search needs
-
-put-bytes-requires : tie.Need-put-bytes-requires
-put-bytes-requires c κs = search needs
-
-put-path-requires : tie.Need-put-path-requires
-put-path-requires c κs = search needs
-
-slice-aggregate-put-bytes-2 : tie.Need-slice-aggregate-put-bytes-2
-slice-aggregate-put-bytes-2 c = search needs
-
-put-bytes-requires-2 : tie.Need-put-bytes-requires-2
-put-bytes-requires-2 c κs = search needs
-
-put-path-end-requires : tie.Need-put-path-end-requires
-put-path-end-requires c κs = search needs
-
-slice-aggregate-put-bytes-3 : tie.Need-slice-aggregate-put-bytes-3
-slice-aggregate-put-bytes-3 c = search needs
-
-put-bytes-requires-3 : tie.Need-put-bytes-requires-3
-put-bytes-requires-3 c κs = search needs
-
-put-decimal-requires : tie.Need-put-decimal-requires
-put-decimal-requires c κs = search needs
-
-slice-aggregate-put-bytes-4 : tie.Need-slice-aggregate-put-bytes-4
-slice-aggregate-put-bytes-4 c = search needs
-
-put-bytes-requires-4 : tie.Need-put-bytes-requires-4
-put-bytes-requires-4 c κs = search needs
-
-put-end-requires : tie.Need-put-end-requires
-put-end-requires c κs = search needs
-
 returns : tie.Need-returns
 returns c =
     let a = c .before .before .before .before .before .before .before .before .before .before .before .before .before .before .before .before .before .before .before .before .before .before .before .before .args .range in
@@ -90,17 +51,6 @@ pub print-range-spec : {M : Type 1} → statement M
 print-range-spec =
     tie.close
     (tie.spec
-    print-subspaces-requires
-    slice-aggregate-put-bytes
-    put-bytes-requires
-    put-path-requires
-    slice-aggregate-put-bytes-2
-    put-bytes-requires-2
-    put-path-end-requires
-    slice-aggregate-put-bytes-3
-    put-bytes-requires-3
-    put-decimal-requires
-    slice-aggregate-put-bytes-4
-    put-bytes-requires-4
-    put-end-requires
-    returns)
+    (λ c κs. search needs) (λ c. search needs) (λ c κs. search needs) (λ c κs. search needs) (λ c. search needs) (λ c κs. search needs)
+    (λ c κs. search needs) (λ c. search needs) (λ c κs. search needs) (λ c κs. search needs) (λ c. search needs) (λ c κs. search needs)
+    (λ c κs. search needs) returns)

@@ -9,21 +9,6 @@ use borrow.Author.Needs.{needs}
 use Rattle.case_range_text.proofs.print_subspaces.Statement.{statement}
 use Rattle.case_range_text.proofs.print_subspaces.Tie as tie
 
-slice-aggregate-put-hex : tie.Need-slice-aggregate-put-hex
-slice-aggregate-put-hex c = search needs
-
-put-hex-requires : tie.Need-put-hex-requires
-put-hex-requires c κs = search needs
-
-slice-aggregate-put-bytes : tie.Need-slice-aggregate-put-bytes
-slice-aggregate-put-bytes c = search needs
-
-put-bytes-requires : tie.Need-put-bytes-requires
-put-bytes-requires c κs = search needs
-
-put-subspace-requires : tie.Need-put-subspace-requires
-put-subspace-requires c κs = search needs
-
 returns : tie.Need-returns
 returns c =
     let a = c .before .before .before .before .before .before .before .before .before .before .args .subspaces in
@@ -43,9 +28,4 @@ pub print-subspaces-spec : {M : Type 1} → statement M
 print-subspaces-spec =
     tie.close
     (tie.spec
-    slice-aggregate-put-hex
-    put-hex-requires
-    slice-aggregate-put-bytes
-    put-bytes-requires
-    put-subspace-requires
-    returns)
+    (λ c. search needs) (λ c κs. search needs) (λ c. search needs) (λ c κs. search needs) (λ c κs. search needs) returns)

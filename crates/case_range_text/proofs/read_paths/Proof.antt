@@ -21,39 +21,12 @@ end-of start end k = k (record { start = start; «end_open» = end .«end_open»
 abbrev start-of : ℕ → List ℕ → Path → (PathRange → List ℕ) → List ℕ
 start-of i line start k = onField (readPathEnd (field (i + 1) line) .ok) (readPathEnd (field (i + 1) line) .end) (λ end. end-of start end k)
 
-part-requires : tie.Need-part-requires
-part-requires c κs = search needs
-
-read-path-requires : tie.Need-read-path-requires
-read-path-requires c κs = search needs
-
-enum-told : tie.Need-enum-told
-enum-told c = search needs
-
-enum-told-2 : tie.Need-enum-told-2
-enum-told-2 c = search needs
-
-no-paths-requires : tie.Need-no-paths-requires
-no-paths-requires c κs = search needs
-
 returns : tie.Need-returns
 unfolding noPathsField
 returns c =
     let i = c .before .before .before .before .before .before .args .i in
     let line = now (c .before .before .before .before .before .before .args .line) in
     rw (c .no-paths .ensures) (says-none (start-of i line) _ (path-says-no i line (c .before .before .before .before .part .ensures) (c .before .before .before .read-path .ensures) (c .before .enum-told2 .given .1)))
-
-add-part : tie.Need-add-part
-add-part c = search needs
-
-part-requires-2 : tie.Need-part-requires-2
-part-requires-2 c κs = search needs
-
-read-path-end-requires : tie.Need-read-path-end-requires
-read-path-end-requires c κs = search needs
-
-no-paths-requires-2 : tie.Need-no-paths-requires-2
-no-paths-requires-2 c κs = search needs
 
 returns-2 : tie.Need-returns-2
 unfolding noPathsField
@@ -74,15 +47,5 @@ pub read-paths-spec : {M : Type 1} → statement M
 read-paths-spec =
     tie.close
     (tie.spec
-    part-requires
-    read-path-requires
-    enum-told
-    enum-told-2
-    no-paths-requires
-    returns
-    add-part
-    part-requires-2
-    read-path-end-requires
-    no-paths-requires-2
-    returns-2
-    returns-3)
+    (λ c κs. search needs) (λ c κs. search needs) (λ c. search needs) (λ c. search needs) (λ c κs. search needs) returns (λ c. search needs)
+    (λ c κs. search needs) (λ c κs. search needs) (λ c κs. search needs) returns-2 returns-3)

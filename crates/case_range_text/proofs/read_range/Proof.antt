@@ -23,12 +23,6 @@ paths-of i line s p k = timesField (i + 4) line (λ t. times-of s p t k)
 abbrev subspaces-of : ℕ → List ℕ → SubspaceRange → (Range3d → List ℕ) → List ℕ
 subspaces-of i line s k = pathsField (i + 2) line (λ p. paths-of i line s p k)
 
-read-subspaces-requires : tie.Need-read-subspaces-requires
-read-subspaces-requires c κs = search needs
-
-no-range-requires : tie.Need-no-range-requires
-no-range-requires c κs = search needs
-
 returns : tie.Need-returns
 unfolding noRangeField
 returns c =
@@ -36,30 +30,12 @@ returns c =
     let line = now (c .before .before .before .before .before .args .line) in
     rw (c .no-range .ensures) (says-none (subspaces-of i line) _ (says-as (c .before .before .before .read-subspaces .ensures) (not-true _ (c .before .if1 .taken))), refl)
 
-add-read-paths : tie.Need-add-read-paths
-add-read-paths c = search needs
-
-read-paths-requires : tie.Need-read-paths-requires
-read-paths-requires c κs = search needs
-
-no-range-requires-2 : tie.Need-no-range-requires-2
-no-range-requires-2 c κs = search needs
-
 returns-2 : tie.Need-returns-2
 unfolding noRangeField
 returns-2 c =
     let i = c .before .before .before .before .before .before .before .before .args .place in
     let line = now (c .before .before .before .before .before .before .before .before .args .line) in
     rw (c .no-range2 .ensures) (says-then (subspaces-of i line) (says-as (c .before .before .before .before .before .before .read-subspaces .ensures) (not-false _ (c .before .before .before .before .if1 .left))) (says-none (paths-of i line _) _ (says-as (c .before .before .before .read-paths .ensures) (not-true _ (c .before .if2 .taken)))), refl)
-
-add-read-times : tie.Need-add-read-times
-add-read-times c = search needs
-
-read-times-requires : tie.Need-read-times-requires
-read-times-requires c κs = search needs
-
-no-range-requires-3 : tie.Need-no-range-requires-3
-no-range-requires-3 c κs = search needs
 
 returns-3 : tie.Need-returns-3
 unfolding noRangeField
@@ -78,15 +54,5 @@ pub read-range-spec : {M : Type 1} → statement M
 read-range-spec =
     tie.close
     (tie.spec
-    read-subspaces-requires
-    no-range-requires
-    returns
-    add-read-paths
-    read-paths-requires
-    no-range-requires-2
-    returns-2
-    add-read-times
-    read-times-requires
-    no-range-requires-3
-    returns-3
-    returns-4)
+    (λ c κs. search needs) (λ c κs. search needs) returns (λ c. search needs) (λ c κs. search needs) (λ c κs. search needs) returns-2
+    (λ c. search needs) (λ c κs. search needs) (λ c κs. search needs) returns-3 returns-4)

@@ -22,33 +22,12 @@ end-of start end k = k (record { start = start; «end_open» = end .any; end = e
 abbrev start-of : ℕ → List ℕ → List ℕ → (SubspaceRange → List ℕ) → List ℕ
 start-of i line start k = onField (readSubspaceText (field (i + 1) line) .ok) (readSubspaceText (field (i + 1) line) .subspace) (λ end. end-of start end k)
 
-part-requires : tie.Need-part-requires
-part-requires c κs = search needs
-
-read-id-requires : tie.Need-read-id-requires
-read-id-requires c κs = search needs
-
-no-subspaces-requires : tie.Need-no-subspaces-requires
-no-subspaces-requires c κs = search needs
-
 returns : tie.Need-returns
 unfolding noSubspacesField
 returns c =
     let i = c .before .before .before .before .before .before .args .i in
     let line = now (c .before .before .before .before .before .before .args .line) in
     rw (c .no-subspaces .ensures) (says-none (start-of i line) _ (field-says readId (λ r. r .ok) (λ r. r .id) i line (c .before .before .before .before .part .ensures) (c .before .before .before .read-id .ensures) false (not-true _ (c .before .if1 .taken))))
-
-add-part : tie.Need-add-part
-add-part c = search needs
-
-part-requires-2 : tie.Need-part-requires-2
-part-requires-2 c κs = search needs
-
-read-subspace-requires : tie.Need-read-subspace-requires
-read-subspace-requires c κs = search needs
-
-no-subspaces-requires-2 : tie.Need-no-subspaces-requires-2
-no-subspaces-requires-2 c κs = search needs
 
 returns-2 : tie.Need-returns-2
 unfolding noSubspacesField
@@ -69,13 +48,5 @@ pub read-subspaces-spec : {M : Type 1} → statement M
 read-subspaces-spec =
     tie.close
     (tie.spec
-    part-requires
-    read-id-requires
-    no-subspaces-requires
-    returns
-    add-part
-    part-requires-2
-    read-subspace-requires
-    no-subspaces-requires-2
-    returns-2
-    returns-3)
+    (λ c κs. search needs) (λ c κs. search needs) (λ c κs. search needs) returns (λ c. search needs) (λ c κs. search needs)
+    (λ c κs. search needs) (λ c κs. search needs) returns-2 returns-3)

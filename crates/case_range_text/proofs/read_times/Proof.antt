@@ -21,39 +21,12 @@ end-of start end k = k (record { start = start; end = end })
 abbrev start-of : ℕ → List ℕ → ℕ → (TimeRange → List ℕ) → List ℕ
 start-of i line start k = onField (readEndText (field (i + 1) line) .ok) (readEndText (field (i + 1) line) .end) (λ end. end-of start end k)
 
-part-requires : tie.Need-part-requires
-part-requires c κs = search needs
-
-read-decimal-requires : tie.Need-read-decimal-requires
-read-decimal-requires c κs = search needs
-
-enum-known-first : tie.Need-enum-known-first
-enum-known-first c = search needs
-
-enum-told : tie.Need-enum-told
-enum-told c = search needs
-
-no-times-requires : tie.Need-no-times-requires
-no-times-requires c κs = search needs
-
 returns : tie.Need-returns
 unfolding noTimesField
 returns c =
     let i = c .before .before .before .before .before .before .args .i in
     let line = now (c .before .before .before .before .before .before .args .line) in
     rw (c .no-times .ensures) (says-none (start-of i line) _ (decimal-says-no i line (c .before .before .before .before .part .ensures) (c .before .before .before .read-decimal .ensures) (c .before .enum-told .given .1)))
-
-add-part : tie.Need-add-part
-add-part c = search needs
-
-part-requires-2 : tie.Need-part-requires-2
-part-requires-2 c κs = search needs
-
-read-end-requires : tie.Need-read-end-requires
-read-end-requires c κs = search needs
-
-no-times-requires-2 : tie.Need-no-times-requires-2
-no-times-requires-2 c κs = search needs
 
 returns-2 : tie.Need-returns-2
 unfolding noTimesField
@@ -74,15 +47,5 @@ pub read-times-spec : {M : Type 1} → statement M
 read-times-spec =
     tie.close
     (tie.spec
-    part-requires
-    read-decimal-requires
-    enum-known-first
-    enum-told
-    no-times-requires
-    returns
-    add-part
-    part-requires-2
-    read-end-requires
-    no-times-requires-2
-    returns-2
-    returns-3)
+    (λ c κs. search needs) (λ c κs. search needs) (λ c. search needs) (λ c. search needs) (λ c κs. search needs) returns (λ c. search needs)
+    (λ c κs. search needs) (λ c κs. search needs) (λ c κs. search needs) returns-2 returns-3)

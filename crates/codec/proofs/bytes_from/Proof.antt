@@ -9,11 +9,8 @@ use Rattle.codec.proofs.bytes_from.Tie as tie
 returns : tie.Need-returns
 returns c = rw length-drop (omega (arith, c .if1 .taken))
 
-sub-result : tie.Need-sub-result
-sub-result c = search needs
-
 returns-2 : tie.Need-returns-2
 returns-2 c = sym (length-drop (c .before .args .start) (now (c .before .args .message)))
 
 pub bytes-from-spec : {M : Type 1} → statement M
-bytes-from-spec = tie.close (tie.spec returns sub-result returns-2)
+bytes-from-spec = tie.close (tie.spec returns (λ c. search needs) returns-2)

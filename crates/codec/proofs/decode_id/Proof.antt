@@ -22,9 +22,6 @@ id-is c =
     let m : (a .start + 32) - a .start ≡ 32 = omega arith in
     rw m at (c .put-bytes .ensures .1) ∙ id-put (drop (a .start) (now (a .message))) (enough (c .before .before .before))
 
-bytes-from-requires : tie.Need-bytes-from-requires
-bytes-from-requires c κs = search needs
-
 returns : tie.Need-returns
 returns c =
     let a = c .before .before .before .args in
@@ -33,20 +30,8 @@ returns c =
 add-end : tie.Need-add-end
 add-end c = omega (arith, inside c)
 
-slice-aggregate-put-bytes : tie.Need-slice-aggregate-put-bytes
-slice-aggregate-put-bytes c = search needs
-
-sub-put-bytes : tie.Need-sub-put-bytes
-sub-put-bytes c = search needs
-
-part-put-bytes-start : tie.Need-part-put-bytes-start
-part-put-bytes-start c = search needs
-
 part-put-bytes-end : tie.Need-part-put-bytes-end
 part-put-bytes-end c = omega (arith, inside (c .before))
-
-put-bytes-requires : tie.Need-put-bytes-requires
-put-bytes-requires c κs = search needs
 
 returns-2 : tie.Need-returns-2
 returns-2 c =
@@ -57,12 +42,5 @@ pub decode-id-spec : {M : Type 1} → statement M
 decode-id-spec =
     tie.close
     (tie.spec
-    bytes-from-requires
-    returns
-    add-end
-    slice-aggregate-put-bytes
-    sub-put-bytes
-    part-put-bytes-start
-    part-put-bytes-end
-    put-bytes-requires
-    returns-2)
+    (λ c κs. search needs) returns add-end (λ c. search needs) (λ c. search needs) (λ c. search needs) part-put-bytes-end
+    (λ c κs. search needs) returns-2)

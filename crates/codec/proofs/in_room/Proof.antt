@@ -4,9 +4,6 @@ use borrow.Author.Needs.{needs}
 use Rattle.codec.proofs.in_room.Statement.{statement}
 use Rattle.codec.proofs.in_room.Tie as tie
 
-enum-known-whole : tie.Need-enum-known-whole
-enum-known-whole c = search needs
-
 returns : tie.Need-returns
 returns c = rw (no-length (c .before .args .whole) (c .match .keys2) .is)
 
@@ -17,4 +14,4 @@ returns-3 : tie.Need-returns-3
 returns-3 c = let n = c .before .before .whole .given .0 .0 in rw (c .before .before .whole .given .1, le-leb n (c .before .before .before .before .args .room) (c .if1 .left))
 
 pub in-room-spec : {M : Type 1} → statement M
-in-room-spec = tie.close (tie.spec enum-known-whole returns returns-2 returns-3)
+in-room-spec = tie.close (tie.spec (λ c. search needs) returns returns-2 returns-3)

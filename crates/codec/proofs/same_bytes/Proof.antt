@@ -21,24 +21,12 @@ returns c = sym (different (now (c .before .args .s)) (now (c .before .args .t))
 loop-holds : tie.Need-loop-holds Inv-loop μ-loop
 loop-holds c = (omega arith, omega arith, refl)
 
-shared-slice-read-if2 : tie.Need-shared-slice-read-if2 Inv-loop μ-loop
-shared-slice-read-if2 c = omega arith
-
-shared-slice-read-if2-2 : tie.Need-shared-slice-read-if2-2 Inv-loop μ-loop
-shared-slice-read-if2-2 c = omega arith
-
 returns-2 : tie.Need-returns-2 Inv-loop μ-loop
 returns-2 c =
     let s = now (c .before .before .before .before .before .before .args .s) in
     let t = now (c .before .before .before .before .before .before .args .t) in
     let l = c .before .before .before .before .loop in
     sym (l .inv .2 ∙ same-next s t (l .i) (omega arith) (omega arith) ∙ rw (ne-eqb (getD s (l .i) 0) (getD t (l .i) 0) (c .if2 .taken)))
-
-add-i : tie.Need-add-i Inv-loop μ-loop
-add-i c = omega arith
-
-loop-less : tie.Need-loop-less Inv-loop μ-loop
-loop-less c = omega arith
 
 loop-again : tie.Need-loop-again Inv-loop μ-loop
 loop-again c =
@@ -60,14 +48,5 @@ pub same-bytes-spec : {M : Type 1} → statement M
 same-bytes-spec =
     tie.close
     (tie.spec
-    Inv-loop
-    μ-loop
-    returns
-    loop-holds
-    shared-slice-read-if2
-    shared-slice-read-if2-2
-    returns-2
-    add-i
-    loop-less
-    loop-again
+    Inv-loop μ-loop returns loop-holds (λ c. omega arith) (λ c. omega arith) returns-2 (λ c. omega arith) (λ c. omega arith) loop-again
     returns-3)

@@ -19,28 +19,13 @@ abbrev μ-loop : tie.MeasureT-loop
 loop-holds : tie.Need-loop-holds Inv-loop μ-loop
 loop-holds c = (omega arith, omega arith, refl)
 
-add-at : tie.Need-add-at Inv-loop μ-loop
-add-at c = search needs
-
 mul-v : tie.Need-mul-v Inv-loop μ-loop
 mul-v c = omega (arith, room64 (c .before .loop .i) (c .before .loop .v) 0 (omega arith) (omega arith) (omega arith))
-
-shared-slice-read-wide : tie.Need-shared-slice-read-wide Inv-loop μ-loop
-shared-slice-read-wide c = search needs
-
-wide-requires : tie.Need-wide-requires Inv-loop μ-loop
-wide-requires c κs = search needs
 
 add-v : tie.Need-add-v Inv-loop μ-loop
 add-v c =
     let l = c .before .before .before .loop in
     omega (arith, room64 (l .i) (l .v) (c .wide .result) (omega arith) (omega arith) (omega arith))
-
-add-i : tie.Need-add-i Inv-loop μ-loop
-add-i c = search needs
-
-loop-less : tie.Need-loop-less Inv-loop μ-loop
-loop-less c = search needs
 
 loop-again : tie.Need-loop-again Inv-loop μ-loop
 loop-again c =
@@ -60,15 +45,5 @@ pub big-endian-spec : {M : Type 1} → statement M
 big-endian-spec =
     tie.close
     (tie.spec
-    Inv-loop
-    μ-loop
-    loop-holds
-    add-at
-    mul-v
-    shared-slice-read-wide
-    wide-requires
-    add-v
-    add-i
-    loop-less
-    loop-again
-    returns)
+    Inv-loop μ-loop loop-holds (λ c. search needs) mul-v (λ c. search needs) (λ c κs. search needs) add-v (λ c. search needs)
+    (λ c. search needs) loop-again returns)

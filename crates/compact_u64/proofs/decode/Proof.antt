@@ -18,18 +18,6 @@ told c = let a = c .before .before .before .before .args in standalone-some (a .
 returns : tie.Need-returns
 returns c = sym (standalone-none _ (now (c .before .before .args .message)) _ (c .if1 .taken))
 
-shared-slice-read-tag : tie.Need-shared-slice-read-tag
-shared-slice-read-tag c = search needs
-
-add-relative-decode : tie.Need-add-relative-decode
-add-relative-decode c = search needs
-
-relative-decode-requires : tie.Need-relative-decode-requires
-relative-decode-requires c κs = search needs
-
-enum-known-number : tie.Need-enum-known-number
-enum-known-number c = search needs
-
 returns-2 : tie.Need-returns-2
 returns-2 c = sym (told (c .before) ∙ refusal-shifted (c .before .relative-decode .result) 1 (c .match .keys2))
 
@@ -47,11 +35,4 @@ pub decode-spec : {M : Type 1} → statement M
 decode-spec =
     tie.close
     (tie.spec
-    returns
-    shared-slice-read-tag
-    add-relative-decode
-    relative-decode-requires
-    enum-known-number
-    returns-2
-    add-t8
-    returns-3)
+    returns (λ c. search needs) (λ c. search needs) (λ c κs. search needs) (λ c. search needs) returns-2 add-t8 returns-3)

@@ -10,29 +10,14 @@ use borrow.Author.Needs.{needs}
 use Rattle.compact_u64.proofs.encode.Statement.{statement}
 use Rattle.compact_u64.proofs.encode.Tie as tie
 
-len-of-encoding-requires : tie.Need-len-of-encoding-requires
-len-of-encoding-requires c κs = search needs
-
 returns : tie.Need-returns
 returns c = put-full allowed (standaloneBytes (c .before .before .before .args .value)) (now (c .before .before .before .args .buffer)) refl _ (c .before .len-of-encoding .ensures .0) (c .if1 .taken)
-
-min-tag-requires : tie.Need-min-tag-requires
-min-tag-requires c κs = search needs
-
-slice-write-buffer : tie.Need-slice-write-buffer
-slice-write-buffer c = search needs
 
 sub-relative-encode : tie.Need-sub-relative-encode
 sub-relative-encode c = simp length-set (omega arith)
 
 part-relative-encode-start : tie.Need-part-relative-encode-start
 part-relative-encode-start c = simp length-set (omega arith)
-
-part-relative-encode-end : tie.Need-part-relative-encode-end
-part-relative-encode-end c = search needs
-
-relative-encode-requires : tie.Need-relative-encode-requires
-relative-encode-requires c κs = search needs
 
 same-length : tie.Need-same-length
 same-length c =
@@ -56,13 +41,5 @@ pub encode-spec : {M : Type 1} → statement M
 encode-spec =
     tie.close
     (tie.spec
-    len-of-encoding-requires
-    returns
-    min-tag-requires
-    slice-write-buffer
-    sub-relative-encode
-    part-relative-encode-start
-    part-relative-encode-end
-    relative-encode-requires
-    same-length
-    returns-2)
+    (λ c κs. search needs) returns (λ c κs. search needs) (λ c. search needs) sub-relative-encode part-relative-encode-start
+    (λ c. search needs) (λ c κs. search needs) same-length returns-2)

@@ -4,24 +4,9 @@ use borrow.Author.Needs.{needs}
 use Rattle.compact_u64.proofs.min_tag.Statement.{statement}
 use Rattle.compact_u64.proofs.min_tag.Tie as tie
 
-inline-limit-requires : tie.Need-inline-limit-requires
-inline-limit-requires c κs = search needs
-
-cast-result : tie.Need-cast-result
-cast-result c = search needs
-
 returns : tie.Need-returns
 unfolding minTag
 returns c = rw (← (c .before .inline-limit .ensures .0), lt-ltb _ _ (c .if1 .taken))
-
-width-exponent-requires : tie.Need-width-exponent-requires
-width-exponent-requires c κs = search needs
-
-add-result : tie.Need-add-result
-add-result c = search needs
-
-cast-result-2 : tie.Need-cast-result-2
-cast-result-2 c = search needs
 
 returns-2 : tie.Need-returns-2
 unfolding minTag
@@ -31,10 +16,4 @@ pub min-tag-spec : {M : Type 1} → statement M
 min-tag-spec =
     tie.close
     (tie.spec
-    inline-limit-requires
-    cast-result
-    returns
-    width-exponent-requires
-    add-result
-    cast-result-2
-    returns-2)
+    (λ c κs. search needs) (λ c. search needs) returns (λ c κs. search needs) (λ c. search needs) (λ c. search needs) returns-2)

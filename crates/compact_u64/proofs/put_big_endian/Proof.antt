@@ -27,18 +27,6 @@ loop-holds c =
     let z : c .before .args .n - c .before .args .n ≡ 0 = omega arith in
     (omega arith, refl, rw z (omega arith), rw z)
 
-sub-i : tie.Need-sub-i Inv-loop μ-loop
-sub-i c = omega arith
-
-cast-buffer : tie.Need-cast-buffer Inv-loop μ-loop
-cast-buffer c = omega arith
-
-slice-write-buffer : tie.Need-slice-write-buffer Inv-loop μ-loop
-slice-write-buffer c = omega arith
-
-loop-less : tie.Need-loop-less Inv-loop μ-loop
-loop-less c = omega arith
-
 loop-again : tie.Need-loop-again Inv-loop μ-loop
 loop-again c =
     let l = c .before .loop in
@@ -51,9 +39,6 @@ loop-again c =
       rw (e, l .inv .2) (next-digit v (n - l .i)),
       rw e (put-one (l .buffer) _ (l .i - 1) (n - l .i) v (l .x) (omega arith) (rw i' (l .inv .3)) (l .inv .2)),
     )
-
-same-length : tie.Need-same-length Inv-loop μ-loop
-same-length c = omega arith
 
 returns-2 : tie.Need-returns-2 Inv-loop μ-loop
 returns-2 c =
@@ -70,14 +55,5 @@ pub put-big-endian-spec : {M : Type 1} → statement M
 put-big-endian-spec =
     tie.close
     (tie.spec
-    Inv-loop
-    μ-loop
-    returns
-    loop-holds
-    sub-i
-    cast-buffer
-    slice-write-buffer
-    loop-less
-    loop-again
-    same-length
-    returns-2)
+    Inv-loop μ-loop returns loop-holds (λ c. omega arith) (λ c. omega arith) (λ c. omega arith) (λ c. omega arith) loop-again
+    (λ c. omega arith) returns-2)

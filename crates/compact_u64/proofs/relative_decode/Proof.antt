@@ -26,23 +26,11 @@ judged c =
     let a = c .before .before .before .before .before .before .before .before .before .args in
     rw (c .big-endian .ensures) (read-bytes _ _ _ (drop (a .start) (now (a .message))) (omega arith) (omega (arith, four-tags (a .width))) (c .before .before .before .two-to .result) (follows (c .before .before .before)) (simp length-drop (omega arith)))
 
-inline-limit-requires : tie.Need-inline-limit-requires
-inline-limit-requires c κs = search needs
-
-wide-requires : tie.Need-wide-requires
-wide-requires c κs = search needs
-
 returns : tie.Need-returns
 returns c = rw (c .before .wide .ensures .0) (sym (read-inline _ _ _ _ (omega arith)))
 
-add-if2 : tie.Need-add-if2
-add-if2 c = search needs
-
 returns-2 : tie.Need-returns-2
 returns-2 c = sym (read-misfit _ _ _ _ (omega (arith, four-tags (c .before .before .before .before .before .args .width))))
-
-two-to-requires : tie.Need-two-to-requires
-two-to-requires c κs = search needs
 
 returns-3 : tie.Need-returns-3
 returns-3 c =
@@ -50,19 +38,10 @@ returns-3 c =
     let f = follows (c .before) in
     sym (read-short _ _ _ (drop (a .start) (now (a .message))) (omega arith) (omega (arith, four-tags (a .width))) (c .before .two-to .result) f (simp length-drop (omega arith)))
 
-sub-if4 : tie.Need-sub-if4
-sub-if4 c = search needs
-
 returns-4 : tie.Need-returns-4
 returns-4 c =
     let a = c .before .before .before .before .before .before .before .before .args in
     sym (read-short _ _ _ (drop (a .start) (now (a .message))) (omega arith) (omega (arith, four-tags (a .width))) (c .before .before .two-to .result) (follows (c .before .before)) (simp length-drop (omega arith)))
-
-big-endian-requires : tie.Need-big-endian-requires
-big-endian-requires c κs = search needs
-
-min-tag-requires : tie.Need-min-tag-requires
-min-tag-requires c κs = search needs
 
 returns-5 : tie.Need-returns-5
 returns-5 c = sym (judged (c .before .before .before) ∙ rw (c .before .before .if5 .taken, ← (c .before .min-tag .ensures), ne-eqb _ _ (c .if6 .taken)))
@@ -77,17 +56,5 @@ pub relative-decode-spec : {M : Type 1} → statement M
 relative-decode-spec =
     tie.close
     (tie.spec
-    inline-limit-requires
-    wide-requires
-    returns
-    add-if2
-    returns-2
-    two-to-requires
-    returns-3
-    sub-if4
-    returns-4
-    big-endian-requires
-    min-tag-requires
-    returns-5
-    returns-6
-    returns-7)
+    (λ c κs. search needs) (λ c κs. search needs) returns (λ c. search needs) returns-2 (λ c κs. search needs) returns-3 (λ c. search needs)
+    returns-4 (λ c κs. search needs) (λ c κs. search needs) returns-5 returns-6 returns-7)

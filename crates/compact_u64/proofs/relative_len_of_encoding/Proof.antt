@@ -4,21 +4,11 @@ use borrow.Author.Needs.{needs}
 use Rattle.compact_u64.proofs.relative_len_of_encoding.Statement.{statement}
 use Rattle.compact_u64.proofs.relative_len_of_encoding.Tie as tie
 
-inline-limit-requires : tie.Need-inline-limit-requires
-inline-limit-requires c κs = search needs
-
 returns : tie.Need-returns
 returns c = inline-length _ _ (omega arith)
-
-width-exponent-requires : tie.Need-width-exponent-requires
-width-exponent-requires c κs = search needs
-
-two-to-requires : tie.Need-two-to-requires
-two-to-requires c κs = search needs
 
 returns-2 : tie.Need-returns-2
 returns-2 c = sized-length _ _ _ (omega arith) _ (c .two-to .ensures) (c .before .width-exponent .ensures)
 
 pub relative-len-of-encoding-spec : {M : Type 1} → statement M
-relative-len-of-encoding-spec =
-    tie.close (tie.spec inline-limit-requires returns width-exponent-requires two-to-requires returns-2)
+relative-len-of-encoding-spec = tie.close (tie.spec (λ c κs. search needs) returns (λ c κs. search needs) (λ c κs. search needs) returns-2)

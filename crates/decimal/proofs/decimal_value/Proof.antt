@@ -11,9 +11,6 @@ returns c =
     let b = c .before .args .b in
     rw (lt-ltb b 48 (omega arith))
 
-cast-result : tie.Need-cast-result
-cast-result c = search needs
-
 returns-2 : tie.Need-returns-2
 unfolding decimalValue
 returns-2 c =
@@ -27,4 +24,4 @@ returns-3 c =
     rw (le-ltb b 48 (omega arith), le-ltb b 58 (omega arith))
 
 pub decimal-value-spec : {M : Type 1} → statement M
-decimal-value-spec = tie.close (tie.spec returns cast-result returns-2 returns-3)
+decimal-value-spec = tie.close (tie.spec returns (λ c. search needs) returns-2 returns-3)

@@ -19,9 +19,6 @@ abbrev μ-loop : tie.MeasureT-loop
 returns : tie.Need-returns Inv-loop μ-loop
 returns c = sym (read-empty (now (c .before .before .args .s)) (c .if1 .taken))
 
-shared-slice-read-if2 : tie.Need-shared-slice-read-if2 Inv-loop μ-loop
-shared-slice-read-if2 c = omega arith
-
 returns-2 : tie.Need-returns-2 Inv-loop μ-loop
 returns-2 c = sym (read-zero (now (c .before .before .before .before .before .args .s)) (c .before .if2 .taken) (omega arith))
 
@@ -31,21 +28,12 @@ returns-3 c = sym (read-leading-zero (now (c .before .before .before .before .be
 loop-holds : tie.Need-loop-holds Inv-loop μ-loop
 loop-holds c = (omega arith, other-start (now (c .before .before .before .before .args .s)) (omega arith) (c .if2 .left), refl, omega arith)
 
-shared-slice-read-decimal-value : tie.Need-shared-slice-read-decimal-value Inv-loop μ-loop
-shared-slice-read-decimal-value c = omega arith
-
-decimal-value-requires : tie.Need-decimal-value-requires Inv-loop μ-loop
-decimal-value-requires c κs = search needs
-
 returns-4 : tie.Need-returns-4 Inv-loop μ-loop
 returns-4 c =
     let s = now (c .before .before .before .before .before .before .before .before .before .args .s) in
     let l = c .before .before .before .before .loop in
     let d = c .before .decimal-value in
     sym (read-no-decimal s (l .inv .1 ∙ allDigits-next s (l .i) (omega arith) ∙ rw (← (d .ensures), le-ltb (d .result) 10 (omega arith))))
-
-sub-if5 : tie.Need-sub-if5 Inv-loop μ-loop
-sub-if5 c = omega arith
 
 returns-5 : tie.Need-returns-5 Inv-loop μ-loop
 returns-5 c =
@@ -55,18 +43,6 @@ returns-5 c =
     let e = digits-next (l .v) s (l .i) (omega arith) in
     let g = digits-grow (l .v * 10 + d .result) (drop (l .i + 1) s) in
     sym (read-too-large s (omega (arith, l .inv .2, rw (← (d .ensures)) at e, g)))
-
-mul-v : tie.Need-mul-v Inv-loop μ-loop
-mul-v c = omega arith
-
-add-v : tie.Need-add-v Inv-loop μ-loop
-add-v c = omega arith
-
-add-i : tie.Need-add-i Inv-loop μ-loop
-add-i c = omega arith
-
-loop-less : tie.Need-loop-less Inv-loop μ-loop
-loop-less c = omega arith
 
 loop-again : tie.Need-loop-again Inv-loop μ-loop
 loop-again c =
@@ -89,21 +65,5 @@ pub read-decimal-spec : {M : Type 1} → statement M
 read-decimal-spec =
     tie.close
     (tie.spec
-    Inv-loop
-    μ-loop
-    returns
-    shared-slice-read-if2
-    returns-2
-    returns-3
-    loop-holds
-    shared-slice-read-decimal-value
-    decimal-value-requires
-    returns-4
-    sub-if5
-    returns-5
-    mul-v
-    add-v
-    add-i
-    loop-less
-    loop-again
-    returns-6)
+    Inv-loop μ-loop returns (λ c. omega arith) returns-2 returns-3 loop-holds (λ c. omega arith) (λ c κs. search needs) returns-4
+    (λ c. omega arith) returns-5 (λ c. omega arith) (λ c. omega arith) (λ c. omega arith) (λ c. omega arith) loop-again returns-6)

@@ -2,18 +2,8 @@ use borrow.Author.Needs.{needs}
 use Rattle.entry_area.proofs.relative_encode.Statement.{statement}
 use Rattle.entry_area.proofs.relative_encode.Tie as tie
 
-fields-requires : tie.Need-fields-requires
-fields-requires c κs = search needs
-
-relative-encode-requires : tie.Need-relative-encode-requires
-relative-encode-requires c κs = search needs
-
-same-length : tie.Need-same-length
-same-length c = search needs
-
 returns : tie.Need-returns
 returns c = rw (c .before .before .before .before .before .before .before .before .before .before .before .before .before .before .before .before .fields .ensures) at (c .before .before .relative-encode .ensures)
 
 pub relative-encode-spec : {M : Type 1} → statement M
-relative-encode-spec =
-    tie.close (tie.spec fields-requires relative-encode-requires same-length returns)
+relative-encode-spec = tie.close (tie.spec (λ c κs. search needs) (λ c κs. search needs) (λ c. search needs) returns)

@@ -33,35 +33,11 @@ inside c =
     let a = c .before .before .before .before .before .before .before .before .before .before .before .before .before .args in
     digest-inside (a .canonic) (a .times) (a .header) (now (a .message)) _ _ (time-is (c .before .before .before .before .before .before .before .before)) _ _ (size-is (c .before .before .before .before)) _ _ (digest-is c)
 
-decode-included-requires : tie.Need-decode-included-requires
-decode-included-requires c κs = search needs
-
-enum-known-first : tie.Need-enum-known-first
-enum-known-first c = search needs
-
-refusal-requires : tie.Need-refusal-requires
-refusal-requires c κs = search needs
-
-refuse-requires : tie.Need-refuse-requires
-refuse-requires c κs = search needs
-
 returns : tie.Need-returns
 returns c =
     let a = c .before .before .before .before .before .args in
     let x = refused-number noEnd (c .before .before .before .decode-included .result) (c .before .before .match .keys2) in
     rw (c .refuse .ensures .0, c .refuse .ensures .1, c .before .refusal .ensures) (gives-refused (x .why) (x .whole) (end-time (a .canonic) (a .times) (a .header) (now (a .message)) (x .why) (sym (c .before .before .before .decode-included .ensures) ∙ x .number)))
-
-relative-decode-requires : tie.Need-relative-decode-requires
-relative-decode-requires c κs = search needs
-
-enum-known-second : tie.Need-enum-known-second
-enum-known-second c = search needs
-
-refusal-requires-2 : tie.Need-refusal-requires-2
-refusal-requires-2 c κs = search needs
-
-refuse-requires-2 : tie.Need-refuse-requires-2
-refuse-requires-2 c κs = search needs
 
 returns-2 : tie.Need-returns-2
 returns-2 c =
@@ -73,15 +49,6 @@ add-at : tie.Need-add-at
 add-at c =
     let a = c .before .before .before .before .before .before .before .before .before .args in
     omega (arith, end-inside (a .canonic) (a .times) (a .header) (now (a .message)) _ _ (time-is (c .before .before .before .before)) _ _ (size-is c))
-
-decode-id-requires : tie.Need-decode-id-requires
-decode-id-requires c κs = search needs
-
-enum-known-answer : tie.Need-enum-known-answer
-enum-known-answer c = search needs
-
-refuse-requires-3 : tie.Need-refuse-requires-3
-refuse-requires-3 c κs = search needs
 
 returns-3 : tie.Need-returns-3
 returns-3 c =
@@ -104,21 +71,6 @@ pub relative-decode-spec : {M : Type 1} → statement M
 relative-decode-spec =
     tie.close
     (tie.spec
-    decode-included-requires
-    enum-known-first
-    refusal-requires
-    refuse-requires
-    returns
-    relative-decode-requires
-    enum-known-second
-    refusal-requires-2
-    refuse-requires-2
-    returns-2
-    add-at
-    decode-id-requires
-    enum-known-answer
-    refuse-requires-3
-    returns-3
-    add-t19
-    add-t20
-    returns-4)
+    (λ c κs. search needs) (λ c. search needs) (λ c κs. search needs) (λ c κs. search needs) returns (λ c κs. search needs)
+    (λ c. search needs) (λ c κs. search needs) (λ c κs. search needs) returns-2 add-at (λ c κs. search needs) (λ c. search needs)
+    (λ c κs. search needs) returns-3 add-t19 add-t20 returns-4)

@@ -24,35 +24,11 @@ size-is : (c : tie.After-known-told2) → let a = c .before .before .before .bef
     readNumber false 3 (a .header .«length_tag») (drop (c .before .before .before .before .before .first .given .0 .1 .0) (now (a .message))) ≡ accepted (x .0) (x .1 .0)
 size-is c = sym (c .before .before .before .relative-decode2 .ensures) ∙ ap numberAnswer (c .before .second .given .1)
 
-relative-decode-requires : tie.Need-relative-decode-requires
-relative-decode-requires c κs = search needs
-
-enum-known-first : tie.Need-enum-known-first
-enum-known-first c = search needs
-
-refusal-requires : tie.Need-refusal-requires
-refusal-requires c κs = search needs
-
-refuse-requires : tie.Need-refuse-requires
-refuse-requires c κs = search needs
-
 returns : tie.Need-returns
 returns c =
     let a = c .before .before .before .before .before .args in
     let x = refused-number noNumbers (c .before .before .before .relative-decode .result) (c .before .before .match .keys2) in
     rw (c .refuse .ensures .0, c .refuse .ensures .1, c .before .refusal .ensures) (gives-refused (x .why) (x .whole) (numbers-first (a .reference) (a .header) (now (a .message)) (x .why) (sym (c .before .before .before .relative-decode .ensures) ∙ x .number)))
-
-relative-decode-requires-2 : tie.Need-relative-decode-requires-2
-relative-decode-requires-2 c κs = search needs
-
-enum-known-second : tie.Need-enum-known-second
-enum-known-second c = search needs
-
-refusal-requires-2 : tie.Need-refusal-requires-2
-refusal-requires-2 c κs = search needs
-
-refuse-requires-2 : tie.Need-refuse-requires-2
-refuse-requires-2 c κs = search needs
 
 returns-2 : tie.Need-returns-2
 returns-2 c =
@@ -74,15 +50,5 @@ pub relative-decode-spec : {M : Type 1} → statement M
 relative-decode-spec =
     tie.close
     (tie.spec
-    relative-decode-requires
-    enum-known-first
-    refusal-requires
-    refuse-requires
-    returns
-    relative-decode-requires-2
-    enum-known-second
-    refusal-requires-2
-    refuse-requires-2
-    returns-2
-    add-t14
-    returns-3)
+    (λ c κs. search needs) (λ c. search needs) (λ c κs. search needs) (λ c κs. search needs) returns (λ c κs. search needs)
+    (λ c. search needs) (λ c κs. search needs) (λ c κs. search needs) returns-2 add-t14 returns-3)

@@ -23,38 +23,17 @@ parts c = let a = c .before .before .before .before .args in omega (arith, c .be
 inside : (c : tie.After-slice-known2) → c .before .before .before .before .relative-len-of-encoding2 .result ≤ length (c .before .before .relative-encode .last .0)
 inside c = omega (arith, parts (c .before .before .before .before .before), c .before .before .before .before .relative-len-of-encoding2 .ensures .0, c .before .before .relative-encode .kept .0)
 
-relative-len-of-encoding-requires : tie.Need-relative-len-of-encoding-requires
-relative-len-of-encoding-requires c κs = search needs
-
 returns : tie.Need-returns
 returns c =
     let a = c .before .before .before .args in
     let n = c .before .relative-len-of-encoding in
     put-full allowed (numbersBytes (a .reference) (a .time) (a .size)) (now (a .buffer)) refl (n .result) (n .ensures .0) (c .if1 .taken)
 
-abs-diff-requires : tie.Need-abs-diff-requires
-abs-diff-requires c κs = search needs
-
-relative-len-of-encoding-requires-2 : tie.Need-relative-len-of-encoding-requires-2
-relative-len-of-encoding-requires-2 c κs = search needs
-
-relative-encode-requires : tie.Need-relative-encode-requires
-relative-encode-requires c κs = search needs
-
 sub-relative-encode : tie.Need-sub-relative-encode
 sub-relative-encode c = inside c
 
 part-relative-encode-start : tie.Need-part-relative-encode-start
 part-relative-encode-start c = inside c
-
-part-relative-encode-end : tie.Need-part-relative-encode-end
-part-relative-encode-end c = search needs
-
-relative-encode-requires-2 : tie.Need-relative-encode-requires-2
-relative-encode-requires-2 c κs = search needs
-
-same-length : tie.Need-same-length
-same-length c = search needs
 
 returns-2 : tie.Need-returns-2
 returns-2 c =
@@ -79,14 +58,5 @@ pub relative-encode-spec : {M : Type 1} → statement M
 relative-encode-spec =
     tie.close
     (tie.spec
-    relative-len-of-encoding-requires
-    returns
-    abs-diff-requires
-    relative-len-of-encoding-requires-2
-    relative-encode-requires
-    sub-relative-encode
-    part-relative-encode-start
-    part-relative-encode-end
-    relative-encode-requires-2
-    same-length
-    returns-2)
+    (λ c κs. search needs) returns (λ c κs. search needs) (λ c κs. search needs) (λ c κs. search needs) sub-relative-encode
+    part-relative-encode-start (λ c. search needs) (λ c κs. search needs) (λ c. search needs) returns-2)

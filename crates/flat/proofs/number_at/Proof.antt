@@ -10,12 +10,6 @@ use borrow.Author.Needs.{needs}
 use Rattle.flat.proofs.number_at.Statement.{statement}
 use Rattle.flat.proofs.number_at.Tie as tie
 
-relative-decode-requires : tie.Need-relative-decode-requires
-relative-decode-requires c κs = search needs
-
-enum-known-read : tie.Need-enum-known-read
-enum-known-read c = search needs
-
 returns : tie.Need-returns
 returns c =
     let a = c .before .before .before .args in
@@ -33,4 +27,4 @@ returns-2 c =
     cc
 
 pub number-at-spec : {M : Type 1} → statement M
-number-at-spec = tie.close (tie.spec relative-decode-requires enum-known-read returns returns-2)
+number-at-spec = tie.close (tie.spec (λ c κs. search needs) (λ c. search needs) returns returns-2)

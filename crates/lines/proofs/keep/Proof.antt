@@ -19,15 +19,6 @@ returns-2 c =
     let e = kept-none (a .limit) (a .at) (a .end) (now (a .buf)) (c .if2 .taken) in
     (rw e, rw e, omega arith, omega arith)
 
-smaller-requires : tie.Need-smaller-requires
-smaller-requires c κs = search needs
-
-move-down-requires : tie.Need-move-down-requires
-move-down-requires c κs = search needs
-
-same-length : tie.Need-same-length
-same-length c = search needs
-
 returns-3 : tie.Need-returns-3
 returns-3 c =
     let a = c .before .before .before .before .before .before .before .before .args in
@@ -37,6 +28,4 @@ returns-3 c =
     (omega (arith, n, ap length e, k), rw (e, ← n) (c .before .before .move-down .ensures), omega (arith, n), omega (arith, n))
 
 pub keep-spec : {M : Type 1} → statement M
-keep-spec =
-    tie.close
-    (tie.spec returns returns-2 smaller-requires move-down-requires same-length returns-3)
+keep-spec = tie.close (tie.spec returns returns-2 (λ c κs. search needs) (λ c κs. search needs) (λ c. search needs) returns-3)

@@ -34,34 +34,10 @@ subspace-of line s k = onPath (readPathField (field 2 line) .found) (readPathFie
 says-as-no : {f : (Area → List ℕ) → List ℕ} {ok : _} {a : Area} → ok ≡ false → Says f false a → Says f ok a
 says-as-no e s = says-as s (sym e)
 
-part-requires : tie.Need-part-requires
-part-requires c κs = search needs
-
-read-subspace-requires : tie.Need-read-subspace-requires
-read-subspace-requires c κs = search needs
-
-no-area-requires : tie.Need-no-area-requires
-no-area-requires c κs = search needs
-
 returns : tie.Need-returns
 returns c =
     let line = now (c .before .before .before .before .before .before .args .line) in
     says-as-no (c .no-area .ensures) (says-none (subspace-of line) _ (field-says readSubspaceText (λ r. r .ok) (λ r. r .subspace) 1 line (c .before .before .before .before .part .ensures) (c .before .before .before .read-subspace .ensures) false (not-true _ (c .before .if1 .taken))))
-
-part-requires-2 : tie.Need-part-requires-2
-part-requires-2 c κs = search needs
-
-read-path-requires : tie.Need-read-path-requires
-read-path-requires c κs = search needs
-
-enum-told : tie.Need-enum-told
-enum-told c = search needs
-
-enum-told-2 : tie.Need-enum-told-2
-enum-told-2 c = search needs
-
-no-area-requires-2 : tie.Need-no-area-requires-2
-no-area-requires-2 c κs = search needs
 
 returns-2 : tie.Need-returns-2
 returns-2 c =
@@ -69,36 +45,12 @@ returns-2 c =
     let first = field-says readSubspaceText (λ r. r .ok) (λ r. r .subspace) 1 line (c .before .before .before .before .before .before .before .before .part .ensures) (c .before .before .before .before .before .before .before .read-subspace .ensures) true (not-false _ (c .before .before .before .before .before .if1 .left)) in
     says-as-no (c .no-area2 .ensures) (says-then (subspace-of line) first (says-none (path-of line _) _ (path-says-no line (c .before .before .before .before .part2 .ensures) (c .before .before .before .read-path .ensures) (c .before .enum-told2 .given .1))))
 
-part-requires-3 : tie.Need-part-requires-3
-part-requires-3 c κs = search needs
-
-read-decimal-requires : tie.Need-read-decimal-requires
-read-decimal-requires c κs = search needs
-
-enum-known-third : tie.Need-enum-known-third
-enum-known-third c = search needs
-
-enum-told-3 : tie.Need-enum-told-3
-enum-told-3 c = search needs
-
-no-area-requires-3 : tie.Need-no-area-requires-3
-no-area-requires-3 c κs = search needs
-
 returns-3 : tie.Need-returns-3
 returns-3 c =
     let line = now (c .before .before .before .before .before .before .before .before .before .before .before .before .before .before .args .line) in
     let first = field-says readSubspaceText (λ r. r .ok) (λ r. r .subspace) 1 line (c .before .before .before .before .before .before .before .before .before .before .before .before .part .ensures) (c .before .before .before .before .before .before .before .before .before .before .before .read-subspace .ensures) true (not-false _ (c .before .before .before .before .before .before .before .before .before .if1 .left)) in
     let second = path-says line (c .before .before .before .before .before .before .before .before .part2 .ensures) (c .before .before .before .before .before .before .before .read-path .ensures) (c .before .before .before .before .before .enum-told .given .1) in
     says-as-no (c .no-area3 .ensures) (says-then (subspace-of line) first (says-then (path-of line _) second (says-none (start-of line _ _) _ (decimal-says-no 3 line (c .before .before .before .before .part3 .ensures) (c .before .before .before .read-decimal .ensures) (c .before .enum-told3 .given .1)))))
-
-part-requires-4 : tie.Need-part-requires-4
-part-requires-4 c κs = search needs
-
-read-end-requires : tie.Need-read-end-requires
-read-end-requires c κs = search needs
-
-no-area-requires-4 : tie.Need-no-area-requires-4
-no-area-requires-4 c κs = search needs
 
 returns-4 : tie.Need-returns-4
 returns-4 c =
@@ -120,24 +72,7 @@ pub read-area-spec : {M : Type 1} → statement M
 read-area-spec =
     tie.close
     (tie.spec
-    part-requires
-    read-subspace-requires
-    no-area-requires
-    returns
-    part-requires-2
-    read-path-requires
-    enum-told
-    enum-told-2
-    no-area-requires-2
-    returns-2
-    part-requires-3
-    read-decimal-requires
-    enum-known-third
-    enum-told-3
-    no-area-requires-3
-    returns-3
-    part-requires-4
-    read-end-requires
-    no-area-requires-4
-    returns-4
-    returns-5)
+    (λ c κs. search needs) (λ c κs. search needs) (λ c κs. search needs) returns (λ c κs. search needs) (λ c κs. search needs)
+    (λ c. search needs) (λ c. search needs) (λ c κs. search needs) returns-2 (λ c κs. search needs) (λ c κs. search needs)
+    (λ c. search needs) (λ c. search needs) (λ c κs. search needs) returns-3 (λ c κs. search needs) (λ c κs. search needs)
+    (λ c κs. search needs) returns-4 returns-5)

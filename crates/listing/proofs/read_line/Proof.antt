@@ -20,52 +20,16 @@ use Rattle.listing.proofs.read_line.Tie as tie
 abbrev said : Bool → Area → List ℕ → List ℕ
 said canonic r message = readText areaText (readAgainstArea canonic r message)
 
-part-count-requires : tie.Need-part-count-requires
-part-count-requires c κs = search needs
-
-refuse-requires : tie.Need-refuse-requires
-refuse-requires c κs = search needs
-
-same-length : tie.Need-same-length
-same-length c = search needs
-
 returns : tie.Need-returns
 returns c =
     let a = c .before .before .before .before .before .before .before .before .args in
     puts (fields-not (now (a .line)) (c .before .before .before .before .before .part-count .ensures) 6 _ (c .before .before .before .before .if1 .taken)) (c .before .before .refuse .ensures)
-
-read-area-requires : tie.Need-read-area-requires
-read-area-requires c κs = search needs
-
-refuse-requires-2 : tie.Need-refuse-requires-2
-refuse-requires-2 c κs = search needs
-
-same-length-2 : tie.Need-same-length-2
-same-length-2 c = search needs
 
 returns-2 : tie.Need-returns-2
 returns-2 c =
     let a = c .before .before .before .before .before .before .before .before .before .before .before .args in
     let line = now (a .line) in
     puts (fields-are line (c .before .before .before .before .before .before .before .before .part-count .ensures) 6 _ (c .before .before .before .before .before .before .before .if1 .left) ∙ says-refused (c .before .before .before .before .before .before .read-area .ensures) (not-true _ (c .before .before .before .before .if2 .taken)) (λ r. hexField 5 line (said (a .canonic) r))) (c .before .before .refuse2 .ensures)
-
-slice-aggregate-hex : tie.Need-slice-aggregate-hex
-slice-aggregate-hex c = search needs
-
-hex-requires : tie.Need-hex-requires
-hex-requires c κs = search needs
-
-enum-known-hex : tie.Need-enum-known-hex
-enum-known-hex c = search needs
-
-enum-told : tie.Need-enum-told
-enum-told c = search needs
-
-refuse-requires-3 : tie.Need-refuse-requires-3
-refuse-requires-3 c κs = search needs
-
-same-length-3 : tie.Need-same-length-3
-same-length-3 c = search needs
 
 returns-3 : tie.Need-returns-3
 returns-3 c =
@@ -80,18 +44,6 @@ array-share-prefix-bytes c = hex-inside 5 (now (c .before .before .before .befor
 
 slice-aggregate-relative-decode : tie.Need-slice-aggregate-relative-decode
 slice-aggregate-relative-decode c = sym (hex-long 5 (now (c .before .before .before .before .before .before .before .before .before .before .before .before .before .before .before .args .line)) (c .before .before .before .before .before .hex .ensures) (c .before .before .hex2 .given .1))
-
-relative-decode-requires : tie.Need-relative-decode-requires
-relative-decode-requires c κs = search needs
-
-print-requires : tie.Need-print-requires
-print-requires c κs = search needs
-
-value-requires : tie.Need-value-requires
-value-requires c κs = search needs
-
-same-length-4 : tie.Need-same-length-4
-same-length-4 c = search needs
 
 returns-4 : tie.Need-returns-4
 returns-4 c =
@@ -112,25 +64,7 @@ pub read-line-spec : {M : Type 1} → statement M
 read-line-spec =
     tie.close
     (tie.spec
-    part-count-requires
-    refuse-requires
-    same-length
-    returns
-    read-area-requires
-    refuse-requires-2
-    same-length-2
-    returns-2
-    slice-aggregate-hex
-    hex-requires
-    enum-known-hex
-    enum-told
-    refuse-requires-3
-    same-length-3
-    returns-3
-    array-share-prefix-bytes
-    slice-aggregate-relative-decode
-    relative-decode-requires
-    print-requires
-    value-requires
-    same-length-4
-    returns-4)
+    (λ c κs. search needs) (λ c κs. search needs) (λ c. search needs) returns (λ c κs. search needs) (λ c κs. search needs)
+    (λ c. search needs) returns-2 (λ c. search needs) (λ c κs. search needs) (λ c. search needs) (λ c. search needs) (λ c κs. search needs)
+    (λ c. search needs) returns-3 array-share-prefix-bytes slice-aggregate-relative-decode (λ c κs. search needs) (λ c κs. search needs)
+    (λ c κs. search needs) (λ c. search needs) returns-4)

@@ -6,19 +6,13 @@ use borrow.Author.Needs.{needs}
 use Rattle.listing.proofs.read_path.Statement.{statement}
 use Rattle.listing.proofs.read_path.Tie as tie
 
-new-empty-requires : tie.Need-new-empty-requires
-new-empty-requires c κs = search needs
-
 returns : tie.Need-returns
 unfolding readPathField
 returns c = rw (eq-eqb (length (now (c .before .before .before .args .s))) 0 (c .before .if1 .taken), c .new-empty .ensures)
-
-read-components-requires : tie.Need-read-components-requires
-read-components-requires c κs = search needs
 
 returns-2 : tie.Need-returns-2
 unfolding readPathField
 returns-2 c = rw (ne-eqb (length (now (c .before .before .before .args .s))) 0 (c .before .if1 .left)) (c .read-components .ensures)
 
 pub read-path-spec : {M : Type 1} → statement M
-read-path-spec = tie.close (tie.spec new-empty-requires returns read-components-requires returns-2)
+read-path-spec = tie.close (tie.spec (λ c κs. search needs) returns (λ c κs. search needs) returns-2)

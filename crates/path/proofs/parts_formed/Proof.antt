@@ -59,9 +59,6 @@ returns c = rw (eq-eqb _ _ (c .before .before .before .pre .0), eq-eqb _ _ (c .b
 slice-aggregate-all-at-most : tie.Need-slice-aggregate-all-at-most
 slice-aggregate-all-at-most c = sym (length-take-le _ _ (omega (arith, c .before .before .before .before .pre .1)))
 
-all-at-most-requires : tie.Need-all-at-most-requires
-all-at-most-requires c κs = search needs
-
 returns-2 : tie.Need-returns-2
 returns-2 c =
     let some : allAtMost 300 (used (path (start1 (c .before .before .before)))) ≡ false = sym (c .before .all-at-most .ensures) ∙ not-true _ (c .if2 .taken) in
@@ -80,35 +77,8 @@ sum-requires c κs =
 returns-3 : tie.Need-returns-3
 returns-3 c = sym (lengths-passed (c .before .before .before) ∙ rw (← (c .before .sum .ensures), lt-leb _ _ (c .if3 .taken)))
 
-mul-all-at-most : tie.Need-mul-all-at-most
-mul-all-at-most c = search needs
-
-sub-all-at-most : tie.Need-sub-all-at-most
-sub-all-at-most c = search needs
-
-part-all-at-most-start : tie.Need-part-all-at-most-start
-part-all-at-most-start c = search needs
-
-part-all-at-most-end : tie.Need-part-all-at-most-end
-part-all-at-most-end c = search needs
-
-all-at-most-requires-2 : tie.Need-all-at-most-requires-2
-all-at-most-requires-2 c κs = search needs
-
 returns-4 : tie.Need-returns-4
 returns-4 c = sym (sum-passed (c .before .before .before) ∙ rw (rest (c .before), not-true (c .before .all-at-most2 .result) (c .if4 .taken)))
-
-sub-all-zero : tie.Need-sub-all-zero
-sub-all-zero c = search needs
-
-part-all-zero-start : tie.Need-part-all-zero-start
-part-all-zero-start c = search needs
-
-part-all-zero-end : tie.Need-part-all-zero-end
-part-all-zero-end c = search needs
-
-all-zero-requires : tie.Need-all-zero-requires
-all-zero-requires c κs = search needs
 
 returns-5 : tie.Need-returns-5
 returns-5 c =
@@ -121,21 +91,6 @@ pub parts-formed-spec : {M : Type 1} → statement M
 parts-formed-spec =
     tie.close
     (tie.spec
-    returns
-    slice-aggregate-all-at-most
-    all-at-most-requires
-    returns-2
-    slice-aggregate-sum
-    sum-requires
-    returns-3
-    mul-all-at-most
-    sub-all-at-most
-    part-all-at-most-start
-    part-all-at-most-end
-    all-at-most-requires-2
-    returns-4
-    sub-all-zero
-    part-all-zero-start
-    part-all-zero-end
-    all-zero-requires
-    returns-5)
+    returns slice-aggregate-all-at-most (λ c κs. search needs) returns-2 slice-aggregate-sum sum-requires returns-3 (λ c. search needs)
+    (λ c. search needs) (λ c. search needs) (λ c. search needs) (λ c κs. search needs) returns-4 (λ c. search needs) (λ c. search needs)
+    (λ c. search needs) (λ c κs. search needs) returns-5)

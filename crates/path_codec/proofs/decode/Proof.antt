@@ -35,18 +35,6 @@ components-are c =
     let at = a .start + c .before .before .before .before .before .sizes .given .0 .1 .1 .0 in
     rw (to-end at (now (a .message))) at (c .decode-after .ensures)
 
-decode-sizes-requires : tie.Need-decode-sizes-requires
-decode-sizes-requires c κs = search needs
-
-enum-known-sizes : tie.Need-enum-known-sizes
-enum-known-sizes c = search needs
-
-sizes-refusal-requires : tie.Need-sizes-refusal-requires
-sizes-refusal-requires c κs = search needs
-
-refuse-requires : tie.Need-refuse-requires
-refuse-requires c κs = search needs
-
 returns : tie.Need-returns
 returns c =
     let a = c .before .before .before .before .before .args in
@@ -61,24 +49,6 @@ sub-decode-after c = begins c
 
 part-decode-after-start : tie.Need-part-decode-after-start
 part-decode-after-start c = omega (arith, begins c)
-
-part-decode-after-end : tie.Need-part-decode-after-end
-part-decode-after-end c = search needs
-
-slice-aggregate-decode-after : tie.Need-slice-aggregate-decode-after
-slice-aggregate-decode-after c = search needs
-
-array-share-prefix-none : tie.Need-array-share-prefix-none
-array-share-prefix-none c = search needs
-
-slice-aggregate-decode-after-2 : tie.Need-slice-aggregate-decode-after-2
-slice-aggregate-decode-after-2 c = search needs
-
-decode-after-requires : tie.Need-decode-after-requires
-decode-after-requires c κs = search needs
-
-enum-known-answer : tie.Need-enum-known-answer
-enum-known-answer c = search needs
 
 returns-2 : tie.Need-returns-2
 returns-2 c =
@@ -102,20 +72,6 @@ pub decode-spec : {M : Type 1} → statement M
 decode-spec =
     tie.close
     (tie.spec
-    decode-sizes-requires
-    enum-known-sizes
-    sizes-refusal-requires
-    refuse-requires
-    returns
-    add-at
-    sub-decode-after
-    part-decode-after-start
-    part-decode-after-end
-    slice-aggregate-decode-after
-    array-share-prefix-none
-    slice-aggregate-decode-after-2
-    decode-after-requires
-    enum-known-answer
-    returns-2
-    add-t16
-    returns-3)
+    (λ c κs. search needs) (λ c. search needs) (λ c κs. search needs) (λ c κs. search needs) returns add-at sub-decode-after
+    part-decode-after-start (λ c. search needs) (λ c. search needs) (λ c. search needs) (λ c. search needs) (λ c κs. search needs)
+    (λ c. search needs) returns-2 add-t16 returns-3)

@@ -39,12 +39,6 @@ add-loop c = omega (arith, c .before .before .before .pre .few)
 mul-len : tie.Need-mul-len Inv-loop μ-loop
 mul-len c = omega (arith, c .before .before .before .before .pre .few)
 
-shared-slice-read-len : tie.Need-shared-slice-read-len Inv-loop μ-loop
-shared-slice-read-len c = search needs
-
-len-of-encoding-requires : tie.Need-len-of-encoding-requires Inv-loop μ-loop
-len-of-encoding-requires c κs = search needs
-
 add-t : tie.Need-add-t Inv-loop μ-loop
 add-t c = omega (arith, turn (c .before .before), small (c .before .before .before .before .before .before), c .len-of-encoding .ensures .0)
 
@@ -54,17 +48,11 @@ add-t-2 c = omega (arith, turn (c .before .before), small (c .before .before .be
 add-i : tie.Need-add-i Inv-loop μ-loop
 add-i c = omega (arith, c .before .before .before .before .before .before .pre .few)
 
-loop-less : tie.Need-loop-less Inv-loop μ-loop
-loop-less c = search needs
-
 loop-again : tie.Need-loop-again Inv-loop μ-loop
 loop-again c = (omega arith, omega (arith, turn (c .before .before), c .len-of-encoding .ensures .0))
 
 mul-result : tie.Need-mul-result Inv-loop μ-loop
 mul-result c = omega (arith, c .before .before .before .before .pre .few)
-
-shared-slice-read-result : tie.Need-shared-slice-read-result Inv-loop μ-loop
-shared-slice-read-result c = search needs
 
 add-result : tie.Need-add-result Inv-loop μ-loop
 add-result c = omega (arith, last (c .before), small (c .before .before .before .before .before))
@@ -76,20 +64,5 @@ pub components-len-spec : {M : Type 1} → statement M
 components-len-spec =
     tie.close
     (tie.spec
-    Inv-loop
-    μ-loop
-    returns
-    loop-holds
-    add-loop
-    mul-len
-    shared-slice-read-len
-    len-of-encoding-requires
-    add-t
-    add-t-2
-    add-i
-    loop-less
-    loop-again
-    mul-result
-    shared-slice-read-result
-    add-result
-    returns-2)
+    Inv-loop μ-loop returns loop-holds add-loop mul-len (λ c. search needs) (λ c κs. search needs) add-t add-t-2 add-i (λ c. search needs)
+    loop-again mul-result (λ c. search needs) add-result returns-2)

@@ -6,14 +6,8 @@ use borrow.Author.Needs.{needs}
 use Rattle.path_suffix.proofs.put.Statement.{statement}
 use Rattle.path_suffix.proofs.put.Tie as tie
 
-put-bytes-requires : tie.Need-put-bytes-requires
-put-bytes-requires c κs = search needs
-
-same-length : tie.Need-same-length
-same-length c = search needs
-
 returns : tie.Need-returns
 returns c = (refl, c .before .before .put-bytes .ensures .1 ∙ put-over (now (c .before .before .before .before .before .before .args .s)) (now (c .before .before .before .before .before .before .args .buffer)) (omega arith))
 
 pub put-spec : {M : Type 1} → statement M
-put-spec = tie.close (tie.spec put-bytes-requires same-length returns)
+put-spec = tie.close (tie.spec (λ c κs. search needs) (λ c. search needs) returns)

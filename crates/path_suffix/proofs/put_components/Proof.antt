@@ -56,9 +56,6 @@ add-loop c = omega (arith, c .before .before .before .before .before .pre .0 .le
 mul-to : tie.Need-mul-to Inv-loop μ-loop
 mul-to c = omega (arith, c .before .before .before .before .before .before .pre .0 .lengths .few)
 
-shared-slice-read-to : tie.Need-shared-slice-read-to Inv-loop μ-loop
-shared-slice-read-to c = search needs
-
 add-to : tie.Need-add-to Inv-loop μ-loop
 add-to c = omega (arith, ends (c .before .before), c .before .before .before .before .before .before .before .pre .0 .lengths .total)
 
@@ -67,15 +64,6 @@ sub-put-sized c = omega (arith, fits (c .before .before))
 
 part-put-sized-start : tie.Need-part-put-sized-start Inv-loop μ-loop
 part-put-sized-start c = omega (arith, fits (c .before .before))
-
-part-put-sized-end : tie.Need-part-put-sized-end Inv-loop μ-loop
-part-put-sized-end c = search needs
-
-sub-put-sized-2 : tie.Need-sub-put-sized-2 Inv-loop μ-loop
-sub-put-sized-2 c = search needs
-
-part-put-sized-start-2 : tie.Need-part-put-sized-start-2 Inv-loop μ-loop
-part-put-sized-start-2 c = search needs
 
 part-put-sized-end-2 : tie.Need-part-put-sized-end-2 Inv-loop μ-loop
 part-put-sized-end-2 c = omega (arith, ends (c .before .before .before))
@@ -87,12 +75,6 @@ put-sized-requires c κs =
 
 add-at : tie.Need-add-at Inv-loop μ-loop
 add-at c = omega (arith, rw (part (c .before .before .before .before .before .before .before)) at (c .before .before .put-sized .ensures .0), fits (c .before .before .before .before .before .before .before), room (c .before .before .before .before .before .before))
-
-add-i : tie.Need-add-i Inv-loop μ-loop
-add-i c = search needs
-
-loop-less : tie.Need-loop-less Inv-loop μ-loop
-loop-less c = search needs
 
 loop-again : tie.Need-loop-again Inv-loop μ-loop
 loop-again c =
@@ -112,9 +94,6 @@ loop-again c =
 mul-to-2 : tie.Need-mul-to-2 Inv-loop μ-loop
 mul-to-2 c = omega (arith, c .before .before .before .before .before .before .pre .0 .lengths .few)
 
-shared-slice-read-to-2 : tie.Need-shared-slice-read-to-2 Inv-loop μ-loop
-shared-slice-read-to-2 c = search needs
-
 add-to-2 : tie.Need-add-to-2 Inv-loop μ-loop
 add-to-2 c = omega (arith, ends (c .before .before), c .before .before .before .before .before .before .before .pre .0 .lengths .total)
 
@@ -123,15 +102,6 @@ sub-put c = omega (arith, fits (c .before .before))
 
 part-put-start : tie.Need-part-put-start Inv-loop μ-loop
 part-put-start c = omega (arith, fits (c .before .before))
-
-part-put-end : tie.Need-part-put-end Inv-loop μ-loop
-part-put-end c = search needs
-
-sub-put-2 : tie.Need-sub-put-2 Inv-loop μ-loop
-sub-put-2 c = search needs
-
-part-put-start-2 : tie.Need-part-put-start-2 Inv-loop μ-loop
-part-put-start-2 c = search needs
 
 part-put-end-2 : tie.Need-part-put-end-2 Inv-loop μ-loop
 part-put-end-2 c = omega (arith, ends (c .before .before .before))
@@ -143,9 +113,6 @@ put-requires c κs =
 
 add-result : tie.Need-add-result Inv-loop μ-loop
 add-result c = omega (arith, rw (part (c .before .before .before .before .before .before .before)) at (c .before .before .put .ensures .0), fits (c .before .before .before .before .before .before .before), ap length (last (c .before .before .before .before .before .before)))
-
-same-length : tie.Need-same-length Inv-loop μ-loop
-same-length c = search needs
 
 returns-2 : tie.Need-returns-2 Inv-loop μ-loop
 returns-2 c =
@@ -161,35 +128,7 @@ pub put-components-spec : {M : Type 1} → statement M
 put-components-spec =
     tie.close
     (tie.spec
-    Inv-loop
-    μ-loop
-    returns
-    loop-holds
-    add-loop
-    mul-to
-    shared-slice-read-to
-    add-to
-    sub-put-sized
-    part-put-sized-start
-    part-put-sized-end
-    sub-put-sized-2
-    part-put-sized-start-2
-    part-put-sized-end-2
-    put-sized-requires
-    add-at
-    add-i
-    loop-less
-    loop-again
-    mul-to-2
-    shared-slice-read-to-2
-    add-to-2
-    sub-put
-    part-put-start
-    part-put-end
-    sub-put-2
-    part-put-start-2
-    part-put-end-2
-    put-requires
-    add-result
-    same-length
-    returns-2)
+    Inv-loop μ-loop returns loop-holds add-loop mul-to (λ c. search needs) add-to sub-put-sized part-put-sized-start (λ c. search needs)
+    (λ c. search needs) (λ c. search needs) part-put-sized-end-2 put-sized-requires add-at (λ c. search needs) (λ c. search needs)
+    loop-again mul-to-2 (λ c. search needs) add-to-2 sub-put part-put-start (λ c. search needs) (λ c. search needs) (λ c. search needs)
+    part-put-end-2 put-requires add-result (λ c. search needs) returns-2)

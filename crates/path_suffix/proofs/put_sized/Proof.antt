@@ -16,20 +16,11 @@ inside c =
     let a = c .before .before .before .before .before .before .before .args in
     omega (arith, c .before .before .encode .kept .0, c .before .before .before .before .len-of-encoding .ensures .0, length-append (standaloneBytes (length (now (a .s)))) (now (a .s)))
 
-len-of-encoding-requires : tie.Need-len-of-encoding-requires
-len-of-encoding-requires c κs = search needs
-
-encode-requires : tie.Need-encode-requires
-encode-requires c κs = search needs
-
 sub-put : tie.Need-sub-put
 sub-put c = inside c
 
 part-put-start : tie.Need-part-put-start
 part-put-start c = inside c
-
-part-put-end : tie.Need-part-put-end
-part-put-end c = search needs
 
 put-requires : tie.Need-put-requires
 put-requires c κs =
@@ -37,12 +28,6 @@ put-requires c κs =
     let n = c .before .before .before .before .before .len-of-encoding in
     let l = c .before .before .before .encode in
     rw (to-end (n .result) (l .last .0), length-drop) (omega (arith, l .kept .0, n .ensures .0, length-append (standaloneBytes (length (now (a .s)))) (now (a .s))))
-
-add-result : tie.Need-add-result
-add-result c = search needs
-
-same-length : tie.Need-same-length
-same-length c = search needs
 
 returns : tie.Need-returns
 returns c =
@@ -59,12 +44,5 @@ pub put-sized-spec : {M : Type 1} → statement M
 put-sized-spec =
     tie.close
     (tie.spec
-    len-of-encoding-requires
-    encode-requires
-    sub-put
-    part-put-start
-    part-put-end
-    put-requires
-    add-result
-    same-length
-    returns)
+    (λ c κs. search needs) (λ c κs. search needs) sub-put part-put-start (λ c. search needs) put-requires (λ c. search needs)
+    (λ c. search needs) returns)

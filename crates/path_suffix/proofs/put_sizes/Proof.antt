@@ -39,24 +39,6 @@ first-is c =
     let tags : c .before .before .before .before .pack-tags .result ≡ packTags (tagsOf (sizesFrom (a .total) (a .count))) = c .before .before .before .before .pack-tags .ensures ∙ rw (c .before .before .before .before .before .before .min-tag .ensures, c .before .before .before .before .before .min-tag2 .ensures) in
     put-end 1 (headed (c .before .before .before .before)) (w .last .0) ∙ rw (number, ← tags) (cons-put (now (a .buffer)) (numberBytes 4 (a .total)) (c .before .before .before .before .pack-tags .result) (omega (arith, room (c .before .before .before .before .before .before .before .before .before .before))))
 
-relative-len-of-encoding-requires : tie.Need-relative-len-of-encoding-requires
-relative-len-of-encoding-requires c κs = search needs
-
-add-a : tie.Need-add-a
-add-a c = search needs
-
-relative-len-of-encoding-requires-2 : tie.Need-relative-len-of-encoding-requires-2
-relative-len-of-encoding-requires-2 c κs = search needs
-
-add-b : tie.Need-add-b
-add-b c = search needs
-
-min-tag-requires : tie.Need-min-tag-requires
-min-tag-requires c κs = search needs
-
-min-tag-requires-2 : tie.Need-min-tag-requires-2
-min-tag-requires-2 c κs = search needs
-
 pack-tags-requires : tie.Need-pack-tags-requires
 pack-tags-requires c κs = record { total = omega (arith, c .before .min-tag .ensures, min-tag-fits 4 (c .before .before .before .before .before .args .total) (omega arith)); count = omega (arith, c .min-tag2 .ensures, min-tag-fits 4 (c .before .before .before .before .before .args .count) (omega arith)) }
 
@@ -69,23 +51,11 @@ sub-relative-encode c = simp length-set (omega (arith, room (c .before .before .
 part-relative-encode-start : tie.Need-part-relative-encode-start
 part-relative-encode-start c = simp length-set (omega (arith, room (c .before .before .before .before .before .before)))
 
-part-relative-encode-end : tie.Need-part-relative-encode-end
-part-relative-encode-end c = search needs
-
-relative-encode-requires : tie.Need-relative-encode-requires
-relative-encode-requires c κs = search needs
-
 sub-relative-encode-2 : tie.Need-sub-relative-encode-2
 sub-relative-encode-2 c = omega (arith, first-long c, room (c .before .before .before .before .before .before .before .before .before .before), c .before .before .before .before .before .before .before .before .relative-len-of-encoding .ensures .0)
 
 part-relative-encode-start-2 : tie.Need-part-relative-encode-start-2
 part-relative-encode-start-2 c = omega (arith, first-long c, room (c .before .before .before .before .before .before .before .before .before .before), c .before .before .before .before .before .before .before .before .relative-len-of-encoding .ensures .0)
-
-part-relative-encode-end-2 : tie.Need-part-relative-encode-end-2
-part-relative-encode-end-2 c = search needs
-
-relative-encode-requires-2 : tie.Need-relative-encode-requires-2
-relative-encode-requires-2 c κs = search needs
 
 same-length : tie.Need-same-length
 same-length c =
@@ -109,21 +79,6 @@ pub put-sizes-spec : {M : Type 1} → statement M
 put-sizes-spec =
     tie.close
     (tie.spec
-    relative-len-of-encoding-requires
-    add-a
-    relative-len-of-encoding-requires-2
-    add-b
-    min-tag-requires
-    min-tag-requires-2
-    pack-tags-requires
-    slice-write-buffer
-    sub-relative-encode
-    part-relative-encode-start
-    part-relative-encode-end
-    relative-encode-requires
-    sub-relative-encode-2
-    part-relative-encode-start-2
-    part-relative-encode-end-2
-    relative-encode-requires-2
-    same-length
-    returns)
+    (λ c κs. search needs) (λ c. search needs) (λ c κs. search needs) (λ c. search needs) (λ c κs. search needs) (λ c κs. search needs)
+    pack-tags-requires slice-write-buffer sub-relative-encode part-relative-encode-start (λ c. search needs) (λ c κs. search needs)
+    sub-relative-encode-2 part-relative-encode-start-2 (λ c. search needs) (λ c κs. search needs) same-length returns)

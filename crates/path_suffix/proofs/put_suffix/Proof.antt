@@ -28,9 +28,6 @@ first c = c .put-sizes .ensures .0 ∙ ap (λ (h : Sizes). length (sizesBytes h)
 parts : (c : tie.Start) → length (sizesBytes (sizesOf (suffix c))) + length (componentBytes (suffix c)) ≤ length (now (c .args .buffer))
 parts c = omega (arith, suffix-parts (suffix c), c .pre .1)
 
-total-of-requires : tie.Need-total-of-requires
-total-of-requires c κs = search needs
-
 put-sizes-requires : tie.Need-put-sizes-requires
 put-sizes-requires c κs = omega (arith, ap (λ (h : Sizes). length (sizesBytes h)) (sizes (c .before)), parts (c .before .before .before .before .before))
 
@@ -40,9 +37,6 @@ sub-put-components c = omega (arith, c .before .before .put-sizes .kept .0, firs
 part-put-components-start : tie.Need-part-put-components-start
 part-put-components-start c = omega (arith, c .before .before .put-sizes .kept .0, first (c .before .before), parts (c .before .before .before .before .before .before .before .before))
 
-part-put-components-end : tie.Need-part-put-components-end
-part-put-components-end c = search needs
-
 put-components-requires : tie.Need-put-components-requires
 put-components-requires c κs =
     let h = c .before .before .before .put-sizes in
@@ -50,9 +44,6 @@ put-components-requires c κs =
 
 add-result : tie.Need-add-result
 add-result c = omega (arith, c .before .before .put-components .ensures .0, first (c .before .before .before .before .before .before), parts (c .before .before .before .before .before .before .before .before .before .before .before .before))
-
-same-length : tie.Need-same-length
-same-length c = search needs
 
 returns : tie.Need-returns
 returns c =
@@ -70,12 +61,5 @@ pub put-suffix-spec : {M : Type 1} → statement M
 put-suffix-spec =
     tie.close
     (tie.spec
-    total-of-requires
-    put-sizes-requires
-    sub-put-components
-    part-put-components-start
-    part-put-components-end
-    put-components-requires
-    add-result
-    same-length
-    returns)
+    (λ c κs. search needs) put-sizes-requires sub-put-components part-put-components-start (λ c. search needs) put-components-requires
+    add-result (λ c. search needs) returns)

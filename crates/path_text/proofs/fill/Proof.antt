@@ -39,15 +39,6 @@ text-few c =
 loop-holds : tie.Need-loop-holds Inv-loop μ-loop
 loop-holds c = (omega arith, refl, refl, omega arith, sym (overAt-start _ _))
 
-slice-aggregate-put-bytes : tie.Need-slice-aggregate-put-bytes Inv-loop μ-loop
-slice-aggregate-put-bytes c = search needs
-
-put-bytes-requires : tie.Need-put-bytes-requires Inv-loop μ-loop
-put-bytes-requires c κs = search needs
-
-component-len-requires : tie.Need-component-len-requires Inv-loop μ-loop
-component-len-requires c κs = search needs
-
 add-to : tie.Need-add-to Inv-loop μ-loop
 add-to c =
     let s = c .before .before .before .before .before .before .before .before .before .before in
@@ -56,12 +47,6 @@ add-to c =
     let l = c .before .before .before .before .before .before .before .loop in
     omega (arith, ends p f (l .i) (omega arith), l .inv .1, c .component-len .ensures)
 
-sub-put-hex : tie.Need-sub-put-hex Inv-loop μ-loop
-sub-put-hex c = search needs
-
-part-put-hex-start : tie.Need-part-put-hex-start Inv-loop μ-loop
-part-put-hex-start c = search needs
-
 part-put-hex-end : tie.Need-part-put-hex-end Inv-loop μ-loop
 part-put-hex-end c =
     let s = c .before .before .before .before .before .before .before .before .before .before .before .before in
@@ -69,15 +54,6 @@ part-put-hex-end c =
     let f = here s in
     let l = c .before .before .before .before .before .before .before .before .before .loop in
     omega (arith, ends p f (l .i) (omega arith), l .inv .1, c .before .before .component-len .ensures, f .bytes)
-
-put-hex-requires : tie.Need-put-hex-requires Inv-loop μ-loop
-put-hex-requires c κs = search needs
-
-add-i : tie.Need-add-i Inv-loop μ-loop
-add-i c = omega arith
-
-loop-less : tie.Need-loop-less Inv-loop μ-loop
-loop-less c = omega arith
 
 loop-again : tie.Need-loop-again Inv-loop μ-loop
 loop-again c =
@@ -124,19 +100,5 @@ pub fill-spec : {M : Type 1} → statement M
 fill-spec =
     tie.close
     (tie.spec
-    Inv-loop
-    μ-loop
-    loop-holds
-    slice-aggregate-put-bytes
-    put-bytes-requires
-    component-len-requires
-    add-to
-    sub-put-hex
-    part-put-hex-start
-    part-put-hex-end
-    put-hex-requires
-    add-i
-    loop-less
-    loop-again
-    same-length
-    returns)
+    Inv-loop μ-loop loop-holds (λ c. search needs) (λ c κs. search needs) (λ c κs. search needs) add-to (λ c. search needs)
+    (λ c. search needs) part-put-hex-end (λ c κs. search needs) (λ c. omega arith) (λ c. omega arith) loop-again same-length returns)

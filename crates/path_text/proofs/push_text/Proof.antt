@@ -19,15 +19,6 @@ hex-here c = sym (c .before .got .given .1) ∙ c .before .before .before .befor
 bytes-here : (c : tie.After-known-told) → take (c .before .got .given .0 .0) (c .before .before .before .before .read-hex .last .1 .0) ≡ unhex (now (c .before .before .before .before .before .before .before .args .t))
 bytes-here c = rw (c .before .before .before .before .read-hex .ensures .1) (bytes-are _ _ _ (hex-here c))
 
-slice-aggregate-read-hex : tie.Need-slice-aggregate-read-hex
-slice-aggregate-read-hex c = search needs
-
-read-hex-requires : tie.Need-read-hex-requires
-read-hex-requires c κs = search needs
-
-enum-known-got : tie.Need-enum-known-got
-enum-known-got c = search needs
-
 returns : tie.Need-returns
 returns c =
     let a = c .before .before .before .before .before .args in
@@ -39,9 +30,6 @@ array-share-prefix-bytes c = omega (arith, some-bytes _ _ 300 (hex-here c) .2, c
 slice-aggregate-push-component : tie.Need-slice-aggregate-push-component
 slice-aggregate-push-component c = sym (length-take-le _ _ (omega (arith, some-bytes _ _ 300 (hex-here (c .before)) .2, c .before .before .before .before .before .read-hex .kept .1 .0)))
 
-push-component-requires : tie.Need-push-component-requires
-push-component-requires c κs = search needs
-
 returns-2 : tie.Need-returns-2
 returns-2 c =
     let a = c .before .before .before .before .before .before .before .before .before .args in
@@ -51,11 +39,5 @@ pub push-text-spec : {M : Type 1} → statement M
 push-text-spec =
     tie.close
     (tie.spec
-    slice-aggregate-read-hex
-    read-hex-requires
-    enum-known-got
-    returns
-    array-share-prefix-bytes
-    slice-aggregate-push-component
-    push-component-requires
-    returns-2)
+    (λ c. search needs) (λ c κs. search needs) (λ c. search needs) returns array-share-prefix-bytes slice-aggregate-push-component
+    (λ c κs. search needs) returns-2)

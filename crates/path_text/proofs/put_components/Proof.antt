@@ -10,16 +10,10 @@ use borrow.Author.Needs.{needs}
 use Rattle.path_text.proofs.put_components.Statement.{statement}
 use Rattle.path_text.proofs.put_components.Tie as tie
 
-well-formed-requires : tie.Need-well-formed-requires
-well-formed-requires c κs = search needs
-
 returns : tie.Need-returns
 returns c =
     let e = ill-components (c .before .before .before .args .path) (sym (c .before .well-formed .ensures) ∙ not-true (c .before .well-formed .result) (c .if1 .taken)) in
     rw e (put-none (c .before .before .before .args .at) (now (c .before .before .before .args .out)))
-
-slice-aggregate-fill : tie.Need-slice-aggregate-fill
-slice-aggregate-fill c = search needs
 
 fill-requires : tie.Need-fill-requires
 fill-requires c κs = (sym (c .before .before .well-formed .ensures) ∙ not-false (c .before .before .well-formed .result) (c .before .if1 .left), search needs)
@@ -32,20 +26,8 @@ returns-2 c =
     let z : tailText (componentsOf p) ≡ [] = no-length (tailText (componentsOf p)) (omega (arith, n)) in
     rw (← e, z) (put-none (c .before .before .before .before .before .before .before .args .at) (now (c .before .before .before .before .before .before .before .args .out)))
 
-sub-put-bytes : tie.Need-sub-put-bytes
-sub-put-bytes c = search needs
-
-part-put-bytes-start : tie.Need-part-put-bytes-start
-part-put-bytes-start c = search needs
-
 part-put-bytes-end : tie.Need-part-put-bytes-end
 part-put-bytes-end c = omega (arith, c .before .before .before .before .fill .ensures .2, c .before .before .before .before .fill .kept .1 .0)
-
-put-bytes-requires : tie.Need-put-bytes-requires
-put-bytes-requires c κs = search needs
-
-same-length : tie.Need-same-length
-same-length c = search needs
 
 returns-3 : tie.Need-returns-3
 returns-3 c =
@@ -58,14 +40,5 @@ pub put-components-spec : {M : Type 1} → statement M
 put-components-spec =
     tie.close
     (tie.spec
-    well-formed-requires
-    returns
-    slice-aggregate-fill
-    fill-requires
-    returns-2
-    sub-put-bytes
-    part-put-bytes-start
-    part-put-bytes-end
-    put-bytes-requires
-    same-length
-    returns-3)
+    (λ c κs. search needs) returns (λ c. search needs) fill-requires returns-2 (λ c. search needs) (λ c. search needs) part-put-bytes-end
+    (λ c κs. search needs) (λ c. search needs) returns-3)

@@ -31,9 +31,6 @@ Inv-loop s builder₀ at₀ builder at =
 abbrev μ-loop : tie.MeasureT-loop
 μ-loop s builder₀ at₀ builder at = length s - at
 
-new-requires : tie.Need-new-requires Inv-loop μ-loop
-new-requires c κs = search needs
-
 loop-holds : tie.Need-loop-holds Inv-loop μ-loop
 unfolding readComponentsText pathOk
 loop-holds c =
@@ -45,29 +42,8 @@ loop-holds c =
       rw k refl,
     )
 
-sub-rest : tie.Need-sub-rest Inv-loop μ-loop
-sub-rest c = omega arith
-
-part-rest-start : tie.Need-part-rest-start Inv-loop μ-loop
-part-rest-start c = omega arith
-
-part-rest-end : tie.Need-part-rest-end Inv-loop μ-loop
-part-rest-end c = omega arith
-
-find-requires : tie.Need-find-requires Inv-loop μ-loop
-find-requires c κs = search needs
-
 slice-aggregate-push-text : tie.Need-slice-aggregate-push-text Inv-loop μ-loop
 slice-aggregate-push-text c = sym (length-take-le (c .before .find .result) _ (c .before .find .ensures .1))
-
-push-text-requires : tie.Need-push-text-requires Inv-loop μ-loop
-push-text-requires c κs = search needs
-
-enum-told : tie.Need-enum-told Inv-loop μ-loop
-enum-told c = search needs
-
-refuse-requires : tie.Need-refuse-requires Inv-loop μ-loop
-refuse-requires c κs = search needs
 
 returns : tie.Need-returns Inv-loop μ-loop
 returns c =
@@ -103,9 +79,6 @@ add-at c = omega (arith, c .before .before .before .before .before .before .find
 add-at-2 : tie.Need-add-at-2 Inv-loop μ-loop
 add-at-2 c = omega (arith, c .before .before .before .before .before .before .find .ensures .1, length-drop (c .before .before .before .before .before .before .before .before .loop .at) (now (c .before .before .before .before .before .before .before .before .before .before .before .args .s)))
 
-loop-less : tie.Need-loop-less Inv-loop μ-loop
-loop-less c = omega arith
-
 loop-again : tie.Need-loop-again Inv-loop μ-loop
 loop-again c =
     let s = now (c .before .before .before .before .before .before .before .before .before .before .before .args .s) in
@@ -133,21 +106,6 @@ pub read-components-spec : {M : Type 1} → statement M
 read-components-spec =
     tie.close
     (tie.spec
-    Inv-loop
-    μ-loop
-    new-requires
-    loop-holds
-    sub-rest
-    part-rest-start
-    part-rest-end
-    find-requires
-    slice-aggregate-push-text
-    push-text-requires
-    enum-told
-    refuse-requires
-    returns
-    returns-2
-    add-at
-    add-at-2
-    loop-less
-    loop-again)
+    Inv-loop μ-loop (λ c κs. search needs) loop-holds (λ c. omega arith) (λ c. omega arith) (λ c. omega arith) (λ c κs. search needs)
+    slice-aggregate-push-text (λ c κs. search needs) (λ c. search needs) (λ c κs. search needs) returns returns-2 add-at add-at-2
+    (λ c. omega arith) loop-again)

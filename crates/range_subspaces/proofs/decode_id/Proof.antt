@@ -2,33 +2,6 @@ use borrow.Author.Needs.{needs}
 use Rattle.range_subspaces.proofs.decode_id.Statement.{statement}
 use Rattle.range_subspaces.proofs.decode_id.Tie as tie
 
-enum-told : tie.Need-enum-told
-enum-told c = search needs
-
-no-id-requires : tie.Need-no-id-requires
-no-id-requires c κs = search needs
-
-enum-told-2 : tie.Need-enum-told-2
-enum-told-2 c = search needs
-
-enum-told-3 : tie.Need-enum-told-3
-enum-told-3 c = search needs
-
-no-id-requires-2 : tie.Need-no-id-requires-2
-no-id-requires-2 c κs = search needs
-
-returns : tie.Need-returns
-returns c = search needs
-
-enum-told-4 : tie.Need-enum-told-4
-enum-told-4 c = search needs
-
-decode-written-requires : tie.Need-decode-written-requires
-decode-written-requires c κs = search needs
-
-returns-2 : tie.Need-returns-2
-returns-2 c = search needs
-
 returns-3 : tie.Need-returns-3
 returns-3 c = rw (c .enum-told2 .given .1)
 
@@ -42,15 +15,5 @@ pub decode-id-spec : {M : Type 1} → statement M
 decode-id-spec =
     tie.close
     (tie.spec
-    enum-told
-    no-id-requires
-    enum-told-2
-    enum-told-3
-    no-id-requires-2
-    returns
-    enum-told-4
-    decode-written-requires
-    returns-2
-    returns-3
-    returns-4
-    returns-5)
+    (λ c. search needs) (λ c κs. search needs) (λ c. search needs) (λ c. search needs) (λ c κs. search needs) (λ c. search needs)
+    (λ c. search needs) (λ c κs. search needs) (λ c. search needs) returns-3 returns-4 returns-5)

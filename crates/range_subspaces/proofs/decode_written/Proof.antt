@@ -14,26 +14,11 @@ use Rattle.range_subspaces.proofs.decode_written.Tie as tie
 id-is : (c : tie.After-enum-told) → someBytes 32 (now (c .before .before .before .before .args .message)) ≡ accepted (c .before .before .decode-id .result .id) (c .enum-told .given .0 .0)
 id-is c = sym (c .before .before .decode-id .ensures .answer) ∙ ap (λ (d : Decoded). answerOf d (c .before .before .decode-id .result .id)) (c .enum-told .given .1)
 
-decode-id-requires : tie.Need-decode-id-requires
-decode-id-requires c κs = search needs
-
-enum-told : tie.Need-enum-told
-enum-told c = search needs
-
 returns : tie.Need-returns
 returns c =
     let a = c .before .before .before .args in
     let x = no-value (c .before .decode-id .result .answer) (c .match .keys2) in
     x .beside _ ∙ sym (written-refused (subspacesOf (a .reference)) (now (a .message)) (x .why) (sym (c .before .decode-id .ensures .answer) ∙ x .beside _))
-
-source-requires : tie.Need-source-requires
-source-requires c κs = search needs
-
-enum-told-2 : tie.Need-enum-told-2
-enum-told-2 c = search needs
-
-no-id-requires : tie.Need-no-id-requires
-no-id-requires c κs = search needs
 
 returns-2 : tie.Need-returns-2
 returns-2 c =
@@ -49,11 +34,4 @@ pub decode-written-spec : {M : Type 1} → statement M
 decode-written-spec =
     tie.close
     (tie.spec
-    decode-id-requires
-    enum-told
-    returns
-    source-requires
-    enum-told-2
-    no-id-requires
-    returns-2
-    returns-3)
+    (λ c κs. search needs) (λ c. search needs) returns (λ c κs. search needs) (λ c. search needs) (λ c κs. search needs) returns-2 returns-3)

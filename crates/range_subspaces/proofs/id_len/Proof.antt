@@ -8,12 +8,6 @@ use borrow.Author.Needs.{needs}
 use Rattle.range_subspaces.proofs.id_len.Statement.{statement}
 use Rattle.range_subspaces.proofs.id_len.Tie as tie
 
-source-requires : tie.Need-source-requires
-source-requires c κs = search needs
-
-enum-told : tie.Need-enum-told
-enum-told c = search needs
-
 returns : tie.Need-returns
 returns c =
     let a = c .before .before .args in
@@ -27,4 +21,4 @@ returns-2 c =
     (sym (ap length e ∙ c .before .before .before .good .0 .1 .0 .1), omega arith)
 
 pub id-len-spec : {M : Type 1} → statement M
-id-len-spec = tie.close (tie.spec source-requires enum-told returns returns-2)
+id-len-spec = tie.close (tie.spec (λ c κs. search needs) (λ c. search needs) returns returns-2)

@@ -13,26 +13,11 @@ use borrow.Author.Needs.{needs}
 use Rattle.range_subspaces.proofs.put_id.Statement.{statement}
 use Rattle.range_subspaces.proofs.put_id.Tie as tie
 
-source-requires : tie.Need-source-requires
-source-requires c κs = search needs
-
-enum-told : tie.Need-enum-told
-enum-told c = search needs
-
 returns : tie.Need-returns
 returns c =
     let a = c .before .before .before .args in
     let e = no-bytes (subspacesOf (a .reference)) (a .t2) (ap isWritten (sym (c .before .source .ensures)) ∙ not-written (c .before .source .result) (c .match .keys2)) in
     (sym (ap length e), rw e)
-
-slice-aggregate-put-bytes : tie.Need-slice-aggregate-put-bytes
-slice-aggregate-put-bytes c = search needs
-
-put-bytes-requires : tie.Need-put-bytes-requires
-put-bytes-requires c κs = search needs
-
-same-length : tie.Need-same-length
-same-length c = search needs
 
 returns-2 : tie.Need-returns-2
 returns-2 c =
@@ -45,10 +30,4 @@ pub put-id-spec : {M : Type 1} → statement M
 put-id-spec =
     tie.close
     (tie.spec
-    source-requires
-    enum-told
-    returns
-    slice-aggregate-put-bytes
-    put-bytes-requires
-    same-length
-    returns-2)
+    (λ c κs. search needs) (λ c. search needs) returns (λ c. search needs) (λ c κs. search needs) (λ c. search needs) returns-2)

@@ -32,23 +32,11 @@ both-are c =
     let e = rw (to-end (c .before .before .before .before .before .before .before .before .before .first-answer .given .0 .0) (now (a .message))) at (sym (c .before .before .before .before .decode-id2 .ensures) ∙ ap (λ (d : Decoded). answerOf d (c .before .before .before .before .decode-id2 .result .id)) (c .before .before .second-answer .given .1)) in
     both-read (subspacesOf (a .reference)) (a .sources) (now (a .message)) _ _ (start-is (c .before .before .before .before .before .before .before .before)) (c .before .before .before .before .before .before .match2 .keys2) _ _ e
 
-decode-id-requires : tie.Need-decode-id-requires
-decode-id-requires c κs = search needs
-
-enum-known-first-answer : tie.Need-enum-known-first-answer
-enum-known-first-answer c = search needs
-
-refuse-requires : tie.Need-refuse-requires
-refuse-requires c κs = search needs
-
 returns : tie.Need-returns
 returns c =
     let a = c .before .before .before .before .args in
     let x = no-value (c .before .before .decode-id .result .answer) (c .before .match .keys2) in
     rw (c .refuse .ensures .0, c .refuse .ensures .1) (gives-refused (x .why) (x .beside noSubspaces) (start-refused (subspacesOf (a .reference)) (a .sources) (now (a .message)) (x .why) (sym (c .before .before .decode-id .ensures) ∙ x .beside _)))
-
-enum-told : tie.Need-enum-told
-enum-told c = search needs
 
 returns-2 : tie.Need-returns-2
 unfolding subspacesFrom
@@ -61,18 +49,6 @@ sub-decode-id c = inside c
 
 part-decode-id-start : tie.Need-part-decode-id-start
 part-decode-id-start c = inside c
-
-part-decode-id-end : tie.Need-part-decode-id-end
-part-decode-id-end c = search needs
-
-decode-id-requires-2 : tie.Need-decode-id-requires-2
-decode-id-requires-2 c κs = search needs
-
-enum-known-second-answer : tie.Need-enum-known-second-answer
-enum-known-second-answer c = search needs
-
-refuse-requires-2 : tie.Need-refuse-requires-2
-refuse-requires-2 c κs = search needs
 
 returns-3 : tie.Need-returns-3
 returns-3 c =
@@ -94,18 +70,5 @@ pub relative-decode-spec : {M : Type 1} → statement M
 relative-decode-spec =
     tie.close
     (tie.spec
-    decode-id-requires
-    enum-known-first-answer
-    refuse-requires
-    returns
-    enum-told
-    returns-2
-    sub-decode-id
-    part-decode-id-start
-    part-decode-id-end
-    decode-id-requires-2
-    enum-known-second-answer
-    refuse-requires-2
-    returns-3
-    add-t18
-    returns-4)
+    (λ c κs. search needs) (λ c. search needs) (λ c κs. search needs) returns (λ c. search needs) returns-2 sub-decode-id
+    part-decode-id-start (λ c. search needs) (λ c κs. search needs) (λ c. search needs) (λ c κs. search needs) returns-3 add-t18 returns-4)

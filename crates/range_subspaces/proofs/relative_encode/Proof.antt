@@ -30,9 +30,6 @@ room c =
     let a = c .before .before .before .before .before .before .before .before .before .before .args in
     rw length-drop (omega (arith, c .before .before .before .before .before .before .before .if1 .left, c .before .before .before .before .before .before .before .before .relative-len-of-encoding .ensures .0, ap length (bytes c), length-append (idBytes (subspacesOf (a .reference)) (a .subspaces .start)) (idBytes (subspacesOf (a .reference)) (a .subspaces .end)), c .before .before .before .before .put-id .ensures .0, c .before .before .before .before .put-id .kept .0))
 
-relative-len-of-encoding-requires : tie.Need-relative-len-of-encoding-requires
-relative-len-of-encoding-requires c κs = search needs
-
 returns : tie.Need-returns
 returns c =
     let a = c .before .before .before .args in
@@ -42,9 +39,6 @@ put-id-requires : tie.Need-put-id-requires
 put-id-requires c κs =
     let a = c .before .before .before .before .before .args in
     omega (arith, c .before .before .if1 .left, c .before .before .before .relative-len-of-encoding .ensures .0, start-inside (subspacesOf (a .reference)) (subspacesOf (a .subspaces)))
-
-same-length : tie.Need-same-length
-same-length c = search needs
 
 returns-2 : tie.Need-returns-2
 returns-2 c =
@@ -60,14 +54,8 @@ sub-put-id c = inside c
 part-put-id-start : tie.Need-part-put-id-start
 part-put-id-start c = inside c
 
-part-put-id-end : tie.Need-part-put-id-end
-part-put-id-end c = search needs
-
 put-id-requires-2 : tie.Need-put-id-requires-2
 put-id-requires-2 c κs = rw (to-end (c .before .before .before .before .before .put-id .result) (c .before .before .before .before .before .put-id .last .0)) (room (c .before))
-
-same-length-2 : tie.Need-same-length-2
-same-length-2 c = search needs
 
 returns-3 : tie.Need-returns-3
 returns-3 c =
@@ -87,14 +75,5 @@ pub relative-encode-spec : {M : Type 1} → statement M
 relative-encode-spec =
     tie.close
     (tie.spec
-    relative-len-of-encoding-requires
-    returns
-    put-id-requires
-    same-length
-    returns-2
-    sub-put-id
-    part-put-id-start
-    part-put-id-end
-    put-id-requires-2
-    same-length-2
-    returns-3)
+    (λ c κs. search needs) returns put-id-requires (λ c. search needs) returns-2 sub-put-id part-put-id-start (λ c. search needs)
+    put-id-requires-2 (λ c. search needs) returns-3)

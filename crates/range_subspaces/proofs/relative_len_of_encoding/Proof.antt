@@ -6,19 +6,10 @@ use borrow.Author.Needs.{needs}
 use Rattle.range_subspaces.proofs.relative_len_of_encoding.Statement.{statement}
 use Rattle.range_subspaces.proofs.relative_len_of_encoding.Tie as tie
 
-id-len-requires : tie.Need-id-len-requires
-id-len-requires c κs = search needs
-
 returns : tie.Need-returns
 returns c =
     let a = c .before .before .before .args in
     (rw (open-bytes (subspacesOf (a .reference)) (subspacesOf (a .subspaces)) (rw (c .if1 .taken))) (c .before .id-len .ensures .0), omega (arith, c .before .id-len .ensures .1))
-
-id-len-requires-2 : tie.Need-id-len-requires-2
-id-len-requires-2 c κs = search needs
-
-add-result : tie.Need-add-result
-add-result c = search needs
 
 returns-2 : tie.Need-returns-2
 returns-2 c =
@@ -28,5 +19,4 @@ returns-2 c =
     (rw (closed-bytes (subspacesOf (a .reference)) (subspacesOf (a .subspaces)) (a .subspaces .end) (rw (c .before .before .if1 .left)), length-append, ← (first .0), ← (last .0)), omega (arith, first .1, last .1))
 
 pub relative-len-of-encoding-spec : {M : Type 1} → statement M
-relative-len-of-encoding-spec =
-    tie.close (tie.spec id-len-requires returns id-len-requires-2 add-result returns-2)
+relative-len-of-encoding-spec = tie.close (tie.spec (λ c κs. search needs) returns (λ c κs. search needs) (λ c. search needs) returns-2)

@@ -4,15 +4,6 @@ use borrow.Author.Needs.{needs}
 use Rattle.range_subspaces.proofs.source.Statement.{statement}
 use Rattle.range_subspaces.proofs.source.Tie as tie
 
-slice-aggregate-same-bytes : tie.Need-slice-aggregate-same-bytes
-slice-aggregate-same-bytes c = search needs
-
-slice-aggregate-same-bytes-2 : tie.Need-slice-aggregate-same-bytes-2
-slice-aggregate-same-bytes-2 c = search needs
-
-same-bytes-requires : tie.Need-same-bytes-requires
-same-bytes-requires c κs = search needs
-
 returns : tie.Need-returns
 unfolding sourceOf
 returns c = rw (sym (c .before .same-bytes .ensures) ∙ c .if1 .taken)
@@ -20,15 +11,6 @@ returns c = rw (sym (c .before .same-bytes .ensures) ∙ c .if1 .taken)
 returns-2 : tie.Need-returns-2
 unfolding sourceOf
 returns-2 c = rw (sym (c .before .before .same-bytes .ensures) ∙ c .before .if1 .left, c .if2 .taken)
-
-slice-aggregate-same-bytes-3 : tie.Need-slice-aggregate-same-bytes-3
-slice-aggregate-same-bytes-3 c = search needs
-
-slice-aggregate-same-bytes-4 : tie.Need-slice-aggregate-same-bytes-4
-slice-aggregate-same-bytes-4 c = search needs
-
-same-bytes-requires-2 : tie.Need-same-bytes-requires-2
-same-bytes-requires-2 c κs = search needs
 
 returns-3 : tie.Need-returns-3
 unfolding sourceOf
@@ -42,13 +24,5 @@ pub source-spec : {M : Type 1} → statement M
 source-spec =
     tie.close
     (tie.spec
-    slice-aggregate-same-bytes
-    slice-aggregate-same-bytes-2
-    same-bytes-requires
-    returns
-    returns-2
-    slice-aggregate-same-bytes-3
-    slice-aggregate-same-bytes-4
-    same-bytes-requires-2
-    returns-3
-    returns-4)
+    (λ c. search needs) (λ c. search needs) (λ c κs. search needs) returns returns-2 (λ c. search needs) (λ c. search needs)
+    (λ c κs. search needs) returns-3 returns-4)

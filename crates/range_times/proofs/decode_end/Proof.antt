@@ -12,18 +12,6 @@ use Rattle.range_times.proofs.decode_end.Tie as tie
 returns : tie.Need-returns
 returns c = sym (end-open _ _ _ _ (c .if1 .taken))
 
-side-requires : tie.Need-side-requires
-side-requires c κs = search needs
-
-relative-decode-requires : tie.Need-relative-decode-requires
-relative-decode-requires c κs = search needs
-
-enum-known-read : tie.Need-enum-known-read
-enum-known-read c = search needs
-
-refusal-requires : tie.Need-refusal-requires
-refusal-requires c κs = search needs
-
 returns-2 : tie.Need-returns-2
 returns-2 c =
     let a = c .before .before .before .before .before .before .args in
@@ -39,10 +27,4 @@ pub decode-end-spec : {M : Type 1} → statement M
 decode-end-spec =
     tie.close
     (tie.spec
-    returns
-    side-requires
-    relative-decode-requires
-    enum-known-read
-    refusal-requires
-    returns-2
-    returns-3)
+    returns (λ c κs. search needs) (λ c κs. search needs) (λ c. search needs) (λ c κs. search needs) returns-2 returns-3)

@@ -28,39 +28,12 @@ times-are c =
     let e = rw (c .before .before .before .before .before .before .before .before .before .unpack .ensures) at (sym (c .before .before .before .decode-end .ensures) ∙ ap (λ (d : Decoded). answerOf d (c .before .before .before .decode-end .result .end)) (c .before .answer .given .1)) in
     times-read (a .reference) (a .end-open) (unpackHeader (a .header)) (now (a .message)) _ _ (start-is (c .before .before .before .before)) _ _ e
 
-unpack-requires : tie.Need-unpack-requires
-unpack-requires c κs = search needs
-
-side-requires : tie.Need-side-requires
-side-requires c κs = search needs
-
-relative-decode-requires : tie.Need-relative-decode-requires
-relative-decode-requires c κs = search needs
-
-enum-known-first : tie.Need-enum-known-first
-enum-known-first c = search needs
-
-refusal-requires : tie.Need-refusal-requires
-refusal-requires c κs = search needs
-
-refuse-requires : tie.Need-refuse-requires
-refuse-requires c κs = search needs
-
 returns : tie.Need-returns
 returns c =
     let a = c .before .before .before .before .before .before .before .args in
     let x = refused-number noTimes (c .before .before .before .relative-decode .result) (c .before .before .match .keys2) in
     let e = rw (c .before .before .before .before .side .ensures, c .before .before .before .before .before .unpack .ensures) at (sym (c .before .before .before .relative-decode .ensures) ∙ x .number) in
     rw (c .refuse .ensures .0, c .refuse .ensures .1, c .before .refusal .ensures) (gives-refused (x .why) (x .whole) (times-start (a .reference) (a .end-open) (unpackHeader (a .header)) (now (a .message)) (x .why) e))
-
-decode-end-requires : tie.Need-decode-end-requires
-decode-end-requires c κs = search needs
-
-enum-known-answer : tie.Need-enum-known-answer
-enum-known-answer c = search needs
-
-refuse-requires-2 : tie.Need-refuse-requires-2
-refuse-requires-2 c κs = search needs
 
 returns-2 : tie.Need-returns-2
 returns-2 c =
@@ -81,16 +54,5 @@ pub relative-decode-spec : {M : Type 1} → statement M
 relative-decode-spec =
     tie.close
     (tie.spec
-    unpack-requires
-    side-requires
-    relative-decode-requires
-    enum-known-first
-    refusal-requires
-    refuse-requires
-    returns
-    decode-end-requires
-    enum-known-answer
-    refuse-requires-2
-    returns-2
-    add-t15
-    returns-3)
+    (λ c κs. search needs) (λ c κs. search needs) (λ c κs. search needs) (λ c. search needs) (λ c κs. search needs) (λ c κs. search needs)
+    returns (λ c κs. search needs) (λ c. search needs) (λ c κs. search needs) returns-2 add-t15 returns-3)

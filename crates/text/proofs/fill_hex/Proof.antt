@@ -36,20 +36,11 @@ room c =
 loop-holds : tie.Need-loop-holds Inv-loop μ-loop
 loop-holds c = (omega arith, refl, c .before .before .pre .0, omega (arith, c .before .before .pre .1), sym (overAt-start _ _))
 
-shared-slice-read-hex-value : tie.Need-shared-slice-read-hex-value Inv-loop μ-loop
-shared-slice-read-hex-value c = omega arith
-
-hex-value-requires : tie.Need-hex-value-requires Inv-loop μ-loop
-hex-value-requires c κs = search needs
-
 add-j : tie.Need-add-j Inv-loop μ-loop
 add-j c = omega (arith, here (c .before .before) .more)
 
 shared-slice-read-hex-value-2 : tie.Need-shared-slice-read-hex-value-2 Inv-loop μ-loop
 shared-slice-read-hex-value-2 c = omega (arith, here (c .before .before .before) .more)
-
-hex-value-requires-2 : tie.Need-hex-value-requires-2 Inv-loop μ-loop
-hex-value-requires-2 c κs = search needs
 
 mul-out : tie.Need-mul-out Inv-loop μ-loop
 mul-out c = let p = here (c .before .before .before .before) in omega (arith, p .high, c .before .before .hex-value .ensures .0)
@@ -94,20 +85,5 @@ pub fill-hex-spec : {M : Type 1} → statement M
 fill-hex-spec =
     tie.close
     (tie.spec
-    Inv-loop
-    μ-loop
-    loop-holds
-    shared-slice-read-hex-value
-    hex-value-requires
-    add-j
-    shared-slice-read-hex-value-2
-    hex-value-requires-2
-    mul-out
-    add-out
-    slice-write-out
-    add-k
-    add-i
-    loop-less
-    loop-again
-    same-length
-    returns)
+    Inv-loop μ-loop loop-holds (λ c. omega arith) (λ c κs. search needs) add-j shared-slice-read-hex-value-2 (λ c κs. search needs) mul-out
+    add-out slice-write-out add-k add-i loop-less loop-again same-length returns)

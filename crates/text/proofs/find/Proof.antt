@@ -14,20 +14,8 @@ Inv-loop s x i₀ i = (i ≤ length s) × (length (before x s) ≡ i + length (b
 abbrev μ-loop : tie.MeasureT-loop
 μ-loop s x i₀ i = length s - i
 
-loop-holds : tie.Need-loop-holds Inv-loop μ-loop
-loop-holds c = omega arith
-
-shared-slice-read-if1 : tie.Need-shared-slice-read-if1 Inv-loop μ-loop
-shared-slice-read-if1 c = omega arith
-
 returns : tie.Need-returns Inv-loop μ-loop
 returns c = (omega (arith, c .before .before .before .loop .inv .1, before-here (c .before .before .before .before .args .x) (now (c .before .before .before .before .args .s)) (c .before .before .before .loop .i) (omega arith) (c .if1 .taken)), omega arith)
-
-add-i : tie.Need-add-i Inv-loop μ-loop
-add-i c = omega arith
-
-loop-less : tie.Need-loop-less Inv-loop μ-loop
-loop-less c = omega arith
 
 loop-again : tie.Need-loop-again Inv-loop μ-loop
 loop-again c = (omega arith, omega (arith, c .before .before .before .loop .inv .1, before-next (c .before .before .before .before .args .x) (now (c .before .before .before .before .args .s)) (c .before .before .before .loop .i) (omega arith) (c .if1 .left)))
@@ -39,12 +27,4 @@ pub find-spec : {M : Type 1} → statement M
 find-spec =
     tie.close
     (tie.spec
-    Inv-loop
-    μ-loop
-    loop-holds
-    shared-slice-read-if1
-    returns
-    add-i
-    loop-less
-    loop-again
-    returns-2)
+    Inv-loop μ-loop (λ c. omega arith) (λ c. omega arith) returns (λ c. omega arith) (λ c. omega arith) loop-again returns-2)

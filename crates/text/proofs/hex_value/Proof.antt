@@ -23,9 +23,6 @@ returns-3 c =
     let b = c .before .before .before .args .b in
     (rw (le-ltb b 48 (omega arith), le-ltb b 58 (omega arith), lt-ltb b 97 (omega arith)), omega arith)
 
-add-result : tie.Need-add-result
-add-result c = search needs
-
 returns-4 : tie.Need-returns-4
 unfolding hexValue
 returns-4 c =
@@ -39,4 +36,4 @@ returns-5 c =
     (rw (le-ltb b 48 (omega arith), le-ltb b 58 (omega arith), le-ltb b 97 (omega arith), le-ltb b 103 (omega arith)), omega arith)
 
 pub hex-value-spec : {M : Type 1} → statement M
-hex-value-spec = tie.close (tie.spec returns returns-2 returns-3 add-result returns-4 returns-5)
+hex-value-spec = tie.close (tie.spec returns returns-2 returns-3 (λ c. search needs) returns-4 returns-5)

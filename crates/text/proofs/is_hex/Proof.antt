@@ -19,43 +19,19 @@ abbrev μ-loop : tie.MeasureT-loop
 loop-holds : tie.Need-loop-holds Inv-loop μ-loop
 loop-holds c = (omega arith, refl)
 
-sub-if1 : tie.Need-sub-if1 Inv-loop μ-loop
-sub-if1 c = omega arith
-
 returns : tie.Need-returns Inv-loop μ-loop
 returns c = sym (c .before .before .loop .inv .1 ∙ isHex-odd (now (c .before .before .before .before .args .s)) (c .before .before .loop .i) (omega arith))
-
-shared-slice-read-hex-value : tie.Need-shared-slice-read-hex-value Inv-loop μ-loop
-shared-slice-read-hex-value c = omega arith
-
-hex-value-requires : tie.Need-hex-value-requires Inv-loop μ-loop
-hex-value-requires c κs = search needs
 
 returns-2 : tie.Need-returns-2 Inv-loop μ-loop
 returns-2 c =
     let a = c .before .hex-value in
     sym (c .before .before .before .before .before .loop .inv .1 ∙ isHex-next (now (c .before .before .before .before .before .before .before .args .s)) (c .before .before .before .before .before .loop .i) (omega arith) ∙ rw (← (a .ensures .0), le-ltb (a .result) 16 (omega arith)))
 
-add-j : tie.Need-add-j Inv-loop μ-loop
-add-j c = omega arith
-
-shared-slice-read-hex-value-2 : tie.Need-shared-slice-read-hex-value-2 Inv-loop μ-loop
-shared-slice-read-hex-value-2 c = omega arith
-
-hex-value-requires-2 : tie.Need-hex-value-requires-2 Inv-loop μ-loop
-hex-value-requires-2 c κs = search needs
-
 returns-3 : tie.Need-returns-3 Inv-loop μ-loop
 returns-3 c =
     let a = c .before .before .before .before .hex-value in
     let b = c .before .hex-value2 in
     sym (c .before .before .before .before .before .before .before .before .loop .inv .1 ∙ isHex-next (now (c .before .before .before .before .before .before .before .before .before .before .args .s)) (c .before .before .before .before .before .before .before .before .loop .i) (omega arith) ∙ rw (← (a .ensures .0), lt-ltb (a .result) 16 (omega arith), ← (b .ensures .0), le-ltb (b .result) 16 (omega arith)))
-
-add-i : tie.Need-add-i Inv-loop μ-loop
-add-i c = omega arith
-
-loop-less : tie.Need-loop-less Inv-loop μ-loop
-loop-less c = omega arith
 
 loop-again : tie.Need-loop-again Inv-loop μ-loop
 loop-again c =
@@ -72,19 +48,5 @@ pub is-hex-spec : {M : Type 1} → statement M
 is-hex-spec =
     tie.close
     (tie.spec
-    Inv-loop
-    μ-loop
-    loop-holds
-    sub-if1
-    returns
-    shared-slice-read-hex-value
-    hex-value-requires
-    returns-2
-    add-j
-    shared-slice-read-hex-value-2
-    hex-value-requires-2
-    returns-3
-    add-i
-    loop-less
-    loop-again
-    returns-4)
+    Inv-loop μ-loop loop-holds (λ c. omega arith) returns (λ c. omega arith) (λ c κs. search needs) returns-2 (λ c. omega arith)
+    (λ c. omega arith) (λ c κs. search needs) returns-3 (λ c. omega arith) (λ c. omega arith) loop-again returns-4)

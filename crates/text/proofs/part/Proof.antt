@@ -21,21 +21,6 @@ abbrev μ-loop : tie.MeasureT-loop
 loop-holds : tie.Need-loop-holds Inv-loop μ-loop
 loop-holds c = (omega arith, refl)
 
-sub-rest : tie.Need-sub-rest Inv-loop μ-loop
-sub-rest c = omega arith
-
-part-rest-start : tie.Need-part-rest-start Inv-loop μ-loop
-part-rest-start c = omega arith
-
-part-rest-end : tie.Need-part-rest-end Inv-loop μ-loop
-part-rest-end c = omega arith
-
-find-requires : tie.Need-find-requires Inv-loop μ-loop
-find-requires c κs = search needs
-
-slice-aggregate-result : tie.Need-slice-aggregate-result Inv-loop μ-loop
-slice-aggregate-result c = omega arith
-
 returns : tie.Need-returns Inv-loop μ-loop
 returns c =
     let s = now (c .before .before .before .before .before .before .before .args .s) in
@@ -53,12 +38,6 @@ add-at c = omega (arith, c .before .find .ensures .1, length-drop (c .before .be
 add-at-2 : tie.Need-add-at-2 Inv-loop μ-loop
 add-at-2 c = omega (arith, c .before .find .ensures .1, length-drop (c .before .before .before .before .loop .at) (now (c .before .before .before .before .before .before .args .s)))
 
-sub-left : tie.Need-sub-left Inv-loop μ-loop
-sub-left c = omega arith
-
-loop-less : tie.Need-loop-less Inv-loop μ-loop
-loop-less c = omega arith
-
 loop-again : tie.Need-loop-again Inv-loop μ-loop
 loop-again c =
     let s = now (c .before .before .before .before .before .before .args .s) in
@@ -74,18 +53,6 @@ loop-again c =
       omega (arith, m, k, length-drop (l .at) s),
       l .inv .1 ∙ ap (λ (n : ℕ). partAt x n r) e ∙ part-later x r (l .left - 1) m ∙ ap (λ (y : List ℕ). partAt x (l .left - 1) y) d,
     )
-
-sub-rest-2 : tie.Need-sub-rest-2 Inv-loop μ-loop
-sub-rest-2 c = omega arith
-
-part-rest-start-2 : tie.Need-part-rest-start-2 Inv-loop μ-loop
-part-rest-start-2 c = omega arith
-
-part-rest-end-2 : tie.Need-part-rest-end-2 Inv-loop μ-loop
-part-rest-end-2 c = omega arith
-
-find-requires-2 : tie.Need-find-requires-2 Inv-loop μ-loop
-find-requires-2 c κs = search needs
 
 slice-aggregate-result-2 : tie.Need-slice-aggregate-result-2 Inv-loop μ-loop
 slice-aggregate-result-2 c = sym (length-take-le (c .before .find2 .result) _ (c .before .find2 .ensures .1))
@@ -103,23 +70,6 @@ pub part-spec : {M : Type 1} → statement M
 part-spec =
     tie.close
     (tie.spec
-    Inv-loop
-    μ-loop
-    loop-holds
-    sub-rest
-    part-rest-start
-    part-rest-end
-    find-requires
-    slice-aggregate-result
-    returns
-    add-at
-    add-at-2
-    sub-left
-    loop-less
-    loop-again
-    sub-rest-2
-    part-rest-start-2
-    part-rest-end-2
-    find-requires-2
-    slice-aggregate-result-2
-    returns-2)
+    Inv-loop μ-loop loop-holds (λ c. omega arith) (λ c. omega arith) (λ c. omega arith) (λ c κs. search needs) (λ c. omega arith) returns
+    add-at add-at-2 (λ c. omega arith) (λ c. omega arith) loop-again (λ c. omega arith) (λ c. omega arith) (λ c. omega arith)
+    (λ c κs. search needs) slice-aggregate-result-2 returns-2)

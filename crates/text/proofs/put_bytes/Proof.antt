@@ -9,20 +9,8 @@ use Rattle.text.proofs.put_bytes.Tie as tie
 returns : tie.Need-returns
 returns c = putAt-full (c .before .before .before .args .at) (now (c .before .before .before .args .s)) (now (c .before .before .before .args .out)) (omega arith)
 
-sub-if2 : tie.Need-sub-if2
-sub-if2 c = search needs
-
 returns-2 : tie.Need-returns-2
 returns-2 c = putAt-full (c .before .before .before .before .args .at) (now (c .before .before .before .before .args .s)) (now (c .before .before .before .before .args .out)) (omega arith)
-
-copy-bytes-requires : tie.Need-copy-bytes-requires
-copy-bytes-requires c κs = search needs
-
-add-result : tie.Need-add-result
-add-result c = search needs
-
-same-length : tie.Need-same-length
-same-length c = search needs
 
 returns-3 : tie.Need-returns-3
 returns-3 c =
@@ -32,5 +20,4 @@ returns-3 c =
 
 pub put-bytes-spec : {M : Type 1} → statement M
 put-bytes-spec =
-    tie.close
-    (tie.spec returns sub-if2 returns-2 copy-bytes-requires add-result same-length returns-3)
+    tie.close (tie.spec returns (λ c. search needs) returns-2 (λ c κs. search needs) (λ c. search needs) (λ c. search needs) returns-3)

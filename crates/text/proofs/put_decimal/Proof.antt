@@ -11,21 +11,6 @@ use Rattle.text.proofs.put_decimal.Tie as tie
 text-is : (c : tie.After-decimal) → take (c .decimal .result) (c .decimal .last .1 .0) ≡ decimalText (c .before .before .before .args .n)
 text-is c = c .decimal .ensures .1 .1 ∙ decimal-is _ _ (omega arith) (c .decimal .ensures .1 .0)
 
-decimal-requires : tie.Need-decimal-requires
-decimal-requires c κs = search needs
-
-array-share-prefix-digits : tie.Need-array-share-prefix-digits
-array-share-prefix-digits c = search needs
-
-slice-aggregate-put-bytes : tie.Need-slice-aggregate-put-bytes
-slice-aggregate-put-bytes c = search needs
-
-put-bytes-requires : tie.Need-put-bytes-requires
-put-bytes-requires c κs = search needs
-
-same-length : tie.Need-same-length
-same-length c = search needs
-
 returns : tie.Need-returns
 returns c =
     let e = text-is (c .before .before .before .before .before) in
@@ -33,11 +18,4 @@ returns c =
 
 pub put-decimal-spec : {M : Type 1} → statement M
 put-decimal-spec =
-    tie.close
-    (tie.spec
-    decimal-requires
-    array-share-prefix-digits
-    slice-aggregate-put-bytes
-    put-bytes-requires
-    same-length
-    returns)
+    tie.close (tie.spec (λ c κs. search needs) (λ c. search needs) (λ c. search needs) (λ c κs. search needs) (λ c. search needs) returns)

@@ -11,23 +11,8 @@ use Rattle.text.proofs.put_hex.Tie as tie
 returns : tie.Need-returns
 returns c = putAt-full (c .before .before .before .args .at) (hexText (now (c .before .before .before .args .s))) (now (c .before .before .before .args .out)) (omega arith)
 
-sub-if2 : tie.Need-sub-if2
-sub-if2 c = search needs
-
 returns-2 : tie.Need-returns-2
 returns-2 c = putAt-full (c .before .before .before .before .args .at) (hexText (now (c .before .before .before .before .args .s))) (now (c .before .before .before .before .args .out)) (omega (arith, hexText-long (now (c .before .before .before .before .args .s))))
-
-copy-hex-requires : tie.Need-copy-hex-requires
-copy-hex-requires c κs = search needs
-
-mul-result : tie.Need-mul-result
-mul-result c = search needs
-
-add-result : tie.Need-add-result
-add-result c = search needs
-
-same-length : tie.Need-same-length
-same-length c = search needs
 
 returns-3 : tie.Need-returns-3
 returns-3 c =
@@ -40,11 +25,4 @@ pub put-hex-spec : {M : Type 1} → statement M
 put-hex-spec =
     tie.close
     (tie.spec
-    returns
-    sub-if2
-    returns-2
-    copy-hex-requires
-    mul-result
-    add-result
-    same-length
-    returns-3)
+    returns (λ c. search needs) returns-2 (λ c κs. search needs) (λ c. search needs) (λ c. search needs) (λ c. search needs) returns-3)

@@ -12,9 +12,6 @@ use Rattle.text.proofs.HexSteps.{unhex-long}
 use Rattle.text.proofs.read_hex.Statement.{statement}
 use Rattle.text.proofs.read_hex.Tie as tie
 
-is-hex-requires : tie.Need-is-hex-requires
-is-hex-requires c κs = search needs
-
 returns : tie.Need-returns
 unfolding readHex hexBuffer
 returns c =
@@ -34,9 +31,6 @@ fill-hex-requires c κs =
     let s = now (c .before .before .before .before .before .before .args .s) in
     (sym (c .before .before .before .is-hex .ensures) ∙ not-false (c .before .before .before .is-hex .result) (c .before .before .if1 .left), omega (arith, unhex-long s))
 
-same-length : tie.Need-same-length
-same-length c = search needs
-
 returns-3 : tie.Need-returns-3
 unfolding readHex hexBuffer
 returns-3 c =
@@ -46,5 +40,4 @@ returns-3 c =
     (rw (e, le-ltb _ _ k, unhex-long s), rw (e, le-ltb _ _ k) (c .before .before .fill-hex .ensures))
 
 pub read-hex-spec : {M : Type 1} → statement M
-read-hex-spec =
-    tie.close (tie.spec is-hex-requires returns returns-2 fill-hex-requires same-length returns-3)
+read-hex-spec = tie.close (tie.spec (λ c κs. search needs) returns returns-2 fill-hex-requires (λ c. search needs) returns-3)

@@ -4,23 +4,13 @@ use borrow.Author.Needs.{needs}
 use Rattle.time_distance.proofs.nearest.Statement.{statement}
 use Rattle.time_distance.proofs.nearest.Tie as tie
 
-abs-diff-requires : tie.Need-abs-diff-requires
-abs-diff-requires c κs = search needs
-
-distance-to-requires : tie.Need-distance-to-requires
-distance-to-requires c κs = search needs
-
 returns : tie.Need-returns
 unfolding nearestOf
 returns c = rw (← (c .before .before .before .abs-diff .ensures), ← (c .before .before .distance-to .ensures), le-leb _ _ (c .before .if1 .taken))
-
-gt-val-requires : tie.Need-gt-val-requires
-gt-val-requires c κs = search needs
 
 returns-2 : tie.Need-returns-2
 unfolding nearestOf
 returns-2 c = rw (← (c .before .before .before .abs-diff .ensures), ← (c .before .before .distance-to .ensures), lt-leb _ _ (c .before .if1 .left), ← (c .gt-val .ensures))
 
 pub nearest-spec : {M : Type 1} → statement M
-nearest-spec =
-    tie.close (tie.spec abs-diff-requires distance-to-requires returns gt-val-requires returns-2)
+nearest-spec = tie.close (tie.spec (λ c κs. search needs) (λ c κs. search needs) returns (λ c κs. search needs) returns-2)

@@ -13,23 +13,11 @@ use borrow.Author.Needs.{needs}
 use Rattle.time_distance.proofs.relative_decode.Statement.{statement}
 use Rattle.time_distance.proofs.relative_decode.Tie as tie
 
-relative-decode-requires : tie.Need-relative-decode-requires
-relative-decode-requires c κs = search needs
-
-enum-known-number : tie.Need-enum-known-number
-enum-known-number c = search needs
-
 returns : tie.Need-returns
 returns c =
     let a = c .before .before .before .args in
     let n = refused-number {A = ℕ} 0 (c .before .relative-decode .result) (c .match .keys2) in
     n .number ∙ sym (from-refused (a .from) (a .added) (a .tag) (drop (a .start) (now (a .message))) (n .why) (sym (c .before .relative-decode .ensures) ∙ n .number))
-
-enum-known-from : tie.Need-enum-known-from
-enum-known-from c = search needs
-
-enum-told : tie.Need-enum-told
-enum-told c = search needs
 
 returns-2 : tie.Need-returns-2
 returns-2 c =
@@ -37,17 +25,11 @@ returns-2 c =
     let e = sym (c .before .before .before .before .before .relative-decode .ensures) ∙ ap numberAnswer (c .before .before .before .number .given .1) in
     sym (from-fault (a .from) (a .added) (a .tag) (drop (a .start) (now (a .message))) _ _ e (rw (c .enum-told .given .1)))
 
-sub-if2 : tie.Need-sub-if2
-sub-if2 c = search needs
-
 returns-3 : tie.Need-returns-3
 returns-3 c =
     let a = c .before .before .before .before .before .before .before .before .before .before .args in
     let e = sym (c .before .before .before .before .before .before .before .before .relative-decode .ensures) ∙ ap numberAnswer (c .before .before .before .before .before .before .number .given .1) in
     sym (from-fault (a .from) (a .added) (a .tag) (drop (a .start) (now (a .message))) _ _ e (rw (c .before .before .before .from .given .1, c .before .if1 .taken) (lt-leb (c .before .before .before .from .given .0 .0 + c .before .before .before .before .before .before .number .given .0 .0) top (omega (arith, c .if2 .taken)))))
-
-add-t12 : tie.Need-add-t12
-add-t12 c = search needs
 
 returns-4 : tie.Need-returns-4
 returns-4 c =
@@ -75,15 +57,5 @@ pub relative-decode-spec : {M : Type 1} → statement M
 relative-decode-spec =
     tie.close
     (tie.spec
-    relative-decode-requires
-    enum-known-number
-    returns
-    enum-known-from
-    enum-told
-    returns-2
-    sub-if2
-    returns-3
-    add-t12
-    returns-4
-    returns-5
-    returns-6)
+    (λ c κs. search needs) (λ c. search needs) returns (λ c. search needs) (λ c. search needs) returns-2 (λ c. search needs) returns-3
+    (λ c. search needs) returns-4 returns-5 returns-6)

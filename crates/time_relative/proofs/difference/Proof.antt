@@ -4,15 +4,6 @@ use borrow.Author.Needs.{needs}
 use Rattle.time_relative.proofs.difference.Statement.{statement}
 use Rattle.time_relative.proofs.difference.Tie as tie
 
-above-requires : tie.Need-above-requires
-above-requires c κs = search needs
-
-value-requires : tie.Need-value-requires
-value-requires c κs = search needs
-
-above-requires-2 : tie.Need-above-requires-2
-above-requires-2 c κs = search needs
-
 returns : tie.Need-returns
 unfolding differenceOf
 returns c = rw (← (c .before .before .value .ensures), ← (c .before .before .before .above .ensures), ← (c .before .above2 .ensures), le-leb _ _ (c .if1 .taken))
@@ -22,5 +13,4 @@ unfolding differenceOf
 returns-2 c = rw (← (c .before .before .value .ensures), ← (c .before .before .before .above .ensures), ← (c .before .above2 .ensures), lt-leb _ _ (c .if1 .left))
 
 pub difference-spec : {M : Type 1} → statement M
-difference-spec =
-    tie.close (tie.spec above-requires value-requires above-requires-2 returns returns-2)
+difference-spec = tie.close (tie.spec (λ c κs. search needs) (λ c κs. search needs) (λ c κs. search needs) returns returns-2)

@@ -4,17 +4,11 @@ use borrow.Author.Needs.{needs}
 use Rattle.time_relative.proofs.is_included.Statement.{statement}
 use Rattle.time_relative.proofs.is_included.Tie as tie
 
-includes-requires : tie.Need-includes-requires
-includes-requires c κs = search needs
-
 returns : tie.Need-returns
 returns c = rw (sym (c .before .includes .ensures) ∙ not-true _ (c .if1 .taken))
 
 returns-2 : tie.Need-returns-2
 returns-2 c = rw ((sym (c .before .before .includes .ensures) ∙ not-false _ (c .before .if1 .left)), not-true (c .before .before .before .args .canonic) (c .if2 .taken))
-
-difference-requires : tie.Need-difference-requires
-difference-requires c κs = search needs
 
 returns-3 : tie.Need-returns-3
 returns-3 c = rw ((sym (c .before .before .before .before .includes .ensures) ∙ not-false _ (c .before .before .before .if1 .left)), not-false (c .before .before .before .before .before .args .canonic) (c .before .before .if2 .left), ← (c .before .difference .ensures), c .if3 .taken)
@@ -23,6 +17,4 @@ returns-4 : tie.Need-returns-4
 returns-4 c = rw ((sym (c .before .before .before .before .includes .ensures) ∙ not-false _ (c .before .before .before .if1 .left)), not-false (c .before .before .before .before .before .args .canonic) (c .before .before .if2 .left), ← (c .before .difference .ensures), c .if3 .left)
 
 pub is-included-spec : {M : Type 1} → statement M
-is-included-spec =
-    tie.close
-    (tie.spec includes-requires returns returns-2 difference-requires returns-3 returns-4)
+is-included-spec = tie.close (tie.spec (λ c κs. search needs) returns returns-2 (λ c κs. search needs) returns-3 returns-4)

@@ -6,14 +6,8 @@ use borrow.Author.Needs.{needs}
 use Rattle.time_relative.proofs.is_nearest.Statement.{statement}
 use Rattle.time_relative.proofs.is_nearest.Tie as tie
 
-bounds-requires : tie.Need-bounds-requires
-bounds-requires c κs = search needs
-
 returns : tie.Need-returns
 returns c = sym (outside _ _ _ _ _ (sym (c .before .bounds .ensures) ∙ not-true _ (c .if1 .taken)))
-
-difference-requires : tie.Need-difference-requires
-difference-requires c κs = search needs
 
 returns-2 : tie.Need-returns-2
 returns-2 c = sym (farther _ _ _ _ _ (sym (c .before .before .before .before .bounds .ensures) ∙ not-false _ (c .before .before .before .if1 .left)) (λ e. c .if2 .taken (ap (λ t. t .difference) (c .before .before .difference .ensures) ∙ e)))
@@ -31,6 +25,4 @@ unfolding isNearest
 returns-5 c = rw ((sym (c .before .before .before .before .before .before .bounds .ensures) ∙ not-false _ (c .before .before .before .before .before .if1 .left)), ← (c .before .before .before .before .difference .ensures), eq-eqb _ _ (c .before .before .if2 .left), not-false (c .before .before .before .before .before .before .before .args .canonic) (c .before .if3 .left), c .if4 .left)
 
 pub is-nearest-spec : {M : Type 1} → statement M
-is-nearest-spec =
-    tie.close
-    (tie.spec bounds-requires returns difference-requires returns-2 returns-3 returns-4 returns-5)
+is-nearest-spec = tie.close (tie.spec (λ c κs. search needs) returns (λ c κs. search needs) returns-2 returns-3 returns-4 returns-5)

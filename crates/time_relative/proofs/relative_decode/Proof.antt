@@ -12,21 +12,12 @@ use borrow.Author.Needs.{needs}
 use Rattle.time_relative.proofs.relative_decode.Statement.{statement}
 use Rattle.time_relative.proofs.relative_decode.Tie as tie
 
-relative-decode-requires : tie.Need-relative-decode-requires
-relative-decode-requires c κs = search needs
-
-enum-known-number : tie.Need-enum-known-number
-enum-known-number c = search needs
-
 returns : tie.Need-returns
 returns c =
     let a = c .before .before .before .args in
     let s = drop (a .start) (now (a .message)) in
     let n = refused-number {A = ℕ} 0 (c .before .relative-decode .result) (c .match .keys2) in
     n .number ∙ sym (time-refused (a .canonic) (a .range) (a .added) (a .tag) s (n .why) (sym (c .before .relative-decode .ensures) ∙ n .number))
-
-reach-requires : tie.Need-reach-requires
-reach-requires c κs = search needs
 
 returns-2 : tie.Need-returns-2
 returns-2 c =
@@ -37,9 +28,6 @@ returns-2 c =
 
 time-at-requires : tie.Need-time-at-requires
 time-at-requires c κs = omega (arith, c .before .reach .ensures, c .if1 .left)
-
-is-nearest-requires : tie.Need-is-nearest-requires
-is-nearest-requires c κs = search needs
 
 returns-3 : tie.Need-returns-3
 returns-3 c =
@@ -59,12 +47,5 @@ pub relative-decode-spec : {M : Type 1} → statement M
 relative-decode-spec =
     tie.close
     (tie.spec
-    relative-decode-requires
-    enum-known-number
-    returns
-    reach-requires
-    returns-2
-    time-at-requires
-    is-nearest-requires
-    returns-3
+    (λ c κs. search needs) (λ c. search needs) returns (λ c κs. search needs) returns-2 time-at-requires (λ c κs. search needs) returns-3
     returns-4)

@@ -11,9 +11,6 @@ returns : tie.Need-returns
 unfolding timeAt
 returns c = rw (c .before .if1 .taken)
 
-value-requires : tie.Need-value-requires
-value-requires c κs = search needs
-
 sub-result : tie.Need-sub-result
 sub-result c = rw (c .value .ensures) (rw (c .before .if1 .left) at (c .before .before .pre))
 
@@ -22,4 +19,4 @@ unfolding timeAt
 returns-2 c = rw (c .before .if1 .left, c .value .ensures)
 
 pub time-at-spec : {M : Type 1} → statement M
-time-at-spec = tie.close (tie.spec add-result returns value-requires sub-result returns-2)
+time-at-spec = tie.close (tie.spec add-result returns (λ c κs. search needs) sub-result returns-2)

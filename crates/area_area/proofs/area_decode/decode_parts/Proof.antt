@@ -72,12 +72,6 @@ inside c =
 decode-subspace-requires : tie.Need-decode-subspace-requires
 decode-subspace-requires c κs = c .before .before .before .pre .0
 
-enum-known-first-answer : tie.Need-enum-known-first-answer
-enum-known-first-answer c = search needs
-
-refuse-early-requires : tie.Need-refuse-early-requires
-refuse-early-requires c κs = search needs
-
 returns : tie.Need-returns
 returns c =
     let s = c .before .before .before .before .before .before in
@@ -90,18 +84,6 @@ sub-relative-decode c = omega (arith, subspace-inside c)
 
 part-relative-decode-start : tie.Need-part-relative-decode-start
 part-relative-decode-start c = omega (arith, subspace-inside c)
-
-part-relative-decode-end : tie.Need-part-relative-decode-end
-part-relative-decode-end c = search needs
-
-relative-decode-requires : tie.Need-relative-decode-requires
-relative-decode-requires c κs = search needs
-
-enum-known-second-answer : tie.Need-enum-known-second-answer
-enum-known-second-answer c = search needs
-
-refuse-early-requires-2 : tie.Need-refuse-early-requires-2
-refuse-early-requires-2 c κs = search needs
 
 returns-2 : tie.Need-returns-2
 returns-2 c =
@@ -117,18 +99,6 @@ sub-decode-path-extends-path c = omega (arith, times-inside c)
 
 part-decode-path-extends-path-start : tie.Need-part-decode-path-extends-path-start
 part-decode-path-extends-path-start c = omega (arith, times-inside c)
-
-part-decode-path-extends-path-end : tie.Need-part-decode-path-extends-path-end
-part-decode-path-extends-path-end c = search needs
-
-decode-path-extends-path-requires : tie.Need-decode-path-extends-path-requires
-decode-path-extends-path-requires c κs = search needs
-
-enum-known-third-answer : tie.Need-enum-known-third-answer
-enum-known-third-answer c = search needs
-
-refuse-requires : tie.Need-refuse-requires
-refuse-requires c κs = search needs
 
 returns-3 : tie.Need-returns-3
 unfolding refusal
@@ -153,26 +123,7 @@ pub decode-parts-spec : {M : Type 1} → statement M
 decode-parts-spec =
     tie.close
     (tie.spec
-    decode-subspace-requires
-    enum-known-first-answer
-    refuse-early-requires
-    returns
-    sub-relative-decode
-    part-relative-decode-start
-    part-relative-decode-end
-    relative-decode-requires
-    enum-known-second-answer
-    refuse-early-requires-2
-    returns-2
-    add-at
-    sub-decode-path-extends-path
-    part-decode-path-extends-path-start
-    part-decode-path-extends-path-end
-    decode-path-extends-path-requires
-    enum-known-third-answer
-    refuse-requires
-    returns-3
-    add-t23
-    add-t29
-    add-t30
-    returns-4)
+    decode-subspace-requires (λ c. search needs) (λ c κs. search needs) returns sub-relative-decode part-relative-decode-start
+    (λ c. search needs) (λ c κs. search needs) (λ c. search needs) (λ c κs. search needs) returns-2 add-at sub-decode-path-extends-path
+    part-decode-path-extends-path-start (λ c. search needs) (λ c κs. search needs) (λ c. search needs) (λ c κs. search needs) returns-3
+    add-t23 add-t29 add-t30 returns-4)

@@ -21,20 +21,11 @@ id-is c = sym (c .before .before .decode-id .ensures .answer) ∙ ap (λ (d : De
 returns : tie.Need-returns
 returns c = sym (subspace-kept _ _ _ _ (c .before .before .pre) (not-true _ (c .if1 .taken)))
 
-decode-id-requires : tie.Need-decode-id-requires
-decode-id-requires c κs = search needs
-
-enum-told : tie.Need-enum-told
-enum-told c = search needs
-
 returns-2 : tie.Need-returns-2
 returns-2 c =
     let a = c .before .before .before .before .args in
     let x = no-value (c .before .decode-id .result .answer) (c .match .keys2) in
     x .beside _ ∙ sym (subspace-refused (a .canonic) (a .reference) (a .written) (now (a .message)) (not-false _ (c .before .before .if1 .left)) (x .why) (sym (c .before .decode-id .ensures .answer) ∙ x .beside _))
-
-includes-area-subspace-requires : tie.Need-includes-area-subspace-requires
-includes-area-subspace-requires c κs = search needs
 
 returns-3 : tie.Need-returns-3
 returns-3 c =
@@ -53,13 +44,4 @@ returns-5 c =
 
 pub decode-subspace-spec : {M : Type 1} → statement M
 decode-subspace-spec =
-    tie.close
-    (tie.spec
-    returns
-    decode-id-requires
-    enum-told
-    returns-2
-    includes-area-subspace-requires
-    returns-3
-    returns-4
-    returns-5)
+    tie.close (tie.spec returns (λ c κs. search needs) (λ c. search needs) returns-2 (λ c κs. search needs) returns-3 returns-4 returns-5)

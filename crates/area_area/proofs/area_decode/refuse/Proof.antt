@@ -4,12 +4,9 @@ use borrow.Author.Needs.{needs}
 use Rattle.area_area.proofs.area_decode.refuse.Statement.{statement}
 use Rattle.area_area.proofs.area_decode.refuse.Tie as tie
 
-new-empty-requires : tie.Need-new-empty-requires
-new-empty-requires c κs = search needs
-
 returns : tie.Need-returns
 unfolding refusal areaFrom
 returns c = rw (c .new-empty .ensures)
 
 pub refuse-spec : {M : Type 1} → statement M
-refuse-spec = tie.close (tie.spec new-empty-requires returns)
+refuse-spec = tie.close (tie.spec (λ c κs. search needs) returns)

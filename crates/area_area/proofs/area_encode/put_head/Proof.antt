@@ -29,15 +29,6 @@ sub-relative-encode c = inside c
 part-relative-encode-start : tie.Need-part-relative-encode-start
 part-relative-encode-start c = inside c
 
-part-relative-encode-end : tie.Need-part-relative-encode-end
-part-relative-encode-end c = search needs
-
-relative-encode-requires : tie.Need-relative-encode-requires
-relative-encode-requires c κs = search needs
-
-same-length : tie.Need-same-length
-same-length c = search needs
-
 returns : tie.Need-returns
 returns c =
     let a = c .before .before .before .before .before .before .before .before .before .args in
@@ -53,10 +44,4 @@ pub put-head-spec : {M : Type 1} → statement M
 put-head-spec =
     tie.close
     (tie.spec
-    put-start-requires
-    sub-relative-encode
-    part-relative-encode-start
-    part-relative-encode-end
-    relative-encode-requires
-    same-length
-    returns)
+    put-start-requires sub-relative-encode part-relative-encode-start (λ c. search needs) (λ c κs. search needs) (λ c. search needs) returns)

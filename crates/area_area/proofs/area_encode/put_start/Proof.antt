@@ -15,12 +15,6 @@ use borrow.Author.Needs.{needs}
 use Rattle.area_area.proofs.area_encode.put_start.Statement.{statement}
 use Rattle.area_area.proofs.area_encode.put_start.Tie as tie
 
-id-written-requires : tie.Need-id-written-requires
-id-written-requires c κs = search needs
-
-header-byte-requires : tie.Need-header-byte-requires
-header-byte-requires c κs = search needs
-
 slice-write-buffer : tie.Need-slice-write-buffer
 slice-write-buffer c = omega (arith, c .before .before .before .pre)
 
@@ -29,9 +23,6 @@ sub-put-subspace c = rw length-set (omega (arith, c .before .before .before .pre
 
 part-put-subspace-start : tie.Need-part-put-subspace-start
 part-put-subspace-start c = rw length-set (omega (arith, c .before .before .before .pre))
-
-part-put-subspace-end : tie.Need-part-put-subspace-end
-part-put-subspace-end c = search needs
 
 put-subspace-requires : tie.Need-put-subspace-requires
 put-subspace-requires c κs =
@@ -63,13 +54,5 @@ pub put-start-spec : {M : Type 1} → statement M
 put-start-spec =
     tie.close
     (tie.spec
-    id-written-requires
-    header-byte-requires
-    slice-write-buffer
-    sub-put-subspace
-    part-put-subspace-start
-    part-put-subspace-end
-    put-subspace-requires
-    add-result
-    same-length
-    returns)
+    (λ c κs. search needs) (λ c κs. search needs) slice-write-buffer sub-put-subspace part-put-subspace-start (λ c. search needs)
+    put-subspace-requires add-result same-length returns)

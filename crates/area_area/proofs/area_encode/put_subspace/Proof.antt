@@ -12,18 +12,6 @@ use borrow.Author.Needs.{needs}
 use Rattle.area_area.proofs.area_encode.put_subspace.Statement.{statement}
 use Rattle.area_area.proofs.area_encode.put_subspace.Tie as tie
 
-id-written-requires : tie.Need-id-written-requires
-id-written-requires c κs = search needs
-
-slice-aggregate-put-bytes : tie.Need-slice-aggregate-put-bytes
-slice-aggregate-put-bytes c = search needs
-
-put-bytes-requires : tie.Need-put-bytes-requires
-put-bytes-requires c κs = search needs
-
-same-length : tie.Need-same-length
-same-length c = search needs
-
 returns : tie.Need-returns
 returns c =
     let a = c .before .before .before .before .before .before .before .before .before .args in
@@ -41,11 +29,4 @@ returns-2 c =
 
 pub put-subspace-spec : {M : Type 1} → statement M
 put-subspace-spec =
-    tie.close
-    (tie.spec
-    id-written-requires
-    slice-aggregate-put-bytes
-    put-bytes-requires
-    same-length
-    returns
-    returns-2)
+    tie.close (tie.spec (λ c κs. search needs) (λ c. search needs) (λ c κs. search needs) (λ c. search needs) returns returns-2)

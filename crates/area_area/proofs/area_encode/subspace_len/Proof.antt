@@ -7,9 +7,6 @@ use borrow.Author.Needs.{needs}
 use Rattle.area_area.proofs.area_encode.subspace_len.Statement.{statement}
 use Rattle.area_area.proofs.area_encode.subspace_len.Tie as tie
 
-id-written-requires : tie.Need-id-written-requires
-id-written-requires c κs = search needs
-
 returns : tie.Need-returns
 returns c =
     let a = c .before .before .args in
@@ -22,4 +19,4 @@ returns-2 c =
     (sym (ap length (no-bytes (a .subspace) (a .reference) (sym (c .before .id-written .ensures) ∙ c .if1 .left))), omega arith)
 
 pub subspace-len-spec : {M : Type 1} → statement M
-subspace-len-spec = tie.close (tie.spec id-written-requires returns returns-2)
+subspace-len-spec = tie.close (tie.spec (λ c κs. search needs) returns returns-2)

@@ -28,37 +28,10 @@ allows c = let s = c .before .before .before .before .before .before .before .be
 answer-of : (c : tie.After-known-told) → let s = c .before .before .before .before .before .before .before .before .before .before .before .before .before .before .before .before .before in writeAnswer (suffixFrom (s .args .of-count)) (area s .path) (length (drop (c .before .before .before .before .before .before .before .before .head-len .result) (now (s .args .buffer)))) ≡ wrote (c .before .suffix .given .0 .0)
 answer-of c = sym (rw (to-end (c .before .before .before .before .before .before .before .before .head-len .result) (now (c .before .before .before .before .before .before .before .before .before .before .before .before .before .before .before .before .before .args .buffer))) at (c .before .before .before .before .before .encode-suffix .ensures .0)) ∙ ap outcomeOf (c .before .suffix .given .1)
 
-contains-requires : tie.Need-contains-requires
-contains-requires c κs = search needs
-
-enum-told : tie.Need-enum-told
-enum-told c = search needs
-
-head-len-requires : tie.Need-head-len-requires
-head-len-requires c κs = search needs
-
 returns : tie.Need-returns
 returns c =
     let s = c .before .before .before .before .before .before .before .before .before .before in
     area-full (reference s) (area s) (allows (c .before .before)) _ (c .before .head-len .ensures .0) (now (s .args .buffer)) (omega (arith, c .if1 .taken))
-
-sub-encode-suffix : tie.Need-sub-encode-suffix
-sub-encode-suffix c = search needs
-
-part-encode-suffix-start : tie.Need-part-encode-suffix-start
-part-encode-suffix-start c = search needs
-
-part-encode-suffix-end : tie.Need-part-encode-suffix-end
-part-encode-suffix-end c = search needs
-
-encode-suffix-requires : tie.Need-encode-suffix-requires
-encode-suffix-requires c κs = search needs
-
-enum-known-suffix : tie.Need-enum-known-suffix
-enum-known-suffix c = search needs
-
-same-length : tie.Need-same-length
-same-length c = search needs
 
 returns-2 : tie.Need-returns-2
 returns-2 c =
@@ -72,23 +45,11 @@ returns-2 c =
     let done = area-refused (reference s) (area s) (allows (c .before .before .before .before .before .before .before)) (n .result) (n .ensures .0) l (c .before .before .before .before .before .if1 .left) (none .why) (w .last .0) (sym answer ∙ none .is) bytes in
     (none .is ∙ done .0, put-end (n .result) l (w .last .0) ∙ done .1)
 
-put-head-requires : tie.Need-put-head-requires
-put-head-requires c κs = search needs
-
 add-t17 : tie.Need-add-t17
 add-t17 c =
     let s = c .before .before .before .before .before .before .before .before .before .before .before .before .before .before .before .before .before .before .before .before .before in
     let f = suffixFrom (s .args .of-count) in
     omega (arith, put-wrote (f .check (area s .path)) (f .encode (area s .path)) _ _ (answer-of (c .before .before .before .before)) .long, suffix-short (reference s) (area s) (allows (c .before .before .before .before .before .before .before .before .before .before .before .before .before)), c .before .before .before .before .before .before .before .before .before .before .before .before .head-len .ensures .1)
-
-enum-told-2 : tie.Need-enum-told-2
-enum-told-2 c = search needs
-
-enum-told-3 : tie.Need-enum-told-3
-enum-told-3 c = search needs
-
-same-length-2 : tie.Need-same-length-2
-same-length-2 c = search needs
 
 returns-3 : tie.Need-returns-3
 returns-3 c =
@@ -110,22 +71,6 @@ pub relative-encode-spec : {M : Type 1} → statement M
 relative-encode-spec =
     tie.close
     (tie.spec
-    contains-requires
-    enum-told
-    head-len-requires
-    returns
-    sub-encode-suffix
-    part-encode-suffix-start
-    part-encode-suffix-end
-    encode-suffix-requires
-    enum-known-suffix
-    same-length
-    returns-2
-    put-head-requires
-    add-t17
-    enum-told-2
-    enum-told-3
-    same-length-2
-    returns-3
-    returns-4
-    returns-5)
+    (λ c κs. search needs) (λ c. search needs) (λ c κs. search needs) returns (λ c. search needs) (λ c. search needs) (λ c. search needs)
+    (λ c κs. search needs) (λ c. search needs) (λ c. search needs) returns-2 (λ c κs. search needs) add-t17 (λ c. search needs)
+    (λ c. search needs) (λ c. search needs) returns-3 returns-4 returns-5)

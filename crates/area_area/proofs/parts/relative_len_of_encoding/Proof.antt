@@ -27,35 +27,14 @@ allows c = let s = c .before .before .before .before .before .before .before in 
 suffix-is : (c : tie.After-known-told) → let s = c .before .before .before .before .before .before .before .before .before .before .before in c .before .suffix .given .0 .0 ≡ length (suffixFrom (s .args .of-count) .encode (area s .path))
 suffix-is c = let s = c .before .before .before .before .before .before .before .before .before .before .before in length-wrote (suffixFrom (s .args .of-count)) (area s .path) _ (sym (c .before .before .before .suffix-len .ensures) ∙ ap outcomeOf (c .before .suffix .given .1)) .1
 
-contains-requires : tie.Need-contains-requires
-contains-requires c κs = search needs
-
-enum-told : tie.Need-enum-told
-enum-told c = search needs
-
-suffix-len-requires : tie.Need-suffix-len-requires
-suffix-len-requires c κs = search needs
-
-enum-known-suffix : tie.Need-enum-known-suffix
-enum-known-suffix c = search needs
-
 returns : tie.Need-returns
 returns c =
     let s = c .before .before .before .before .before .before .before .before .before in
     let none = no-length (c .before .suffix-len .result) (c .match2 .keys2) in
     absurd (length-not-denied (suffixFrom (s .args .of-count)) (area s .path) (none .why) (suffix-allowed (reference s) (area s) (allows (c .before .before))) (sym (c .before .suffix-len .ensures) ∙ none .is))
 
-head-len-requires : tie.Need-head-len-requires
-head-len-requires c κs = search needs
-
 add-t16 : tie.Need-add-t16
 add-t16 c = let s = c .before .before .before .before .before .before .before .before .before .before .before .before in omega (arith, suffix-is (c .before), suffix-short (reference s) (area s) (allows (c .before .before .before .before .before)), c .head-len .ensures .1)
-
-enum-told-2 : tie.Need-enum-told-2
-enum-told-2 c = search needs
-
-enum-told-3 : tie.Need-enum-told-3
-enum-told-3 c = search needs
 
 returns-2 : tie.Need-returns-2
 returns-2 c =
@@ -73,15 +52,5 @@ pub relative-len-of-encoding-spec : {M : Type 1} → statement M
 relative-len-of-encoding-spec =
     tie.close
     (tie.spec
-    contains-requires
-    enum-told
-    suffix-len-requires
-    enum-known-suffix
-    returns
-    head-len-requires
-    add-t16
-    enum-told-2
-    enum-told-3
-    returns-2
-    returns-3
-    returns-4)
+    (λ c κs. search needs) (λ c. search needs) (λ c κs. search needs) (λ c. search needs) returns (λ c κs. search needs) add-t16
+    (λ c. search needs) (λ c. search needs) returns-2 returns-3 returns-4)

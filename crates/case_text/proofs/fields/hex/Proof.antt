@@ -6,27 +6,12 @@ use borrow.Author.Needs.{needs}
 use Rattle.case_text.proofs.fields.hex.Statement.{statement}
 use Rattle.case_text.proofs.fields.hex.Tie as tie
 
-part-requires : tie.Need-part-requires
-part-requires c κs = search needs
-
-read-hex-requires : tie.Need-read-hex-requires
-read-hex-requires c κs = search needs
-
-enum-known-read : tie.Need-enum-known-read
-enum-known-read c = search needs
-
-same-length : tie.Need-same-length
-same-length c = search needs
-
 returns : tie.Need-returns
 returns c =
     let a = c .before .before .before .before .before .before .before .before .args in
     let read = c .before .before .before .read-hex in
     let e = rw (c .before .before .before .before .before .part .ensures) at (read .ensures .0) in
     hex-left (a .i) (now (a .line)) (now (a .buffer)) (read .result) e (c .match .keys2) _
-
-same-length-2 : tie.Need-same-length-2
-same-length-2 c = search needs
 
 returns-2 : tie.Need-returns-2
 returns-2 c =
@@ -40,10 +25,4 @@ pub hex-spec : {M : Type 1} → statement M
 hex-spec =
     tie.close
     (tie.spec
-    part-requires
-    read-hex-requires
-    enum-known-read
-    same-length
-    returns
-    same-length-2
-    returns-2)
+    (λ c κs. search needs) (λ c κs. search needs) (λ c. search needs) (λ c. search needs) returns (λ c. search needs) returns-2)

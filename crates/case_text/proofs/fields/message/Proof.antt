@@ -7,9 +7,6 @@ use borrow.Author.Needs.{needs}
 use Rattle.case_text.proofs.fields.message.Statement.{statement}
 use Rattle.case_text.proofs.fields.message.Tie as tie
 
-part-count-requires : tie.Need-part-count-requires
-part-count-requires c κs = search needs
-
 returns : tie.Need-returns
 returns c =
     let a = c .before .before .before .before .args in
@@ -20,47 +17,17 @@ returns-2 c =
     let a = c .before .before .before .before .before .args in
     message-fields (length (now (a .buffer))) (a .i) (now (a .line)) (c .before .before .part-count .ensures) (λ q. omega (arith, q)) _
 
-part-requires : tie.Need-part-requires
-part-requires c κs = search needs
-
-read-decimal-requires : tie.Need-read-decimal-requires
-read-decimal-requires c κs = search needs
-
-enum-known-start : tie.Need-enum-known-start
-enum-known-start c = search needs
-
-enum-told : tie.Need-enum-told
-enum-told c = search needs
-
 returns-3 : tie.Need-returns-3
 returns-3 c =
     let a = c .before .before .before .before .before .before .before .before .before .args in
     let start = decimal-refused (a .i) (now (a .line)) (c .before .before .before .part .ensures) (c .before .before .read-decimal .ensures) (c .enum-told .given .1) in
     message-start (length (now (a .buffer))) (a .i) (now (a .line)) (c .before .before .before .before .before .before .part-count .ensures) (omega arith) start _
 
-add-hex : tie.Need-add-hex
-add-hex c = search needs
-
-hex-requires : tie.Need-hex-requires
-hex-requires c κs = search needs
-
-enum-known-bytes : tie.Need-enum-known-bytes
-enum-known-bytes c = search needs
-
-enum-told-2 : tie.Need-enum-told-2
-enum-told-2 c = search needs
-
-same-length : tie.Need-same-length
-same-length c = search needs
-
 returns-4 : tie.Need-returns-4
 returns-4 c =
     let a = c .before .before .before .before .before .before .before .before .before .before .before .before .before .before .before .before .args in
     let start = decimal-value (a .i) (now (a .line)) (c .before .before .before .before .before .before .before .before .before .before .part .ensures) (c .before .before .before .before .before .before .before .before .before .read-decimal .ensures) (c .before .before .before .before .before .before .before .start .given .1) in
     message-none (length (now (a .buffer))) (a .i) (now (a .line)) (c .before .before .before .before .before .before .before .before .before .before .before .before .before .part-count .ensures) (omega arith) _ start (c .before .before .before .before .hex .ensures) (c .enum-told2 .given .1)
-
-same-length-2 : tie.Need-same-length-2
-same-length-2 c = search needs
 
 returns-5 : tie.Need-returns-5
 returns-5 c =
@@ -72,19 +39,6 @@ pub message-spec : {M : Type 1} → statement M
 message-spec =
     tie.close
     (tie.spec
-    part-count-requires
-    returns
-    returns-2
-    part-requires
-    read-decimal-requires
-    enum-known-start
-    enum-told
-    returns-3
-    add-hex
-    hex-requires
-    enum-known-bytes
-    enum-told-2
-    same-length
-    returns-4
-    same-length-2
+    (λ c κs. search needs) returns returns-2 (λ c κs. search needs) (λ c κs. search needs) (λ c. search needs) (λ c. search needs) returns-3
+    (λ c. search needs) (λ c κs. search needs) (λ c. search needs) (λ c. search needs) (λ c. search needs) returns-4 (λ c. search needs)
     returns-5)

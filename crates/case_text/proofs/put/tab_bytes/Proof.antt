@@ -9,18 +9,6 @@ use borrow.Author.Needs.{needs}
 use Rattle.case_text.proofs.put.tab_bytes.Statement.{statement}
 use Rattle.case_text.proofs.put.tab_bytes.Tie as tie
 
-slice-aggregate-put-bytes : tie.Need-slice-aggregate-put-bytes
-slice-aggregate-put-bytes c = search needs
-
-put-bytes-requires : tie.Need-put-bytes-requires
-put-bytes-requires c κs = search needs
-
-put-bytes-requires-2 : tie.Need-put-bytes-requires-2
-put-bytes-requires-2 c κs = search needs
-
-same-length : tie.Need-same-length
-same-length c = search needs
-
 returns : tie.Need-returns
 returns c =
     let s = c .before .before .before .before .before .before .before .before .before .before .before .before in
@@ -29,12 +17,6 @@ returns c =
 
 slice-aggregate-put-bytes-2 : tie.Need-slice-aggregate-put-bytes-2
 slice-aggregate-put-bytes-2 c = sym (length-take-le _ _ (omega arith))
-
-put-bytes-requires-3 : tie.Need-put-bytes-requires-3
-put-bytes-requires-3 c κs = search needs
-
-same-length-2 : tie.Need-same-length-2
-same-length-2 c = search needs
 
 returns-2 : tie.Need-returns-2
 returns-2 c =
@@ -46,12 +28,5 @@ pub tab-bytes-spec : {M : Type 1} → statement M
 tab-bytes-spec =
     tie.close
     (tie.spec
-    slice-aggregate-put-bytes
-    put-bytes-requires
-    put-bytes-requires-2
-    same-length
-    returns
-    slice-aggregate-put-bytes-2
-    put-bytes-requires-3
-    same-length-2
-    returns-2)
+    (λ c. search needs) (λ c κs. search needs) (λ c κs. search needs) (λ c. search needs) returns slice-aggregate-put-bytes-2
+    (λ c κs. search needs) (λ c. search needs) returns-2)

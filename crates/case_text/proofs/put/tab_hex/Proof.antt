@@ -11,18 +11,6 @@ use borrow.Author.Needs.{needs}
 use Rattle.case_text.proofs.put.tab_hex.Statement.{statement}
 use Rattle.case_text.proofs.put.tab_hex.Tie as tie
 
-slice-aggregate-put-bytes : tie.Need-slice-aggregate-put-bytes
-slice-aggregate-put-bytes c = search needs
-
-put-bytes-requires : tie.Need-put-bytes-requires
-put-bytes-requires c κs = search needs
-
-put-hex-requires : tie.Need-put-hex-requires
-put-hex-requires c κs = search needs
-
-same-length : tie.Need-same-length
-same-length c = search needs
-
 returns : tie.Need-returns
 returns c =
     let s = c .before .before .before .before .before .before .before .before .before .before .before .before in
@@ -32,12 +20,6 @@ returns c =
 
 slice-aggregate-put-hex : tie.Need-slice-aggregate-put-hex
 slice-aggregate-put-hex c = sym (length-take-le _ _ (omega arith))
-
-put-hex-requires-2 : tie.Need-put-hex-requires-2
-put-hex-requires-2 c κs = search needs
-
-same-length-2 : tie.Need-same-length-2
-same-length-2 c = search needs
 
 returns-2 : tie.Need-returns-2
 returns-2 c =
@@ -51,12 +33,5 @@ pub tab-hex-spec : {M : Type 1} → statement M
 tab-hex-spec =
     tie.close
     (tie.spec
-    slice-aggregate-put-bytes
-    put-bytes-requires
-    put-hex-requires
-    same-length
-    returns
-    slice-aggregate-put-hex
-    put-hex-requires-2
-    same-length-2
-    returns-2)
+    (λ c. search needs) (λ c κs. search needs) (λ c κs. search needs) (λ c. search needs) returns slice-aggregate-put-hex
+    (λ c κs. search needs) (λ c. search needs) returns-2)

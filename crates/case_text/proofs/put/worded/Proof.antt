@@ -6,15 +6,6 @@ use Rattle.case_text.proofs.Puts.{puts-two}
 use Rattle.case_text.proofs.put.worded.Statement.{statement}
 use Rattle.case_text.proofs.put.worded.Tie as tie
 
-put-bytes-requires : tie.Need-put-bytes-requires
-put-bytes-requires c κs = search needs
-
-put-decimal-requires : tie.Need-put-decimal-requires
-put-decimal-requires c κs = search needs
-
-same-length : tie.Need-same-length
-same-length c = search needs
-
 returns : tie.Need-returns
 returns c =
     let s = c .before .before .before .before .before .before .before .before .before .before in
@@ -22,4 +13,4 @@ returns c =
     puts-two (now (s .args .word)) (decimalText n) 20 (decimal-few n) (s .pre) (c .before .before .before .before .before .before .put-bytes .ensures) (c .before .before .put-decimal .ensures)
 
 pub worded-spec : {M : Type 1} → statement M
-worded-spec = tie.close (tie.spec put-bytes-requires put-decimal-requires same-length returns)
+worded-spec = tie.close (tie.spec (λ c κs. search needs) (λ c κs. search needs) (λ c. search needs) returns)

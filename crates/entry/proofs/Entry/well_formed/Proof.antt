@@ -3,12 +3,9 @@ use borrow.Author.Needs.{needs}
 use Rattle.entry.proofs.Entry.well_formed.Statement.{statement}
 use Rattle.entry.proofs.Entry.well_formed.Tie as tie
 
-well-formed-requires : tie.Need-well-formed-requires
-well-formed-requires c κs = search needs
-
 returns : tie.Need-returns
 unfolding wellFormedEntry
 returns c = c .well-formed .ensures
 
 pub well-formed-spec : {M : Type 1} → statement M
-well-formed-spec = tie.close (tie.spec well-formed-requires returns)
+well-formed-spec = tie.close (tie.spec (λ c κs. search needs) returns)

@@ -30,42 +30,18 @@ told : (c : tie.After-enum-told) → let s = c .before .before .before .before .
     ≡ verdict (sameBytes (s .args .t5) (e .«namespace_id») && (includesSubspace (subspaceOf (s .args .of-subspace)) (some (e .«subspace_id»)) && includesTime (s .args .of-times) (e .timestamp)))
 told c = let s = c .before .before .before .before .before .before .before .before .before in prefix-told (s .args .t5) (area s) (entry s) (well (c .before .before .before)) (sym (c .before .before .is-prefix-of .ensures) ∙ c .enum-told .given .1)
 
-well-formed-requires : tie.Need-well-formed-requires
-well-formed-requires c κs = search needs
-
 returns : tie.Need-returns
 returns c = let s = c .before .before .before .before .before .before in sym (area-malformed (s .args .t5) (area s) (entry s) (sym (c .before .well-formed .ensures) ∙ not-true _ (c .if1 .taken)))
-
-is-prefix-of-requires : tie.Need-is-prefix-of-requires
-is-prefix-of-requires c κs = search needs
-
-enum-told : tie.Need-enum-told
-enum-told c = search needs
 
 returns-2 : tie.Need-returns-2
 returns-2 c = let s = c .before .before .before .before .before .before .before .before in not-prefix (s .args .t5) (area s) (entry s) (well (c .before .before)) (c .before .is-prefix-of .result) (c .before .is-prefix-of .ensures) (c .match .keys2)
 
-slice-aggregate-same-bytes : tie.Need-slice-aggregate-same-bytes
-slice-aggregate-same-bytes c = search needs
-
-slice-aggregate-same-bytes-2 : tie.Need-slice-aggregate-same-bytes-2
-slice-aggregate-same-bytes-2 c = search needs
-
-same-bytes-requires : tie.Need-same-bytes-requires
-same-bytes-requires c κs = search needs
-
 returns-3 : tie.Need-returns-3
 returns-3 c = sym (told (c .before .before .before .before .before) ∙ rw (sym (c .before .same-bytes .ensures) ∙ not-true _ (c .if2 .taken)))
-
-includes-area-subspace-requires : tie.Need-includes-area-subspace-requires
-includes-area-subspace-requires c κs = search needs
 
 returns-4 : tie.Need-returns-4
 unfolding subspaceIncludes
 returns-4 c = sym (told (c .before .before .before .before .before .before .before .before) ∙ rw ((sym (c .before .before .before .before .same-bytes .ensures) ∙ not-false _ (c .before .before .before .if2 .left)), (sym (c .before .includes-area-subspace .ensures) ∙ not-true _ (c .if3 .taken))))
-
-includes-requires : tie.Need-includes-requires
-includes-requires c κs = search needs
 
 returns-5 : tie.Need-returns-5
 unfolding subspaceIncludes
@@ -79,17 +55,5 @@ pub lies-inside-spec : {M : Type 1} → statement M
 lies-inside-spec =
     tie.close
     (tie.spec
-    well-formed-requires
-    returns
-    is-prefix-of-requires
-    enum-told
-    returns-2
-    slice-aggregate-same-bytes
-    slice-aggregate-same-bytes-2
-    same-bytes-requires
-    returns-3
-    includes-area-subspace-requires
-    returns-4
-    includes-requires
-    returns-5
-    returns-6)
+    (λ c κs. search needs) returns (λ c κs. search needs) (λ c. search needs) returns-2 (λ c. search needs) (λ c. search needs)
+    (λ c κs. search needs) returns-3 (λ c κs. search needs) returns-4 (λ c κs. search needs) returns-5 returns-6)

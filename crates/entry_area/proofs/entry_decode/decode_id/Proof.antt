@@ -19,13 +19,10 @@ returns-2 c =
     let a = c .before .before .before .before .before .args in
     sym (id-kept (a .subspace) (a .written) (now (a .message)) (same (c .before)) (not-true _ (c .if2 .taken)))
 
-decode-id-requires : tie.Need-decode-id-requires
-decode-id-requires c κs = search needs
-
 returns-3 : tie.Need-returns-3
 returns-3 c =
     let a = c .before .before .before .before .before .before .args in
     c .decode-id .ensures .answer ∙ sym (id-there (a .subspace) (a .written) (now (a .message)) (same (c .before .before)) (not-false _ (c .before .if2 .left)))
 
 pub decode-id-spec : {M : Type 1} → statement M
-decode-id-spec = tie.close (tie.spec returns returns-2 decode-id-requires returns-3)
+decode-id-spec = tie.close (tie.spec returns returns-2 (λ c κs. search needs) returns-3)

@@ -19,15 +19,6 @@ id-is : (c : tie.After-id) → let a = c .before .before .before .before .before
     readId (subspaceOf (a .of-subspace)) (a .header .«id_written») (now (a .message)) ≡ accepted (c .before .before .before .before .decode-id .result .id) (c .before .before .answer .given .0 .0)
 id-is c = sym (c .before .before .before .before .decode-id .ensures) ∙ ap (λ (d : Decoded). answerOf d (c .before .before .before .before .decode-id .result .id)) (c .before .before .answer .given .1)
 
-decode-id-requires : tie.Need-decode-id-requires
-decode-id-requires c κs = search needs
-
-enum-known-answer : tie.Need-enum-known-answer
-enum-known-answer c = search needs
-
-refuse-early-requires : tie.Need-refuse-early-requires
-refuse-early-requires c κs = search needs
-
 returns : tie.Need-returns
 returns c =
     let s = c .before .before .before .before .before .before in
@@ -46,11 +37,4 @@ returns-2 c =
 
 pub decode-parts-spec : {M : Type 1} → statement M
 decode-parts-spec =
-    tie.close
-    (tie.spec
-    decode-id-requires
-    enum-known-answer
-    refuse-early-requires
-    returns
-    decode-rest-requires
-    returns-2)
+    tie.close (tie.spec (λ c κs. search needs) (λ c. search needs) (λ c κs. search needs) returns decode-rest-requires returns-2)

@@ -107,33 +107,12 @@ sub-relative-decode c = omega (arith, c .before .before .before .pre .0)
 part-relative-decode-start : tie.Need-part-relative-decode-start
 part-relative-decode-start c = omega (arith, c .before .before .before .pre .0)
 
-part-relative-decode-end : tie.Need-part-relative-decode-end
-part-relative-decode-end c = search needs
-
-relative-decode-requires : tie.Need-relative-decode-requires
-relative-decode-requires c κs = search needs
-
-enum-known-answer : tie.Need-enum-known-answer
-enum-known-answer c = search needs
-
-refuse-requires : tie.Need-refuse-requires
-refuse-requires c κs = search needs
-
 returns : tie.Need-returns
 unfolding refusal
 returns c =
     let s = c .before .before .before .before .before .before .before in
     let x = no-value (c .before .before .relative-decode .result .answer) (c .before .match .keys2) in
     rw (c .refuse .ensures) (gives-refused (x .why) (x .beside _) (rw (rest-refused (s .args .canonic) (s .args .namespace) (s .args .id) (reference s) (s .args .times) (s .args .header) (drop (s .args .start) (now (s .args .message))) (x .why) (sym (path-told (c .before .before)) ∙ x .beside _))))
-
-is-prefix-requires : tie.Need-is-prefix-requires
-is-prefix-requires c κs = search needs
-
-enum-told : tie.Need-enum-told
-enum-told c = search needs
-
-refuse-requires-2 : tie.Need-refuse-requires-2
-refuse-requires-2 c κs = search needs
 
 returns-2 : tie.Need-returns-2
 unfolding refusal
@@ -149,18 +128,6 @@ sub-relative-decode-2 c = path-in (c .before .before .before .before .before .be
 
 part-relative-decode-start-2 : tie.Need-part-relative-decode-start-2
 part-relative-decode-start-2 c = omega (arith, path-in (c .before .before .before .before .before .before .before .before))
-
-part-relative-decode-end-2 : tie.Need-part-relative-decode-end-2
-part-relative-decode-end-2 c = search needs
-
-relative-decode-requires-2 : tie.Need-relative-decode-requires-2
-relative-decode-requires-2 c κs = search needs
-
-enum-known-last-answer : tie.Need-enum-known-last-answer
-enum-known-last-answer c = search needs
-
-refuse-requires-3 : tie.Need-refuse-requires-3
-refuse-requires-3 c κs = search needs
 
 returns-3 : tie.Need-returns-3
 unfolding refusal
@@ -187,26 +154,7 @@ pub decode-rest-spec : {M : Type 1} → statement M
 decode-rest-spec =
     tie.close
     (tie.spec
-    sub-relative-decode
-    part-relative-decode-start
-    part-relative-decode-end
-    relative-decode-requires
-    enum-known-answer
-    refuse-requires
-    returns
-    is-prefix-requires
-    enum-told
-    refuse-requires-2
-    returns-2
-    add-at
-    sub-relative-decode-2
-    part-relative-decode-start-2
-    part-relative-decode-end-2
-    relative-decode-requires-2
-    enum-known-last-answer
-    refuse-requires-3
-    returns-3
-    add-t24
-    add-t35
-    add-t36
-    returns-4)
+    sub-relative-decode part-relative-decode-start (λ c. search needs) (λ c κs. search needs) (λ c. search needs) (λ c κs. search needs)
+    returns (λ c κs. search needs) (λ c. search needs) (λ c κs. search needs) returns-2 add-at sub-relative-decode-2
+    part-relative-decode-start-2 (λ c. search needs) (λ c κs. search needs) (λ c. search needs) (λ c κs. search needs) returns-3 add-t24
+    add-t35 add-t36 returns-4)

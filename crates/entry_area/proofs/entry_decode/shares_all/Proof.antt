@@ -7,12 +7,6 @@ use borrow.Author.Needs.{needs}
 use Rattle.entry_area.proofs.entry_decode.shares_all.Statement.{statement}
 use Rattle.entry_area.proofs.entry_decode.shares_all.Tie as tie
 
-decode-requires : tie.Need-decode-requires
-decode-requires c κs = search needs
-
-enum-known-number : tie.Need-enum-known-number
-enum-known-number c = search needs
-
 returns : tie.Need-returns
 unfolding sharesAll
 returns c =
@@ -24,4 +18,4 @@ unfolding sharesAll
 returns-2 c = rw (sym (c .before .before .before .decode .ensures) ∙ ap numberAnswer (c .before .number .given .1))
 
 pub shares-all-spec : {M : Type 1} → statement M
-shares-all-spec = tie.close (tie.spec decode-requires enum-known-number returns returns-2)
+shares-all-spec = tie.close (tie.spec (λ c κs. search needs) (λ c. search needs) returns returns-2)

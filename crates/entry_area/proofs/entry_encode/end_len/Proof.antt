@@ -5,21 +5,6 @@ use borrow.Author.Needs.{needs, length-unmapped}
 use Rattle.entry_area.proofs.entry_encode.end_len.Statement.{statement}
 use Rattle.entry_area.proofs.entry_encode.end_len.Tie as tie
 
-difference-requires : tie.Need-difference-requires
-difference-requires c κs = search needs
-
-relative-len-of-encoding-requires : tie.Need-relative-len-of-encoding-requires
-relative-len-of-encoding-requires c κs = search needs
-
-relative-len-of-encoding-requires-2 : tie.Need-relative-len-of-encoding-requires-2
-relative-len-of-encoding-requires-2 c κs = search needs
-
-add-result : tie.Need-add-result
-add-result c = search needs
-
-add-result-2 : tie.Need-add-result-2
-add-result-2 c = search needs
-
 returns : tie.Need-returns
 returns c =
     let a = c .before .before .before .args in
@@ -32,9 +17,4 @@ pub end-len-spec : {M : Type 1} → statement M
 end-len-spec =
     tie.close
     (tie.spec
-    difference-requires
-    relative-len-of-encoding-requires
-    relative-len-of-encoding-requires-2
-    add-result
-    add-result-2
-    returns)
+    (λ c κs. search needs) (λ c κs. search needs) (λ c κs. search needs) (λ c. search needs) (λ c. search needs) returns)

@@ -21,32 +21,17 @@ parts c =
     let a = c .before .before .args in
     omega (arith, c .before .before .pre, ap length (bytes c), length-append (numberBytes 2 (c .difference .result .difference)) (payloadOf (a .end)))
 
-difference-requires : tie.Need-difference-requires
-difference-requires c κs = search needs
-
-relative-len-of-encoding-requires : tie.Need-relative-len-of-encoding-requires
-relative-len-of-encoding-requires c κs = search needs
-
-relative-encode-requires : tie.Need-relative-encode-requires
-relative-encode-requires c κs = search needs
-
 sub-put-payload : tie.Need-sub-put-payload
 sub-put-payload c = omega (arith, parts (c .before .before .before .before .before), c .before .before .before .before .relative-len-of-encoding .ensures .0, c .before .before .relative-encode .kept .0)
 
 part-put-payload-start : tie.Need-part-put-payload-start
 part-put-payload-start c = omega (arith, parts (c .before .before .before .before .before), c .before .before .before .before .relative-len-of-encoding .ensures .0, c .before .before .relative-encode .kept .0)
 
-part-put-payload-end : tie.Need-part-put-payload-end
-part-put-payload-end c = search needs
-
 put-payload-requires : tie.Need-put-payload-requires
 put-payload-requires c κs =
     let n = c .before .before .before .before .before .relative-len-of-encoding in
     let p = c .before .before .before .relative-encode in
     rw (to-end (n .result) (p .last .0), length-drop) (omega (arith, parts (c .before .before .before .before .before .before), n .ensures .0, p .kept .0))
-
-same-length : tie.Need-same-length
-same-length c = search needs
 
 returns : tie.Need-returns
 returns c =
@@ -65,12 +50,5 @@ pub put-end-spec : {M : Type 1} → statement M
 put-end-spec =
     tie.close
     (tie.spec
-    difference-requires
-    relative-len-of-encoding-requires
-    relative-encode-requires
-    sub-put-payload
-    part-put-payload-start
-    part-put-payload-end
-    put-payload-requires
-    same-length
-    returns)
+    (λ c κs. search needs) (λ c κs. search needs) (λ c κs. search needs) sub-put-payload part-put-payload-start (λ c. search needs)
+    put-payload-requires (λ c. search needs) returns)

@@ -29,15 +29,6 @@ sub-encode c = inside c
 part-encode-start : tie.Need-part-encode-start
 part-encode-start c = inside c
 
-part-encode-end : tie.Need-part-encode-end
-part-encode-end c = search needs
-
-encode-requires : tie.Need-encode-requires
-encode-requires c κs = search needs
-
-same-length : tie.Need-same-length
-same-length c = search needs
-
 returns : tie.Need-returns
 returns c =
     let a = c .before .before .before .before .before .before .before .before .before .args in
@@ -53,10 +44,4 @@ pub put-head-spec : {M : Type 1} → statement M
 put-head-spec =
     tie.close
     (tie.spec
-    put-start-requires
-    sub-encode
-    part-encode-start
-    part-encode-end
-    encode-requires
-    same-length
-    returns)
+    put-start-requires sub-encode part-encode-start (λ c. search needs) (λ c κs. search needs) (λ c. search needs) returns)

@@ -16,29 +16,11 @@ inside c =
     let a = c .before .before .before .before .before .before .before .args in
     omega (arith, c .before .before .before .before .before .before .before .pre, length-append (numberBytes 2 (a .end .«payload_length»)) (a .end .«payload_digest»), c .before .before .before .before .before .relative-len-of-encoding .ensures .0, c .before .before .before .relative-encode .kept .0)
 
-relative-len-of-encoding-requires : tie.Need-relative-len-of-encoding-requires
-relative-len-of-encoding-requires c κs = search needs
-
-relative-encode-requires : tie.Need-relative-encode-requires
-relative-encode-requires c κs = search needs
-
 sub-put-bytes : tie.Need-sub-put-bytes
 sub-put-bytes c = inside c
 
 part-put-bytes-start : tie.Need-part-put-bytes-start
 part-put-bytes-start c = inside c
-
-part-put-bytes-end : tie.Need-part-put-bytes-end
-part-put-bytes-end c = search needs
-
-slice-aggregate-put-bytes : tie.Need-slice-aggregate-put-bytes
-slice-aggregate-put-bytes c = search needs
-
-put-bytes-requires : tie.Need-put-bytes-requires
-put-bytes-requires c κs = search needs
-
-same-length : tie.Need-same-length
-same-length c = search needs
 
 returns : tie.Need-returns
 returns c =
@@ -59,12 +41,5 @@ pub put-payload-spec : {M : Type 1} → statement M
 put-payload-spec =
     tie.close
     (tie.spec
-    relative-len-of-encoding-requires
-    relative-encode-requires
-    sub-put-bytes
-    part-put-bytes-start
-    part-put-bytes-end
-    slice-aggregate-put-bytes
-    put-bytes-requires
-    same-length
-    returns)
+    (λ c κs. search needs) (λ c κs. search needs) sub-put-bytes part-put-bytes-start (λ c. search needs) (λ c. search needs)
+    (λ c κs. search needs) (λ c. search needs) returns)

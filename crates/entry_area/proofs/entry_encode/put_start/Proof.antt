@@ -22,12 +22,6 @@ header-is c =
     let a = c .before .before .args in
     c .header-byte .ensures ∙ ap (λ (w : Bool). packHeader (headerOf w (a .times) (a .end .timestamp) (a .end .«payload_length»))) (sym (any-is (a .subspace)))
 
-header-byte-requires : tie.Need-header-byte-requires
-header-byte-requires c κs = search needs
-
-slice-write-buffer : tie.Need-slice-write-buffer
-slice-write-buffer c = search needs
-
 same-length : tie.Need-same-length
 same-length c = length-set (now (c .before .before .before .before .args .buffer)) 0 (c .before .before .header-byte .result)
 
@@ -44,15 +38,6 @@ sub-put-bytes c = rw length-set (omega (arith, c .before .before .before .before
 
 part-put-bytes-start : tie.Need-part-put-bytes-start
 part-put-bytes-start c = rw length-set (omega (arith, c .before .before .before .before .pre))
-
-part-put-bytes-end : tie.Need-part-put-bytes-end
-part-put-bytes-end c = search needs
-
-slice-aggregate-put-bytes : tie.Need-slice-aggregate-put-bytes
-slice-aggregate-put-bytes c = search needs
-
-put-bytes-requires : tie.Need-put-bytes-requires
-put-bytes-requires c κs = search needs
 
 same-length-2 : tie.Need-same-length-2
 same-length-2 c =
@@ -78,14 +63,5 @@ pub put-start-spec : {M : Type 1} → statement M
 put-start-spec =
     tie.close
     (tie.spec
-    header-byte-requires
-    slice-write-buffer
-    same-length
-    returns
-    sub-put-bytes
-    part-put-bytes-start
-    part-put-bytes-end
-    slice-aggregate-put-bytes
-    put-bytes-requires
-    same-length-2
-    returns-2)
+    (λ c κs. search needs) (λ c. search needs) same-length returns sub-put-bytes part-put-bytes-start (λ c. search needs)
+    (λ c. search needs) (λ c κs. search needs) same-length-2 returns-2)

@@ -44,34 +44,10 @@ written c =
     let bytes = rw (to-end a l, c .before .before .before .before .before .before .before .before .before .end-of .ensures) at (w .ensures .1) in
     rest-written (head s) (tail s) l a (head-is (c .before .before .before .before .before .before .before .before)) (c .before .before .before .before .before .before .before .if1 .left) _ (w .last .0) (sym answer ∙ ap outcomeOf (c .before .rest .given .1)) bytes
 
-end-of-requires : tie.Need-end-of-requires
-end-of-requires c κs = search needs
-
-head-len-requires : tie.Need-head-len-requires
-head-len-requires c κs = search needs
-
 returns : tie.Need-returns
 returns c =
     let s = c .before .before .before .before .before .before in
     put-full allowed (head s ++ tail s) (now (s .args .buffer)) refl _ refl (omega (arith, c .if1 .taken, head-is (c .before), length-append (head s) (tail s)))
-
-sub-put-rest : tie.Need-sub-put-rest
-sub-put-rest c = search needs
-
-part-put-rest-start : tie.Need-part-put-rest-start
-part-put-rest-start c = search needs
-
-part-put-rest-end : tie.Need-part-put-rest-end
-part-put-rest-end c = search needs
-
-put-rest-requires : tie.Need-put-rest-requires
-put-rest-requires c κs = search needs
-
-enum-known-rest : tie.Need-enum-known-rest
-enum-known-rest c = search needs
-
-same-length : tie.Need-same-length
-same-length c = search needs
 
 returns-2 : tie.Need-returns-2
 returns-2 c =
@@ -96,9 +72,6 @@ add-t15 c =
     let s = c .before .before .before .before .before .before .before .before .before .before .before .before .before .before .before .before .before .before in
     omega (arith, put-wrote allowed (head s ++ tail s) (length (now (s .args .buffer))) _ (sym (written (c .before .before .before .before .before) .0)) .fits, s .good .0)
 
-same-length-2 : tie.Need-same-length-2
-same-length-2 c = search needs
-
 returns-3 : tie.Need-returns-3
 returns-3 c =
     let s = c .before .before .before .before .before .before .before .before .before .before .before .before .before .before .before .before .before .before in
@@ -109,17 +82,5 @@ pub put-known-spec : {M : Type 1} → statement M
 put-known-spec =
     tie.close
     (tie.spec
-    end-of-requires
-    head-len-requires
-    returns
-    sub-put-rest
-    part-put-rest-start
-    part-put-rest-end
-    put-rest-requires
-    enum-known-rest
-    same-length
-    returns-2
-    put-head-requires
-    add-t15
-    same-length-2
-    returns-3)
+    (λ c κs. search needs) (λ c κs. search needs) returns (λ c. search needs) (λ c. search needs) (λ c. search needs) (λ c κs. search needs)
+    (λ c. search needs) (λ c. search needs) returns-2 put-head-requires add-t15 (λ c. search needs) returns-3)

@@ -41,29 +41,11 @@ fits c = let s = c .before .before .before .before .before .before .before .befo
 suffix-small : (c : tie.After-known-told) → c .before .suffix .given .0 .0 ≤ 1000
 suffix-small c = let s = c .before .before .before .before .before .before .before .before .before .before .before .before in omega (arith, fits c .0, suffix-within (pathOf (now (s .args .bytes)) (now (s .args .lengths)) (s .args .count)) (s .args .k) (s .pre))
 
-end-len-requires : tie.Need-end-len-requires
-end-len-requires c κs = search needs
-
 returns : tie.Need-returns
 returns c = let s = c .before .before .before .before .before in end-full (suffix s) (end s) (now (s .args .tail)) (c .before .end-len .ensures .0) (omega (arith, c .if1 .taken))
 
-sub-e : tie.Need-sub-e
-sub-e c = search needs
-
-slice-relend-prefix-encode-suffix : tie.Need-slice-relend-prefix-encode-suffix
-slice-relend-prefix-encode-suffix c = search needs
-
 slice-aggregate-encode-suffix : tie.Need-slice-aggregate-encode-suffix
 slice-aggregate-encode-suffix c = sym (length-take-le _ _ (omega arith))
-
-encode-suffix-requires : tie.Need-encode-suffix-requires
-encode-suffix-requires c κs = search needs
-
-enum-known-suffix : tie.Need-enum-known-suffix
-enum-known-suffix c = search needs
-
-same-length : tie.Need-same-length
-same-length c = search needs
 
 returns-2 : tie.Need-returns-2
 returns-2 c =
@@ -79,17 +61,11 @@ sub-put-end c = omega (arith, fits c .1, kept (c .before .before .before .before
 part-put-end-start : tie.Need-part-put-end-start
 part-put-end-start c = omega (arith, fits c .1, kept (c .before .before .before .before .before))
 
-part-put-end-end : tie.Need-part-put-end-end
-part-put-end-end c = search needs
-
 put-end-requires : tie.Need-put-end-requires
 put-end-requires c κs = rw (to-end (c .before .before .suffix .given .0 .0) (filled (c .before .before .before .before .before .before)), length-drop) (omega (arith, c .before .before .before .before .before .before .before .before .before .end-len .ensures .0, fits (c .before) .1, kept (c .before .before .before .before .before .before)))
 
 add-t12 : tie.Need-add-t12
 add-t12 c = omega (arith, suffix-small (c .before .before .before .before), c .before .before .before .before .before .before .before .before .before .before .before .before .end-len .ensures .1)
-
-same-length-2 : tie.Need-same-length-2
-same-length-2 c = search needs
 
 returns-3 : tie.Need-returns-3
 returns-3 c =
@@ -105,19 +81,6 @@ pub put-rest-spec : {M : Type 1} → statement M
 put-rest-spec =
     tie.close
     (tie.spec
-    end-len-requires
-    returns
-    sub-e
-    slice-relend-prefix-encode-suffix
-    slice-aggregate-encode-suffix
-    encode-suffix-requires
-    enum-known-suffix
-    same-length
-    returns-2
-    sub-put-end
-    part-put-end-start
-    part-put-end-end
-    put-end-requires
-    add-t12
-    same-length-2
-    returns-3)
+    (λ c κs. search needs) returns (λ c. search needs) (λ c. search needs) slice-aggregate-encode-suffix (λ c κs. search needs)
+    (λ c. search needs) (λ c. search needs) returns-2 sub-put-end part-put-end-start (λ c. search needs) put-end-requires add-t12
+    (λ c. search needs) returns-3)

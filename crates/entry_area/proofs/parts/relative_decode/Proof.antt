@@ -26,18 +26,9 @@ well c = sym (c .before .well-formed .ensures) ∙ not-false _ (c .if1 .left)
 unspared : (c : tie.Else3) → unpackHeader (getD (now (c .before .before .before .before .before .before .before .before .before .before .args .message)) (c .before .before .before .before .before .before .before .before .before .before .args .start) 0) .spare ≡ 0
 unspared c = rw (c .before .before .unpack .ensures) at (c .if3 .left)
 
-well-formed-requires : tie.Need-well-formed-requires
-well-formed-requires c κs = search needs
-
-refuse-requires : tie.Need-refuse-requires
-refuse-requires c κs = search needs
-
 returns : tie.Need-returns
 unfolding refusal
 returns c = rw (c .refuse .ensures) (gives-refused 5 refl (no-subspace _ _ (area (c .before .before .before .before .before .before)) _ (sym (c .before .before .well-formed .ensures) ∙ not-true _ (c .before .if1 .taken))))
-
-refuse-early-requires : tie.Need-refuse-early-requires
-refuse-early-requires c κs = search needs
 
 returns-2 : tie.Need-returns-2
 returns-2 c =
@@ -45,32 +36,11 @@ returns-2 c =
     let k = well (c .before .before) in
     rw (c .refuse-early .ensures) (gives-early (area s .path) _ 1 _ refl (no-path (s .args .canonic) (s .args .namespace) (area s) k (now (s .args .message)) (s .args .start)) (entry-none (s .args .canonic) (s .args .namespace) (area s) k (now (s .args .message)) (s .args .start) (omega (arith, c .before .if2 .taken))))
 
-shared-slice-read-unpack : tie.Need-shared-slice-read-unpack
-shared-slice-read-unpack c = search needs
-
-unpack-requires : tie.Need-unpack-requires
-unpack-requires c κs = search needs
-
-refuse-early-requires-2 : tie.Need-refuse-early-requires-2
-refuse-early-requires-2 c κs = search needs
-
 returns-3 : tie.Need-returns-3
 returns-3 c =
     let s = c .before .before .before .before .before .before .before .before .before .before .before in
     let k = well (c .before .before .before .before .before .before) in
     rw (c .refuse-early2 .ensures) (gives-early (area s .path) _ 2 _ refl (no-path (s .args .canonic) (s .args .namespace) (area s) k (now (s .args .message)) (s .args .start)) (entry-spare (s .args .canonic) (s .args .namespace) (area s) k (now (s .args .message)) (s .args .start) (omega (arith, c .before .before .before .before .before .if2 .left)) (rw (c .before .before .before .unpack .ensures) at (c .before .if3 .taken))))
-
-add-at : tie.Need-add-at
-add-at c = search needs
-
-sub-decode-parts : tie.Need-sub-decode-parts
-sub-decode-parts c = search needs
-
-part-decode-parts-start : tie.Need-part-decode-parts-start
-part-decode-parts-start c = search needs
-
-part-decode-parts-end : tie.Need-part-decode-parts-end
-part-decode-parts-end c = search needs
 
 decode-parts-requires : tie.Need-decode-parts-requires
 decode-parts-requires c κs = let a = c .before .before .before .before .before .before .before .before .before .before .before .args in rw (to-end (a .start + 1) (now (a .message))) (omega (arith, length-drop (a .start + 1) (now (a .message)), c .before .before .before .before .before .if2 .left))
@@ -84,18 +54,6 @@ pub relative-decode-spec : {M : Type 1} → statement M
 relative-decode-spec =
     tie.close
     (tie.spec
-    well-formed-requires
-    refuse-requires
-    returns
-    refuse-early-requires
-    returns-2
-    shared-slice-read-unpack
-    unpack-requires
-    refuse-early-requires-2
-    returns-3
-    add-at
-    sub-decode-parts
-    part-decode-parts-start
-    part-decode-parts-end
-    decode-parts-requires
+    (λ c κs. search needs) (λ c κs. search needs) returns (λ c κs. search needs) returns-2 (λ c. search needs) (λ c κs. search needs)
+    (λ c κs. search needs) returns-3 (λ c. search needs) (λ c. search needs) (λ c. search needs) (λ c. search needs) decode-parts-requires
     returns-4)

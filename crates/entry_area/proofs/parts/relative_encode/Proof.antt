@@ -22,23 +22,8 @@ entry c = entryWith (c .args .fields) (pathOf (now (c .args .bytes)) (now (c .ar
 allows : (c : tie.After-enum-told) → let s = c .before .before .before .before .before .before .before .before in againstNamespaceArea (s .args .namespace) (area s) .check (entry s) ≡ allowed
 allows c = let s = c .before .before .before .before .before .before .before .before in contained (s .args .namespace) (area s) (entry s) (sym (c .before .before .lies-inside .ensures) ∙ c .enum-told .given .1)
 
-lies-inside-requires : tie.Need-lies-inside-requires
-lies-inside-requires c κs = search needs
-
-enum-told : tie.Need-enum-told
-enum-told c = search needs
-
 put-known-requires : tie.Need-put-known-requires
 put-known-requires c κs = let s = c .before .before .before .before .before .before .before .before .before in suffix-allowed (s .args .namespace) (area s) (entry s) (allows (c .before))
-
-enum-told-2 : tie.Need-enum-told-2
-enum-told-2 c = search needs
-
-enum-told-3 : tie.Need-enum-told-3
-enum-told-3 c = search needs
-
-same-length : tie.Need-same-length
-same-length c = search needs
 
 returns : tie.Need-returns
 returns c = let s = c .before .before .before .before .before .before .before .before .before .before .before .before in let ok = allows (c .before .before .before .before) in rw (ok, entry-bytes (s .args .namespace) (area s) (entry s) ok) (c .before .before .put-known .ensures)
@@ -53,12 +38,5 @@ pub relative-encode-spec : {M : Type 1} → statement M
 relative-encode-spec =
     tie.close
     (tie.spec
-    lies-inside-requires
-    enum-told
-    put-known-requires
-    enum-told-2
-    enum-told-3
-    same-length
-    returns
-    returns-2
-    returns-3)
+    (λ c κs. search needs) (λ c. search needs) put-known-requires (λ c. search needs) (λ c. search needs) (λ c. search needs) returns
+    returns-2 returns-3)

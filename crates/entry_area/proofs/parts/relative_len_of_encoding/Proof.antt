@@ -36,44 +36,17 @@ suffix-is c =
     let s = c .before .before .before .before .before .before .before .before .before .before .before in
     (length-wrote (suffixFrom (s .args .of-count)) (entry s .path) _ (sym (c .before .before .before .suffix-len .ensures) ∙ ap outcomeOf (c .before .suffix .given .1)) .1, suffix-short (s .args .namespace) (area s) (entry s) (allows (c .before .before .before .before)))
 
-lies-inside-requires : tie.Need-lies-inside-requires
-lies-inside-requires c κs = search needs
-
-enum-told : tie.Need-enum-told
-enum-told c = search needs
-
-suffix-len-requires : tie.Need-suffix-len-requires
-suffix-len-requires c κs = search needs
-
-enum-known-suffix : tie.Need-enum-known-suffix
-enum-known-suffix c = search needs
-
 returns : tie.Need-returns
 returns c =
     let s = c .before .before .before .before .before .before .before .before .before in
     let none = no-length (c .before .suffix-len .result) (c .match2 .keys2) in
     absurd (length-not-denied (suffixFrom (s .args .of-count)) (entry s .path) (none .why) (suffix-allowed (s .args .namespace) (area s) (entry s) (allows (c .before .before))) (sym (c .before .suffix-len .ensures) ∙ none .is))
 
-head-len-requires : tie.Need-head-len-requires
-head-len-requires c κs = search needs
-
-end-of-requires : tie.Need-end-of-requires
-end-of-requires c κs = search needs
-
 add-t18 : tie.Need-add-t18
 add-t18 c = omega (arith, suffix-is (c .before .before) .0, suffix-is (c .before .before) .1, c .before .head-len .ensures .1)
 
-end-len-requires : tie.Need-end-len-requires
-end-len-requires c κs = search needs
-
 add-t20 : tie.Need-add-t20
 add-t20 c = omega (arith, suffix-is (c .before .before .before) .0, suffix-is (c .before .before .before) .1, c .before .before .head-len .ensures .1, c .end-len .ensures .1)
-
-enum-told-2 : tie.Need-enum-told-2
-enum-told-2 c = search needs
-
-enum-told-3 : tie.Need-enum-told-3
-enum-told-3 c = search needs
 
 returns-2 : tie.Need-returns-2
 returns-2 c =
@@ -98,18 +71,5 @@ pub relative-len-of-encoding-spec : {M : Type 1} → statement M
 relative-len-of-encoding-spec =
     tie.close
     (tie.spec
-    lies-inside-requires
-    enum-told
-    suffix-len-requires
-    enum-known-suffix
-    returns
-    head-len-requires
-    end-of-requires
-    add-t18
-    end-len-requires
-    add-t20
-    enum-told-2
-    enum-told-3
-    returns-2
-    returns-3
-    returns-4)
+    (λ c κs. search needs) (λ c. search needs) (λ c κs. search needs) (λ c. search needs) returns (λ c κs. search needs)
+    (λ c κs. search needs) add-t18 (λ c κs. search needs) add-t20 (λ c. search needs) (λ c. search needs) returns-2 returns-3 returns-4)

@@ -44,40 +44,10 @@ numbers-is c = sym (numbers-told (c .before .before .before)) ∙ ap (λ (d : De
 numbers-in : (c : tie.After-known-told2) → c .before .before .before .before .before .before .before .before .before .before .before .before .before .before .args .start + (1 + (c .before .before .before .before .before .before .first-answer .given .0 .0 + c .before .second-answer .given .0 .0)) ≤ length (now (c .before .before .before .before .before .before .before .before .before .before .before .before .before .before .args .message))
 numbers-in c = let a = c .before .before .before .before .before .before .before .before .before .before .before .before .before .before .args in second-inside (a .of .«namespace_id») (a .of .«subspace_id») (a .of .timestamp) (now (a .message)) (a .start) (there (c .before .before .before .before .before .before .before .before .before .before)) _ _ (ids-is (c .before .before .before .before .before)) _ _ (numbers-is c)
 
-no-head-requires : tie.Need-no-head-requires
-no-head-requires c κs = search needs
-
 returns : tie.Need-returns
 returns c =
     let a = c .before .before .before .args in
     rw (c .no-head .ensures) (sym (head-none (a .of .«namespace_id») (a .of .«subspace_id») (a .of .timestamp) (now (a .message)) (a .start) (omega (arith, c .before .if1 .taken))))
-
-shared-slice-read-unpack : tie.Need-shared-slice-read-unpack
-shared-slice-read-unpack c = search needs
-
-unpack-requires : tie.Need-unpack-requires
-unpack-requires c κs = search needs
-
-add-at : tie.Need-add-at
-add-at c = search needs
-
-sub-decode-ids : tie.Need-sub-decode-ids
-sub-decode-ids c = search needs
-
-part-decode-ids-start : tie.Need-part-decode-ids-start
-part-decode-ids-start c = search needs
-
-part-decode-ids-end : tie.Need-part-decode-ids-end
-part-decode-ids-end c = search needs
-
-decode-ids-requires : tie.Need-decode-ids-requires
-decode-ids-requires c κs = search needs
-
-enum-known-first-answer : tie.Need-enum-known-first-answer
-enum-known-first-answer c = search needs
-
-no-head-requires-2 : tie.Need-no-head-requires-2
-no-head-requires-2 c κs = search needs
 
 returns-2 : tie.Need-returns-2
 returns-2 c =
@@ -93,18 +63,6 @@ sub-relative-decode c = ids-in c
 
 part-relative-decode-start : tie.Need-part-relative-decode-start
 part-relative-decode-start c = omega (arith, ids-in c)
-
-part-relative-decode-end : tie.Need-part-relative-decode-end
-part-relative-decode-end c = search needs
-
-relative-decode-requires : tie.Need-relative-decode-requires
-relative-decode-requires c κs = search needs
-
-enum-known-second-answer : tie.Need-enum-known-second-answer
-enum-known-second-answer c = search needs
-
-no-head-requires-3 : tie.Need-no-head-requires-3
-no-head-requires-3 c κs = search needs
 
 returns-3 : tie.Need-returns-3
 returns-3 c =
@@ -127,26 +85,7 @@ pub decode-head-spec : {M : Type 1} → statement M
 decode-head-spec =
     tie.close
     (tie.spec
-    no-head-requires
-    returns
-    shared-slice-read-unpack
-    unpack-requires
-    add-at
-    sub-decode-ids
-    part-decode-ids-start
-    part-decode-ids-end
-    decode-ids-requires
-    enum-known-first-answer
-    no-head-requires-2
-    returns-2
-    add-next
-    sub-relative-decode
-    part-relative-decode-start
-    part-relative-decode-end
-    relative-decode-requires
-    enum-known-second-answer
-    no-head-requires-3
-    returns-3
-    add-t15
-    add-t26
-    returns-4)
+    (λ c κs. search needs) returns (λ c. search needs) (λ c κs. search needs) (λ c. search needs) (λ c. search needs) (λ c. search needs)
+    (λ c. search needs) (λ c κs. search needs) (λ c. search needs) (λ c κs. search needs) returns-2 add-next sub-relative-decode
+    part-relative-decode-start (λ c. search needs) (λ c κs. search needs) (λ c. search needs) (λ c κs. search needs) returns-3 add-t15
+    add-t26 returns-4)

@@ -2,9 +2,6 @@ use borrow.Author.Needs.{needs}
 use Rattle.entry_entry.proofs.entry_decode.decode_id.Statement.{statement}
 use Rattle.entry_entry.proofs.entry_decode.decode_id.Tie as tie
 
-decode-id-requires : tie.Need-decode-id-requires
-decode-id-requires c κs = search needs
-
 returns : tie.Need-returns
 returns c = rw (c .before .if1 .taken) (c .decode-id .ensures .answer)
 
@@ -12,4 +9,4 @@ returns-2 : tie.Need-returns-2
 returns-2 c = rw (c .if1 .left)
 
 pub decode-id-spec : {M : Type 1} → statement M
-decode-id-spec = tie.close (tie.spec decode-id-requires returns returns-2)
+decode-id-spec = tie.close (tie.spec (λ c κs. search needs) returns returns-2)

@@ -19,29 +19,11 @@ second-is : (c : tie.After-known-told2) → let a = c .before .before .before .b
     readId (a .header .«subspace_written») (a .of .«subspace_id») (drop (c .before .before .before .before .before .before .first-answer .given .0 .0) (now (a .message))) ≡ accepted (c .before .before .before .decode-id2 .result .id) (c .before .second-answer .given .0 .0)
 second-is c = sym (c .before .before .before .decode-id2 .ensures) ∙ ap (λ (d : Decoded). answerOf d (c .before .before .before .decode-id2 .result .id)) (c .before .second-answer .given .1)
 
-decode-id-requires : tie.Need-decode-id-requires
-decode-id-requires c κs = search needs
-
-enum-known-first-answer : tie.Need-enum-known-first-answer
-enum-known-first-answer c = search needs
-
-no-ids-requires : tie.Need-no-ids-requires
-no-ids-requires c κs = search needs
-
 returns : tie.Need-returns
 returns c =
     let a = c .before .before .before .before .before .args in
     let x = no-value (c .before .before .decode-id .result .answer) (c .before .match .keys2) in
     rw (c .no-ids .ensures) (x .beside _ ∙ sym (ids-first (a .of .«namespace_id») (a .of .«subspace_id») (a .header) (now (a .message)) (x .why) (sym (c .before .before .decode-id .ensures) ∙ x .beside _)))
-
-decode-id-requires-2 : tie.Need-decode-id-requires-2
-decode-id-requires-2 c κs = search needs
-
-enum-known-second-answer : tie.Need-enum-known-second-answer
-enum-known-second-answer c = search needs
-
-no-ids-requires-2 : tie.Need-no-ids-requires-2
-no-ids-requires-2 c κs = search needs
 
 returns-2 : tie.Need-returns-2
 returns-2 c =
@@ -63,13 +45,5 @@ pub decode-ids-spec : {M : Type 1} → statement M
 decode-ids-spec =
     tie.close
     (tie.spec
-    decode-id-requires
-    enum-known-first-answer
-    no-ids-requires
-    returns
-    decode-id-requires-2
-    enum-known-second-answer
-    no-ids-requires-2
-    returns-2
-    add-t14
-    returns-3)
+    (λ c κs. search needs) (λ c. search needs) (λ c κs. search needs) returns (λ c κs. search needs) (λ c. search needs)
+    (λ c κs. search needs) returns-2 add-t14 returns-3)

@@ -3,12 +3,6 @@ use native.Mathlib.Omega.{arith}
 use Rattle.entry_entry.proofs.entry_encode.entry_len.Statement.{statement}
 use Rattle.entry_entry.proofs.entry_encode.entry_len.Tie as tie
 
-ids-len-requires : tie.Need-ids-len-requires
-ids-len-requires c κs = search needs
-
-relative-len-of-encoding-requires : tie.Need-relative-len-of-encoding-requires
-relative-len-of-encoding-requires c κs = search needs
-
 add-result : tie.Need-add-result
 add-result c = omega (arith, c .relative-len-of-encoding .ensures, c .before .ids-len .ensures, c .before .before .pre)
 
@@ -26,12 +20,4 @@ returns c = omega (arith, c .relative-len-of-encoding .ensures, c .before .ids-l
 
 pub entry-len-spec : {M : Type 1} → statement M
 entry-len-spec =
-    tie.close
-    (tie.spec
-    ids-len-requires
-    relative-len-of-encoding-requires
-    add-result
-    add-result-2
-    add-result-3
-    add-result-4
-    returns)
+    tie.close (tie.spec (λ c κs. search needs) (λ c κs. search needs) add-result add-result-2 add-result-3 add-result-4 returns)

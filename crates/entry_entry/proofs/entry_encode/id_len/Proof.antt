@@ -6,9 +6,6 @@ use borrow.Author.Needs.{needs}
 use Rattle.entry_entry.proofs.entry_encode.id_len.Statement.{statement}
 use Rattle.entry_entry.proofs.entry_encode.id_len.Tie as tie
 
-id-written-requires : tie.Need-id-written-requires
-id-written-requires c κs = search needs
-
 returns : tie.Need-returns
 returns c =
     let a = c .before .before .args in
@@ -20,4 +17,4 @@ returns-2 c =
     (sym (ap length (id-kept (a .reference) (a .id) (c .before .id-written .ensures) (c .if1 .left))), omega arith)
 
 pub id-len-spec : {M : Type 1} → statement M
-id-len-spec = tie.close (tie.spec id-written-requires returns returns-2)
+id-len-spec = tie.close (tie.spec (λ c κs. search needs) returns returns-2)

@@ -34,15 +34,6 @@ answer c = c .encode-shared .ensures .0 ∙ sym (fits (c .before .before .before
 long : (c : tie.After-known-told) → c .before .whole .given .0 .0 ≡ length (bytes (c .before .before .before .before .before .before .before .before .before .before))
 long c = written-is _ _ (sym (ap outcomeOf (c .before .whole .given .1)) ∙ answer (c .before .before .before .before .before))
 
-encode-shared-requires : tie.Need-encode-shared-requires
-encode-shared-requires c κs = search needs
-
-enum-known-whole : tie.Need-enum-known-whole
-enum-known-whole c = search needs
-
-same-length : tie.Need-same-length
-same-length c = search needs
-
 returns : tie.Need-returns
 returns c =
     let none = no-length (c .before .before .before .encode-shared .result) (c .match .keys2) in
@@ -53,18 +44,6 @@ sub-put-bytes c = omega (arith, parts (c .before .before .before .before .before
 
 part-put-bytes-start : tie.Need-part-put-bytes-start
 part-put-bytes-start c = omega (arith, parts (c .before .before .before .before .before .before .before .before .before .before), long c, c .before .before .before .before .before .encode-shared .kept .0)
-
-part-put-bytes-end : tie.Need-part-put-bytes-end
-part-put-bytes-end c = search needs
-
-slice-aggregate-put-bytes : tie.Need-slice-aggregate-put-bytes
-slice-aggregate-put-bytes c = search needs
-
-put-bytes-requires : tie.Need-put-bytes-requires
-put-bytes-requires c κs = search needs
-
-same-length-2 : tie.Need-same-length-2
-same-length-2 c = search needs
 
 returns-2 : tie.Need-returns-2
 returns-2 c =
@@ -83,14 +62,5 @@ pub put-end-spec : {M : Type 1} → statement M
 put-end-spec =
     tie.close
     (tie.spec
-    encode-shared-requires
-    enum-known-whole
-    same-length
-    returns
-    sub-put-bytes
-    part-put-bytes-start
-    part-put-bytes-end
-    slice-aggregate-put-bytes
-    put-bytes-requires
-    same-length-2
-    returns-2)
+    (λ c κs. search needs) (λ c. search needs) (λ c. search needs) returns sub-put-bytes part-put-bytes-start (λ c. search needs)
+    (λ c. search needs) (λ c κs. search needs) (λ c. search needs) returns-2)

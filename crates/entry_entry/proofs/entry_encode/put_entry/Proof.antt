@@ -16,9 +16,6 @@ use Rattle.entry_entry.proofs.entry_encode.put_entry.Tie as tie
 abbrev bytes : tie.Start → List ℕ
 bytes c = sharedFrom (c .args .k) .encode (pathOf (now (c .args .bytes)) (now (c .args .lengths)) (c .args .count))
 
-header-byte-requires : tie.Need-header-byte-requires
-header-byte-requires c κs = search needs
-
 slice-write-buffer : tie.Need-slice-write-buffer
 slice-write-buffer c = omega (arith, c .before .before .before .before .pre .1)
 
@@ -27,9 +24,6 @@ sub-put-parts c = rw length-set (omega (arith, c .before .before .before .before
 
 part-put-parts-start : tie.Need-part-put-parts-start
 part-put-parts-start c = rw length-set (omega (arith, c .before .before .before .before .pre .1))
-
-part-put-parts-end : tie.Need-part-put-parts-end
-part-put-parts-end c = search needs
 
 put-parts-requires : tie.Need-put-parts-requires
 put-parts-requires c κs =
@@ -57,11 +51,4 @@ pub put-entry-spec : {M : Type 1} → statement M
 put-entry-spec =
     tie.close
     (tie.spec
-    header-byte-requires
-    slice-write-buffer
-    sub-put-parts
-    part-put-parts-start
-    part-put-parts-end
-    put-parts-requires
-    same-length
-    returns)
+    (λ c κs. search needs) slice-write-buffer sub-put-parts part-put-parts-start (λ c. search needs) put-parts-requires same-length returns)

@@ -11,18 +11,6 @@ use borrow.Author.Needs.{needs}
 use Rattle.entry_entry.proofs.entry_encode.put_id.Statement.{statement}
 use Rattle.entry_entry.proofs.entry_encode.put_id.Tie as tie
 
-id-written-requires : tie.Need-id-written-requires
-id-written-requires c κs = search needs
-
-slice-aggregate-put-bytes : tie.Need-slice-aggregate-put-bytes
-slice-aggregate-put-bytes c = search needs
-
-put-bytes-requires : tie.Need-put-bytes-requires
-put-bytes-requires c κs = search needs
-
-same-length : tie.Need-same-length
-same-length c = search needs
-
 returns : tie.Need-returns
 returns c =
     let a = c .before .before .before .before .before .before .before .before .args in
@@ -40,12 +28,4 @@ returns-2 c =
     (sym (ap length is), ap (λ (bs : List ℕ). over bs (now (a .buffer))) (sym is))
 
 pub put-id-spec : {M : Type 1} → statement M
-put-id-spec =
-    tie.close
-    (tie.spec
-    id-written-requires
-    slice-aggregate-put-bytes
-    put-bytes-requires
-    same-length
-    returns
-    returns-2)
+put-id-spec = tie.close (tie.spec (λ c κs. search needs) (λ c. search needs) (λ c κs. search needs) (λ c. search needs) returns returns-2)

@@ -24,9 +24,6 @@ sub-put-id c = omega (arith, parts (c .before .before .before .before .before .b
 part-put-id-start : tie.Need-part-put-id-start
 part-put-id-start c = omega (arith, parts (c .before .before .before .before .before .before .before .before .before), c .before .before .before .before .put-id .ensures .0, c .before .before .before .before .put-id .kept .0)
 
-part-put-id-end : tie.Need-part-put-id-end
-part-put-id-end c = search needs
-
 put-id-requires-2 : tie.Need-put-id-requires-2
 put-id-requires-2 c κs =
     let n = c .before .before .before .before .before .put-id in
@@ -34,9 +31,6 @@ put-id-requires-2 c κs =
 
 add-result : tie.Need-add-result
 add-result c = omega (arith, parts (c .before .before .before .before .before .before .before .before .before .before .before .before .before), c .before .before .before .before .before .before .before .before .put-id .ensures .0, c .before .before .put-id2 .ensures .0)
-
-same-length : tie.Need-same-length
-same-length c = search needs
 
 returns : tie.Need-returns
 returns c =
@@ -55,11 +49,4 @@ pub put-ids-spec : {M : Type 1} → statement M
 put-ids-spec =
     tie.close
     (tie.spec
-    put-id-requires
-    sub-put-id
-    part-put-id-start
-    part-put-id-end
-    put-id-requires-2
-    add-result
-    same-length
-    returns)
+    put-id-requires sub-put-id part-put-id-start (λ c. search needs) put-id-requires-2 add-result (λ c. search needs) returns)

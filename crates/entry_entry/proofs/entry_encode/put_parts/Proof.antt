@@ -28,16 +28,10 @@ sub-put-rest c = omega (arith, parts (c .before .before .before .before .before 
 part-put-rest-start : tie.Need-part-put-rest-start
 part-put-rest-start c = omega (arith, parts (c .before .before .before .before .before .before .before), c .before .before .put-ids .ensures .0, c .before .before .put-ids .kept .0)
 
-part-put-rest-end : tie.Need-part-put-rest-end
-part-put-rest-end c = search needs
-
 put-rest-requires : tie.Need-put-rest-requires
 put-rest-requires c κs =
     let n = c .before .before .before .put-ids in
     (c .before .before .before .before .before .before .before .before .pre .0, rw (to-end (n .result) (n .last .0), length-drop) (omega (arith, parts (c .before .before .before .before .before .before .before .before), n .ensures .0, n .kept .0)))
-
-same-length : tie.Need-same-length
-same-length c = search needs
 
 returns : tie.Need-returns
 returns c =
@@ -50,12 +44,4 @@ returns c =
 
 pub put-parts-spec : {M : Type 1} → statement M
 put-parts-spec =
-    tie.close
-    (tie.spec
-    put-ids-requires
-    sub-put-rest
-    part-put-rest-start
-    part-put-rest-end
-    put-rest-requires
-    same-length
-    returns)
+    tie.close (tie.spec put-ids-requires sub-put-rest part-put-rest-start (λ c. search needs) put-rest-requires (λ c. search needs) returns)

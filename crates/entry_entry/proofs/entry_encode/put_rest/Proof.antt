@@ -24,29 +24,17 @@ parts c = let a = c .args in omega (arith, c .pre .1, length-append (numbersByte
 inside : (c : tie.After-slice-known2) → c .before .before .before .before .relative-len-of-encoding .result ≤ length (c .before .before .relative-encode .last .0)
 inside c = omega (arith, parts (c .before .before .before .before .before .before .before .before), c .before .before .before .before .relative-len-of-encoding .ensures .0, c .before .before .relative-encode .kept .0)
 
-relative-len-of-encoding-requires : tie.Need-relative-len-of-encoding-requires
-relative-len-of-encoding-requires c κs = search needs
-
-relative-encode-requires : tie.Need-relative-encode-requires
-relative-encode-requires c κs = search needs
-
 sub-put-end : tie.Need-sub-put-end
 sub-put-end c = inside (c .before)
 
 part-put-end-start : tie.Need-part-put-end-start
 part-put-end-start c = inside (c .before)
 
-part-put-end-end : tie.Need-part-put-end-end
-part-put-end-end c = search needs
-
 put-end-requires : tie.Need-put-end-requires
 put-end-requires c κs =
     let n = c .before .before .before .before .before .before .relative-len-of-encoding in
     let p = c .before .before .before .before .relative-encode in
     (c .before .before .before .before .before .before .before .before .before .before .pre .0, rw (to-end (n .result) (p .last .0), length-drop) (omega (arith, parts (c .before .before .before .before .before .before .before .before .before .before), n .ensures .0, p .kept .0)))
-
-same-length : tie.Need-same-length
-same-length c = search needs
 
 returns : tie.Need-returns
 returns c =
@@ -65,11 +53,5 @@ pub put-rest-spec : {M : Type 1} → statement M
 put-rest-spec =
     tie.close
     (tie.spec
-    relative-len-of-encoding-requires
-    relative-encode-requires
-    sub-put-end
-    part-put-end-start
-    part-put-end-end
-    put-end-requires
-    same-length
+    (λ c κs. search needs) (λ c κs. search needs) sub-put-end part-put-end-start (λ c. search needs) put-end-requires (λ c. search needs)
     returns)

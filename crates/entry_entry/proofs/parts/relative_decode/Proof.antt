@@ -54,15 +54,6 @@ digest-in c = let s = c .before .before .before .before .before .before .before 
 fit : (c : tie.After-known-told3) → Fits w64 (c .before .before .before .before .before .second-answer .given .0 .0 + c .before .third-answer .given .0 .0) × Fits w64 (c .before .before .before .before .before .before .before .before .before .before .first-answer .given .0 .0 + (c .before .before .before .before .before .second-answer .given .0 .0 + c .before .third-answer .given .0 .0))
 fit c = (omega (arith, digest-in c), omega (arith, digest-in c))
 
-decode-head-requires : tie.Need-decode-head-requires
-decode-head-requires c κs = search needs
-
-enum-known-first-answer : tie.Need-enum-known-first-answer
-enum-known-first-answer c = search needs
-
-refuse-head-requires : tie.Need-refuse-head-requires
-refuse-head-requires c κs = search needs
-
 returns : tie.Need-returns
 returns c =
     let s = c .before .before .before .before .before .before in
@@ -78,18 +69,6 @@ sub-relative-decode c = omega (arith, head-in c)
 part-relative-decode-start : tie.Need-part-relative-decode-start
 part-relative-decode-start c = omega (arith, head-in c)
 
-part-relative-decode-end : tie.Need-part-relative-decode-end
-part-relative-decode-end c = search needs
-
-relative-decode-requires : tie.Need-relative-decode-requires
-relative-decode-requires c κs = search needs
-
-enum-known-second-answer : tie.Need-enum-known-second-answer
-enum-known-second-answer c = search needs
-
-refuse-requires : tie.Need-refuse-requires
-refuse-requires c κs = search needs
-
 returns-2 : tie.Need-returns-2
 unfolding refusal
 returns-2 c =
@@ -99,15 +78,6 @@ returns-2 c =
 
 add-decode-id : tie.Need-add-decode-id
 add-decode-id c = omega (arith, path-in c)
-
-decode-id-requires : tie.Need-decode-id-requires
-decode-id-requires c κs = search needs
-
-enum-known-third-answer : tie.Need-enum-known-third-answer
-enum-known-third-answer c = search needs
-
-refuse-requires-2 : tie.Need-refuse-requires-2
-refuse-requires-2 c κs = search needs
 
 returns-3 : tie.Need-returns-3
 unfolding refusal
@@ -131,23 +101,6 @@ pub relative-decode-spec : {M : Type 1} → statement M
 relative-decode-spec =
     tie.close
     (tie.spec
-    decode-head-requires
-    enum-known-first-answer
-    refuse-head-requires
-    returns
-    add-at
-    sub-relative-decode
-    part-relative-decode-start
-    part-relative-decode-end
-    relative-decode-requires
-    enum-known-second-answer
-    refuse-requires
-    returns-2
-    add-decode-id
-    decode-id-requires
-    enum-known-third-answer
-    refuse-requires-2
-    returns-3
-    add-t23
-    add-t26
-    returns-4)
+    (λ c κs. search needs) (λ c. search needs) (λ c κs. search needs) returns add-at sub-relative-decode part-relative-decode-start
+    (λ c. search needs) (λ c κs. search needs) (λ c. search needs) (λ c κs. search needs) returns-2 add-decode-id (λ c κs. search needs)
+    (λ c. search needs) (λ c κs. search needs) returns-3 add-t23 add-t26 returns-4)

@@ -46,27 +46,12 @@ path-is c =
 long : (c : tie.After-entry-len) → let s = c .before .before .before .before .before .before .before .before .before .before .before .before .before .before in c .entry-len .result ≡ length (againstEntry (reference s) .encode (entry s))
 long c = let s = c .before .before .before .before .before .before .before .before .before .before .before .before .before .before in c .entry-len .ensures ∙ entry-long (reference s) (entry s) _ (path-is (c .before)) (digest-long (s .args .fields) (s .good .1 .0))
 
-longest-common-prefix-requires : tie.Need-longest-common-prefix-requires
-longest-common-prefix-requires c κs = search needs
-
-enum-known-common : tie.Need-enum-known-common
-enum-known-common c = search needs
-
-enum-told : tie.Need-enum-told
-enum-told c = search needs
-
 returns : tie.Need-returns
 returns c =
     let s = c .before .before .before .before .before .before .before .before in
     let w = uncommon (reference s .path) (entry s .path) (sym (c .before .before .longest-common-prefix .ensures) ∙ c .enum-told .given .1) in
     let b : againstPath (reference s .path) .check (entry s .path) ≡ barred 5 = rw w in
     put-barred (againstEntry (reference s) .check (entry s)) (againstEntry (reference s) .encode (entry s)) (now (s .args .buffer)) 5 (sym (path-check (reference s) (entry s)) ∙ b)
-
-shared-len-requires : tie.Need-shared-len-requires
-shared-len-requires c κs = search needs
-
-enum-known-path : tie.Need-enum-known-path
-enum-known-path c = search needs
 
 returns-2 : tie.Need-returns-2
 returns-2 c =
@@ -87,9 +72,6 @@ put-entry-requires c κs =
     let same = shared-against (reference s .path) (entry s .path) k (shared-of (c .before .before .before .before .before .before .before)) .1 in
     (rest-allowed (reference s .path) (entry s .path) k (shared-of (c .before .before .before .before .before .before .before)), omega (arith, ap (λ (bs : List ℕ). length (partsWith (s .args .of) (s .args .fields) bs)) same, ap length (entry-bytes (reference s) (entry s)), long (c .before .before), c .before .if1 .left))
 
-same-length : tie.Need-same-length
-same-length c = search needs
-
 returns-4 : tie.Need-returns-4
 returns-4 c =
     let s = c .before .before .before .before .before .before .before .before .before .before .before .before .before .before .before .before .before .before .before in
@@ -103,15 +85,5 @@ pub relative-encode-spec : {M : Type 1} → statement M
 relative-encode-spec =
     tie.close
     (tie.spec
-    longest-common-prefix-requires
-    enum-known-common
-    enum-told
-    returns
-    shared-len-requires
-    enum-known-path
-    returns-2
-    entry-len-requires
-    returns-3
-    put-entry-requires
-    same-length
-    returns-4)
+    (λ c κs. search needs) (λ c. search needs) (λ c. search needs) returns (λ c κs. search needs) (λ c. search needs) returns-2
+    entry-len-requires returns-3 put-entry-requires (λ c. search needs) returns-4)

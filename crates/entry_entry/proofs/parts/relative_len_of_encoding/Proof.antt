@@ -30,12 +30,6 @@ path-is c =
     let l = length-wrote (againstPath (reference s .path)) (entry s .path) _ (sym (c .before .before .before .relative-len-of-encoding .ensures) ∙ ap outcomeOf (c .before .path .given .1)) in
     (sym (path-check (reference s) (entry s)) ∙ l .0, l .1)
 
-relative-len-of-encoding-requires : tie.Need-relative-len-of-encoding-requires
-relative-len-of-encoding-requires c κs = search needs
-
-enum-known-path : tie.Need-enum-known-path
-enum-known-path c = search needs
-
 returns : tie.Need-returns
 returns c =
     let s = c .before .before .before .before .before .before in
@@ -52,11 +46,4 @@ returns-2 c =
     length-allowed (againstEntry (reference s)) (entry s) _ (p .0) (c .entry-len .ensures ∙ entry-long (reference s) (entry s) _ (p .1) (digest-long (s .args .fields) (s .good .0)))
 
 pub relative-len-of-encoding-spec : {M : Type 1} → statement M
-relative-len-of-encoding-spec =
-    tie.close
-    (tie.spec
-    relative-len-of-encoding-requires
-    enum-known-path
-    returns
-    entry-len-requires
-    returns-2)
+relative-len-of-encoding-spec = tie.close (tie.spec (λ c κs. search needs) (λ c. search needs) returns entry-len-requires returns-2)

@@ -4,32 +4,10 @@ use borrow.Author.Needs.{needs}
 use Rattle.flat.proofs.area_record.path_sizes_in.Statement.{statement}
 use Rattle.flat.proofs.area_record.path_sizes_in.Tie as tie
 
-marked-requires : tie.Need-marked-requires
-marked-requires c κs = search needs
-
-sub-sizes-in : tie.Need-sub-sizes-in
-sub-sizes-in c = search needs
-
-part-sizes-in-start : tie.Need-part-sizes-in-start
-part-sizes-in-start c = search needs
-
-part-sizes-in-end : tie.Need-part-sizes-in-end
-part-sizes-in-end c = search needs
-
-sizes-in-requires : tie.Need-sizes-in-requires
-sizes-in-requires c κs = search needs
-
 returns : tie.Need-returns
 unfolding areaIn
 returns c = rw (to-end, c .before .before .marked .ensures) at (c .sizes-in .ensures)
 
 pub path-sizes-in-spec : {M : Type 1} → statement M
 path-sizes-in-spec =
-    tie.close
-    (tie.spec
-    marked-requires
-    sub-sizes-in
-    part-sizes-in-start
-    part-sizes-in-end
-    sizes-in-requires
-    returns)
+    tie.close (tie.spec (λ c κs. search needs) (λ c. search needs) (λ c. search needs) (λ c. search needs) (λ c κs. search needs) returns)

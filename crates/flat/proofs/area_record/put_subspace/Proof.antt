@@ -11,26 +11,11 @@ use borrow.Author.Needs.{needs}
 use Rattle.flat.proofs.area_record.put_subspace.Statement.{statement}
 use Rattle.flat.proofs.area_record.put_subspace.Tie as tie
 
-bit-requires : tie.Need-bit-requires
-bit-requires c κs = search needs
-
-slice-write-flat : tie.Need-slice-write-flat
-slice-write-flat c = search needs
-
 sub-put-bytes : tie.Need-sub-put-bytes
 sub-put-bytes c = simp length-set (omega arith)
 
 part-put-bytes-start : tie.Need-part-put-bytes-start
 part-put-bytes-start c = simp length-set (omega arith)
-
-part-put-bytes-end : tie.Need-part-put-bytes-end
-part-put-bytes-end c = search needs
-
-slice-aggregate-put-bytes : tie.Need-slice-aggregate-put-bytes
-slice-aggregate-put-bytes c = search needs
-
-put-bytes-requires : tie.Need-put-bytes-requires
-put-bytes-requires c κs = search needs
 
 returns : tie.Need-returns
 returns c =
@@ -47,12 +32,5 @@ pub put-subspace-spec : {M : Type 1} → statement M
 put-subspace-spec =
     tie.close
     (tie.spec
-    bit-requires
-    slice-write-flat
-    sub-put-bytes
-    part-put-bytes-start
-    part-put-bytes-end
-    slice-aggregate-put-bytes
-    put-bytes-requires
-    same-length
-    returns)
+    (λ c κs. search needs) (λ c. search needs) sub-put-bytes part-put-bytes-start (λ c. search needs) (λ c. search needs)
+    (λ c κs. search needs) same-length returns)

@@ -4,11 +4,8 @@ use borrow.Author.Needs.{needs}
 use Rattle.flat.proofs.area_record.store.Statement.{statement}
 use Rattle.flat.proofs.area_record.store.Tie as tie
 
-put-area-requires : tie.Need-put-area-requires
-put-area-requires c κs = search needs
-
 returns : tie.Need-returns
 returns c = puts-whole (c .put-area .ensures) (omega arith)
 
 pub store-spec : {M : Type 1} → statement M
-store-spec = tie.close (tie.spec put-area-requires returns)
+store-spec = tie.close (tie.spec (λ c κs. search needs) returns)

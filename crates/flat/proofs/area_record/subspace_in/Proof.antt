@@ -7,12 +7,6 @@ use borrow.Author.Needs.{needs}
 use Rattle.flat.proofs.area_record.subspace_in.Statement.{statement}
 use Rattle.flat.proofs.area_record.subspace_in.Tie as tie
 
-decode-id-requires : tie.Need-decode-id-requires
-decode-id-requires c κs = search needs
-
-shared-slice-read-t5 : tie.Need-shared-slice-read-t5
-shared-slice-read-t5 c = search needs
-
 returns : tie.Need-returns
 unfolding areaIn
 returns c =
@@ -21,4 +15,4 @@ returns c =
     rw (id-there (drop 1 f) (from-room f 1 32 (omega (arith, s .pre))) (c .before .before .decode-id .ensures))
 
 pub subspace-in-spec : {M : Type 1} → statement M
-subspace-in-spec = tie.close (tie.spec decode-id-requires shared-slice-read-t5 returns)
+subspace-in-spec = tie.close (tie.spec (λ c κs. search needs) (λ c. search needs) returns)

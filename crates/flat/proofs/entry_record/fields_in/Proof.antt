@@ -7,21 +7,6 @@ use borrow.Author.Needs.{needs}
 use Rattle.flat.proofs.entry_record.fields_in.Statement.{statement}
 use Rattle.flat.proofs.entry_record.fields_in.Tie as tie
 
-decode-id-requires : tie.Need-decode-id-requires
-decode-id-requires c κs = search needs
-
-decode-id-requires-2 : tie.Need-decode-id-requires-2
-decode-id-requires-2 c κs = search needs
-
-decode-id-requires-3 : tie.Need-decode-id-requires-3
-decode-id-requires-3 c κs = search needs
-
-number-at-requires : tie.Need-number-at-requires
-number-at-requires c κs = search needs
-
-number-at-requires-2 : tie.Need-number-at-requires-2
-number-at-requires-2 c κs = search needs
-
 returns : tie.Need-returns
 unfolding entryIn
 returns c =
@@ -36,9 +21,4 @@ pub fields-in-spec : {M : Type 1} → statement M
 fields-in-spec =
     tie.close
     (tie.spec
-    decode-id-requires
-    decode-id-requires-2
-    decode-id-requires-3
-    number-at-requires
-    number-at-requires-2
-    returns)
+    (λ c κs. search needs) (λ c κs. search needs) (λ c κs. search needs) (λ c κs. search needs) (λ c κs. search needs) returns)

@@ -27,26 +27,8 @@ sub-put-big-endian c = omega (arith, c .before .before .before .before .pre, put
 part-put-big-endian-start : tie.Need-part-put-big-endian-start Inv-loop μ-loop
 part-put-big-endian-start c = omega (arith, c .before .before .before .before .pre, puts-long (c .before .loop .inv .2) (omega (arith, c .before .before .before .before .pre)))
 
-part-put-big-endian-end : tie.Need-part-put-big-endian-end Inv-loop μ-loop
-part-put-big-endian-end c = search needs
-
-mul-put-big-endian : tie.Need-mul-put-big-endian Inv-loop μ-loop
-mul-put-big-endian c = search needs
-
 shared-slice-read-put-big-endian : tie.Need-shared-slice-read-put-big-endian Inv-loop μ-loop
 shared-slice-read-put-big-endian c = omega (arith, c .before .before .before .before .before .before .pre .1)
-
-put-big-endian-requires : tie.Need-put-big-endian-requires Inv-loop μ-loop
-put-big-endian-requires c κs = search needs
-
-add-at : tie.Need-add-at Inv-loop μ-loop
-add-at c = omega arith
-
-add-i : tie.Need-add-i Inv-loop μ-loop
-add-i c = omega arith
-
-loop-less : tie.Need-loop-less Inv-loop μ-loop
-loop-less c = omega arith
 
 loop-again : tie.Need-loop-again Inv-loop μ-loop
 loop-again c =
@@ -74,18 +56,6 @@ pub put-lengths-spec : {M : Type 1} → statement M
 put-lengths-spec =
     tie.close
     (tie.spec
-    Inv-loop
-    μ-loop
-    loop-holds
-    sub-put-big-endian
-    part-put-big-endian-start
-    part-put-big-endian-end
-    mul-put-big-endian
-    shared-slice-read-put-big-endian
-    put-big-endian-requires
-    add-at
-    add-i
-    loop-less
-    loop-again
-    same-length
+    Inv-loop μ-loop loop-holds sub-put-big-endian part-put-big-endian-start (λ c. search needs) (λ c. search needs)
+    shared-slice-read-put-big-endian (λ c κs. search needs) (λ c. omega arith) (λ c. omega arith) (λ c. omega arith) loop-again same-length
     returns)

@@ -8,20 +8,11 @@ use borrow.Author.Needs.{needs}
 use Rattle.flat.proofs.path_record.put_path.Statement.{statement}
 use Rattle.flat.proofs.path_record.put_path.Tie as tie
 
-cast-flat : tie.Need-cast-flat
-cast-flat c = search needs
-
-slice-write-flat : tie.Need-slice-write-flat
-slice-write-flat c = search needs
-
 sub-put-lengths : tie.Need-sub-put-lengths
 sub-put-lengths c = simp length-set (omega arith)
 
 part-put-lengths-start : tie.Need-part-put-lengths-start
 part-put-lengths-start c = simp length-set (omega arith)
-
-part-put-lengths-end : tie.Need-part-put-lengths-end
-part-put-lengths-end c = search needs
 
 put-lengths-requires : tie.Need-put-lengths-requires
 put-lengths-requires c κs = let s = c .before .before .before .before in (room-after (puts-first (now (s .args .flat)) (s .args .count % 256) (omega (arith, s .pre))) 40 (omega (arith, s .pre)), s .pre .1 .1)
@@ -31,12 +22,6 @@ sub-put-bytes c = let s = c .before .before .before .before .before .before .bef
 
 part-put-bytes-start : tie.Need-part-put-bytes-start
 part-put-bytes-start c = let s = c .before .before .before .before .before .before .before in omega (arith, s .pre, puts-long (puts-tail (puts-first (now (s .args .flat)) (s .args .count % 256) (omega (arith, s .pre))) (c .before .before .put-lengths .ensures)) (omega (arith, s .pre)))
-
-part-put-bytes-end : tie.Need-part-put-bytes-end
-part-put-bytes-end c = search needs
-
-put-bytes-requires : tie.Need-put-bytes-requires
-put-bytes-requires c κs = search needs
 
 returns : tie.Need-returns
 unfolding pathFlat
@@ -53,15 +38,5 @@ pub put-path-spec : {M : Type 1} → statement M
 put-path-spec =
     tie.close
     (tie.spec
-    cast-flat
-    slice-write-flat
-    sub-put-lengths
-    part-put-lengths-start
-    part-put-lengths-end
-    put-lengths-requires
-    sub-put-bytes
-    part-put-bytes-start
-    part-put-bytes-end
-    put-bytes-requires
-    same-length
-    returns)
+    (λ c. search needs) (λ c. search needs) sub-put-lengths part-put-lengths-start (λ c. search needs) put-lengths-requires sub-put-bytes
+    part-put-bytes-start (λ c. search needs) (λ c κs. search needs) same-length returns)

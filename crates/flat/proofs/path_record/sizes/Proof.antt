@@ -3,12 +3,9 @@ use borrow.Author.Needs.{needs}
 use Rattle.flat.proofs.path_record.sizes.Statement.{statement}
 use Rattle.flat.proofs.path_record.sizes.Tie as tie
 
-sizes-in-requires : tie.Need-sizes-in-requires
-sizes-in-requires c κs = search needs
-
 returns : tie.Need-returns
 unfolding pathIn
 returns c = c .sizes-in .ensures
 
 pub sizes-spec : {M : Type 1} → statement M
-sizes-spec = tie.close (tie.spec sizes-in-requires returns)
+sizes-spec = tie.close (tie.spec (λ c κs. search needs) returns)

@@ -22,20 +22,8 @@ abbrev μ-loop : tie.MeasureT-loop
 loop-holds : tie.Need-loop-holds Inv-loop μ-loop
 loop-holds c = (omega arith, refl, refl)
 
-mul-high : tie.Need-mul-high Inv-loop μ-loop
-mul-high c = omega arith
-
-add-high : tie.Need-add-high Inv-loop μ-loop
-add-high c = omega arith
-
-add-low : tie.Need-add-low Inv-loop μ-loop
-add-low c = omega arith
-
 shared-slice-read-wide : tie.Need-shared-slice-read-wide Inv-loop μ-loop
 shared-slice-read-wide c = omega (arith, c .before .before .before .before .pre)
-
-wide-requires : tie.Need-wide-requires Inv-loop μ-loop
-wide-requires c κs = search needs
 
 mul-lengths : tie.Need-mul-lengths Inv-loop μ-loop
 mul-lengths c = omega (arith, c .wide .ensures .1)
@@ -43,23 +31,8 @@ mul-lengths c = omega (arith, c .wide .ensures .1)
 shared-slice-read-wide-2 : tie.Need-shared-slice-read-wide-2 Inv-loop μ-loop
 shared-slice-read-wide-2 c = omega (arith, c .before .before .before .before .before .before .pre)
 
-wide-requires-2 : tie.Need-wide-requires-2 Inv-loop μ-loop
-wide-requires-2 c κs = search needs
-
 add-lengths : tie.Need-add-lengths Inv-loop μ-loop
 add-lengths c = omega (arith, c .wide2 .ensures .1, c .before .before .wide .ensures .1)
-
-mul-lengths-2 : tie.Need-mul-lengths-2 Inv-loop μ-loop
-mul-lengths-2 c = search needs
-
-array-write-lengths : tie.Need-array-write-lengths Inv-loop μ-loop
-array-write-lengths c = search needs
-
-add-i : tie.Need-add-i Inv-loop μ-loop
-add-i c = omega arith
-
-loop-less : tie.Need-loop-less Inv-loop μ-loop
-loop-less c = omega arith
 
 loop-again : tie.Need-loop-again Inv-loop μ-loop
 loop-again c =
@@ -81,17 +54,11 @@ all c =
     let i : l .i ≡ 20 = omega arith in
     sym (take-all 20 (l .lengths) (omega arith)) ∙ rw i at (l .inv .2)
 
-add-t21 : tie.Need-add-t21 Inv-loop μ-loop
-add-t21 c = omega arith
-
 returns : tie.Need-returns Inv-loop μ-loop
 returns c = rw (all (c .before), not-true (c .before .before .before .before .args .marked) (c .if1 .taken))
 
 shared-slice-read-wide-3 : tie.Need-shared-slice-read-wide-3 Inv-loop μ-loop
 shared-slice-read-wide-3 c = omega (arith, c .before .before .before .before .before .pre)
-
-wide-requires-3 : tie.Need-wide-requires-3 Inv-loop μ-loop
-wide-requires-3 c κs = search needs
 
 returns-2 : tie.Need-returns-2 Inv-loop μ-loop
 returns-2 c = rw (all (c .before .before .before), not-false (c .before .before .before .before .before .before .args .marked) (c .before .before .if1 .left), c .wide3 .ensures .0)
@@ -100,25 +67,6 @@ pub sizes-in-spec : {M : Type 1} → statement M
 sizes-in-spec =
     tie.close
     (tie.spec
-    Inv-loop
-    μ-loop
-    loop-holds
-    mul-high
-    add-high
-    add-low
-    shared-slice-read-wide
-    wide-requires
-    mul-lengths
-    shared-slice-read-wide-2
-    wide-requires-2
-    add-lengths
-    mul-lengths-2
-    array-write-lengths
-    add-i
-    loop-less
-    loop-again
-    add-t21
-    returns
-    shared-slice-read-wide-3
-    wide-requires-3
-    returns-2)
+    Inv-loop μ-loop loop-holds (λ c. omega arith) (λ c. omega arith) (λ c. omega arith) shared-slice-read-wide (λ c κs. search needs)
+    mul-lengths shared-slice-read-wide-2 (λ c κs. search needs) add-lengths (λ c. search needs) (λ c. search needs) (λ c. omega arith)
+    (λ c. omega arith) loop-again (λ c. omega arith) returns shared-slice-read-wide-3 (λ c κs. search needs) returns-2)

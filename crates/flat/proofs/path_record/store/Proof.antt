@@ -4,11 +4,8 @@ use borrow.Author.Needs.{needs}
 use Rattle.flat.proofs.path_record.store.Statement.{statement}
 use Rattle.flat.proofs.path_record.store.Tie as tie
 
-put-path-requires : tie.Need-put-path-requires
-put-path-requires c κs = search needs
-
 returns : tie.Need-returns
 returns c = puts-whole (c .put-path .ensures) (omega arith)
 
 pub store-spec : {M : Type 1} → statement M
-store-spec = tie.close (tie.spec put-path-requires returns)
+store-spec = tie.close (tie.spec (λ c κs. search needs) returns)

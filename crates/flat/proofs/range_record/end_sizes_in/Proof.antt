@@ -5,23 +5,9 @@ use borrow.Author.Needs.{needs}
 use Rattle.flat.proofs.range_record.end_sizes_in.Statement.{statement}
 use Rattle.flat.proofs.range_record.end_sizes_in.Tie as tie
 
-sub-sizes-in : tie.Need-sub-sizes-in
-sub-sizes-in c = search needs
-
-part-sizes-in-start : tie.Need-part-sizes-in-start
-part-sizes-in-start c = search needs
-
-part-sizes-in-end : tie.Need-part-sizes-in-end
-part-sizes-in-end c = search needs
-
-sizes-in-requires : tie.Need-sizes-in-requires
-sizes-in-requires c κs = search needs
-
 returns : tie.Need-returns
 unfolding rangeIn pathIn
 returns c = rw to-end at (c .sizes-in .ensures)
 
 pub end-sizes-in-spec : {M : Type 1} → statement M
-end-sizes-in-spec =
-    tie.close
-    (tie.spec sub-sizes-in part-sizes-in-start part-sizes-in-end sizes-in-requires returns)
+end-sizes-in-spec = tie.close (tie.spec (λ c. search needs) (λ c. search needs) (λ c. search needs) (λ c κs. search needs) returns)

@@ -11,29 +11,11 @@ use borrow.Author.Needs.{needs}
 use Rattle.flat.proofs.range_record.put_paths.Statement.{statement}
 use Rattle.flat.proofs.range_record.put_paths.Tie as tie
 
-sub-open : tie.Need-sub-open
-sub-open c = search needs
-
-sub-end : tie.Need-sub-end
-sub-end c = search needs
-
-put-path-requires : tie.Need-put-path-requires
-put-path-requires c κs = search needs
-
-bit-requires : tie.Need-bit-requires
-bit-requires c κs = search needs
-
-slice-write-flat : tie.Need-slice-write-flat
-slice-write-flat c = search needs
-
 sub-put-path : tie.Need-sub-put-path
 sub-put-path c = simp length-set (omega arith)
 
 part-put-path-start : tie.Need-part-put-path-start
 part-put-path-start c = simp length-set (omega arith)
-
-part-put-path-end : tie.Need-part-put-path-end
-part-put-path-end c = search needs
 
 put-path-requires-2 : tie.Need-put-path-requires-2
 put-path-requires-2 c κs = let s = c .before .before .before .before .before .before .before .before .before .before .before in (room-after (puts-byte (c .before .before .before .before .put-path .ensures) (c .before .bit .result) (omega (arith, s .pre))) 641 (s .pre .0), s .pre .2)
@@ -54,14 +36,5 @@ pub put-paths-spec : {M : Type 1} → statement M
 put-paths-spec =
     tie.close
     (tie.spec
-    sub-open
-    sub-end
-    put-path-requires
-    bit-requires
-    slice-write-flat
-    sub-put-path
-    part-put-path-start
-    part-put-path-end
-    put-path-requires-2
-    same-length
-    returns)
+    (λ c. search needs) (λ c. search needs) (λ c κs. search needs) (λ c κs. search needs) (λ c. search needs) sub-put-path
+    part-put-path-start (λ c. search needs) put-path-requires-2 same-length returns)

@@ -10,32 +10,11 @@ use borrow.Author.Needs.{needs}
 use Rattle.flat.proofs.range_record.put_subspaces.Statement.{statement}
 use Rattle.flat.proofs.range_record.put_subspaces.Tie as tie
 
-slice-aggregate-put-bytes : tie.Need-slice-aggregate-put-bytes
-slice-aggregate-put-bytes c = search needs
-
-put-bytes-requires : tie.Need-put-bytes-requires
-put-bytes-requires c κs = search needs
-
-bit-requires : tie.Need-bit-requires
-bit-requires c κs = search needs
-
-slice-write-flat : tie.Need-slice-write-flat
-slice-write-flat c = search needs
-
 sub-put-bytes : tie.Need-sub-put-bytes
 sub-put-bytes c = simp length-set (omega arith)
 
 part-put-bytes-start : tie.Need-part-put-bytes-start
 part-put-bytes-start c = simp length-set (omega arith)
-
-part-put-bytes-end : tie.Need-part-put-bytes-end
-part-put-bytes-end c = search needs
-
-slice-aggregate-put-bytes-2 : tie.Need-slice-aggregate-put-bytes-2
-slice-aggregate-put-bytes-2 c = search needs
-
-put-bytes-requires-2 : tie.Need-put-bytes-requires-2
-put-bytes-requires-2 c κs = search needs
 
 returns : tie.Need-returns
 returns c =
@@ -54,14 +33,5 @@ pub put-subspaces-spec : {M : Type 1} → statement M
 put-subspaces-spec =
     tie.close
     (tie.spec
-    slice-aggregate-put-bytes
-    put-bytes-requires
-    bit-requires
-    slice-write-flat
-    sub-put-bytes
-    part-put-bytes-start
-    part-put-bytes-end
-    slice-aggregate-put-bytes-2
-    put-bytes-requires-2
-    same-length
-    returns)
+    (λ c. search needs) (λ c κs. search needs) (λ c κs. search needs) (λ c. search needs) sub-put-bytes part-put-bytes-start
+    (λ c. search needs) (λ c. search needs) (λ c κs. search needs) same-length returns)

@@ -5,12 +5,9 @@ use borrow.Author.Needs.{needs}
 use Rattle.flat.proofs.range_record.store.Statement.{statement}
 use Rattle.flat.proofs.range_record.store.Tie as tie
 
-put-range-requires : tie.Need-put-range-requires
-put-range-requires c κs = search needs
-
 returns : tie.Need-returns
 unfolding rangeFlat
 returns c = puts-whole (c .put-range .ensures) (omega arith)
 
 pub store-spec : {M : Type 1} → statement M
-store-spec = tie.close (tie.spec put-range-requires returns)
+store-spec = tie.close (tie.spec (λ c κs. search needs) returns)

@@ -3,12 +3,9 @@ use borrow.Author.Needs.{needs}
 use Rattle.flat.proofs.range_record.subspaces.Statement.{statement}
 use Rattle.flat.proofs.range_record.subspaces.Tie as tie
 
-subspaces-in-requires : tie.Need-subspaces-in-requires
-subspaces-in-requires c κs = search needs
-
 returns : tie.Need-returns
 unfolding rangeIn
 returns c = c .subspaces-in .ensures
 
 pub subspaces-spec : {M : Type 1} → statement M
-subspaces-spec = tie.close (tie.spec subspaces-in-requires returns)
+subspaces-spec = tie.close (tie.spec (λ c κs. search needs) returns)

@@ -6,15 +6,6 @@ use borrow.Author.Needs.{needs}
 use Rattle.flat.proofs.range_record.subspaces_in.Statement.{statement}
 use Rattle.flat.proofs.range_record.subspaces_in.Tie as tie
 
-decode-id-requires : tie.Need-decode-id-requires
-decode-id-requires c κs = search needs
-
-decode-id-requires-2 : tie.Need-decode-id-requires-2
-decode-id-requires-2 c κs = search needs
-
-shared-slice-read-t7 : tie.Need-shared-slice-read-t7
-shared-slice-read-t7 c = search needs
-
 returns : tie.Need-returns
 returns c =
     let s = c .before .before .before .before .before .before in
@@ -24,5 +15,4 @@ returns c =
     rw (start, end)
 
 pub subspaces-in-spec : {M : Type 1} → statement M
-subspaces-in-spec =
-    tie.close (tie.spec decode-id-requires decode-id-requires-2 shared-slice-read-t7 returns)
+subspaces-in-spec = tie.close (tie.spec (λ c κs. search needs) (λ c κs. search needs) (λ c. search needs) returns)

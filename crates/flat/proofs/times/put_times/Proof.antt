@@ -8,32 +8,11 @@ use borrow.Author.Needs.{needs}
 use Rattle.flat.proofs.times.put_times.Statement.{statement}
 use Rattle.flat.proofs.times.put_times.Tie as tie
 
-put-big-endian-requires : tie.Need-put-big-endian-requires
-put-big-endian-requires c κs = search needs
-
-is-open-requires : tie.Need-is-open-requires
-is-open-requires c κs = search needs
-
-bit-requires : tie.Need-bit-requires
-bit-requires c κs = search needs
-
-slice-write-flat : tie.Need-slice-write-flat
-slice-write-flat c = search needs
-
 sub-put-big-endian : tie.Need-sub-put-big-endian
 sub-put-big-endian c = simp length-set (omega arith)
 
 part-put-big-endian-start : tie.Need-part-put-big-endian-start
 part-put-big-endian-start c = simp length-set (omega arith)
-
-part-put-big-endian-end : tie.Need-part-put-big-endian-end
-part-put-big-endian-end c = search needs
-
-end-time-requires : tie.Need-end-time-requires
-end-time-requires c κs = search needs
-
-put-big-endian-requires-2 : tie.Need-put-big-endian-requires-2
-put-big-endian-requires-2 c κs = search needs
 
 returns : tie.Need-returns
 unfolding timesFlat
@@ -52,14 +31,5 @@ pub put-times-spec : {M : Type 1} → statement M
 put-times-spec =
     tie.close
     (tie.spec
-    put-big-endian-requires
-    is-open-requires
-    bit-requires
-    slice-write-flat
-    sub-put-big-endian
-    part-put-big-endian-start
-    part-put-big-endian-end
-    end-time-requires
-    put-big-endian-requires-2
-    same-length
-    returns)
+    (λ c κs. search needs) (λ c κs. search needs) (λ c κs. search needs) (λ c. search needs) sub-put-big-endian part-put-big-endian-start
+    (λ c. search needs) (λ c κs. search needs) (λ c κs. search needs) same-length returns)

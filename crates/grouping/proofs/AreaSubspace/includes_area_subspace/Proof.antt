@@ -11,26 +11,10 @@ returns-2 : tie.Need-returns-2
 unfolding subspaceIncludes
 returns-2 c = rw (c .before .if1 .left, c .if2 .taken)
 
-slice-aggregate-same-bytes : tie.Need-slice-aggregate-same-bytes
-slice-aggregate-same-bytes c = search needs
-
-slice-aggregate-same-bytes-2 : tie.Need-slice-aggregate-same-bytes-2
-slice-aggregate-same-bytes-2 c = search needs
-
-same-bytes-requires : tie.Need-same-bytes-requires
-same-bytes-requires c κs = search needs
-
 returns-3 : tie.Need-returns-3
 unfolding subspaceIncludes
 returns-3 c = rw (c .before .before .before .before .before .before .if1 .left, c .before .before .before .before .before .if2 .left) (c .same-bytes .ensures)
 
 pub includes-area-subspace-spec : {M : Type 1} → statement M
 includes-area-subspace-spec =
-    tie.close
-    (tie.spec
-    returns
-    returns-2
-    slice-aggregate-same-bytes
-    slice-aggregate-same-bytes-2
-    same-bytes-requires
-    returns-3)
+    tie.close (tie.spec returns returns-2 (λ c. search needs) (λ c. search needs) (λ c κs. search needs) returns-3)

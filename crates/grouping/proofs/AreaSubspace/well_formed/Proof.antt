@@ -3,15 +3,6 @@ use borrow.Author.Needs.{needs}
 use Rattle.grouping.proofs.AreaSubspace.well_formed.Statement.{statement}
 use Rattle.grouping.proofs.AreaSubspace.well_formed.Tie as tie
 
-slice-aggregate-same-bytes : tie.Need-slice-aggregate-same-bytes
-slice-aggregate-same-bytes c = search needs
-
-slice-aggregate-same-bytes-2 : tie.Need-slice-aggregate-same-bytes-2
-slice-aggregate-same-bytes-2 c = search needs
-
-same-bytes-requires : tie.Need-same-bytes-requires
-same-bytes-requires c κs = search needs
-
 returns : tie.Need-returns
 unfolding wellFormedSubspace
 returns c = rw (c .before .before .before .before .if1 .taken) (c .same-bytes .ensures)
@@ -21,11 +12,4 @@ unfolding wellFormedSubspace
 returns-2 c = rw (c .if1 .left)
 
 pub well-formed-spec : {M : Type 1} → statement M
-well-formed-spec =
-    tie.close
-    (tie.spec
-    slice-aggregate-same-bytes
-    slice-aggregate-same-bytes-2
-    same-bytes-requires
-    returns
-    returns-2)
+well-formed-spec = tie.close (tie.spec (λ c. search needs) (λ c. search needs) (λ c κs. search needs) returns returns-2)

@@ -8,12 +8,9 @@ returns : tie.Need-returns
 unfolding bounds
 returns c = rw (lt-leb _ _ (c .if1 .taken))
 
-value-requires : tie.Need-value-requires
-value-requires c κs = search needs
-
 returns-2 : tie.Need-returns-2
 unfolding bounds
 returns-2 c = rw (le-leb _ _ (c .before .if1 .left), c .value .ensures)
 
 pub bounds-spec : {M : Type 1} → statement M
-bounds-spec = tie.close (tie.spec returns value-requires returns-2)
+bounds-spec = tie.close (tie.spec returns (λ c κs. search needs) returns-2)

@@ -8,12 +8,9 @@ returns : tie.Need-returns
 unfolding includesTime
 returns c = rw (lt-leb _ _ (c .if1 .taken))
 
-gt-val-requires : tie.Need-gt-val-requires
-gt-val-requires c κs = search needs
-
 returns-2 : tie.Need-returns-2
 unfolding includesTime
 returns-2 c = rw (le-leb _ _ (c .before .if1 .left)) (c .gt-val .ensures)
 
 pub includes-spec : {M : Type 1} → statement M
-includes-spec = tie.close (tie.spec returns gt-val-requires returns-2)
+includes-spec = tie.close (tie.spec returns (λ c κs. search needs) returns-2)

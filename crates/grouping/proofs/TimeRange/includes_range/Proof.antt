@@ -8,12 +8,9 @@ returns : tie.Need-returns
 unfolding includesRange
 returns c = rw (lt-leb _ _ (c .if1 .taken))
 
-at-most-requires : tie.Need-at-most-requires
-at-most-requires c κs = search needs
-
 returns-2 : tie.Need-returns-2
 unfolding includesRange
 returns-2 c = rw (le-leb _ _ (c .before .if1 .left)) (c .at-most .ensures)
 
 pub includes-range-spec : {M : Type 1} → statement M
-includes-range-spec = tie.close (tie.spec returns at-most-requires returns-2)
+includes-range-spec = tie.close (tie.spec returns (λ c κs. search needs) returns-2)

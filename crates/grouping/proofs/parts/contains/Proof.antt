@@ -21,26 +21,11 @@ right c = areaWith (c .args .other-subspace) (pathOf (now (c .args .other-bytes)
 told : (c : tie.After-enum-told) → let l = left (c .before .before .before .before .before .before .before) in let r = right (c .before .before .before .before .before .before .before) in areaInside l r ≡ verdict (bounds (l .times) (r .times .start) && bounds (l .times) (endValue (r .times .end)))
 told c = included-told (left (c .before .before .before .before .before .before .before)) (right (c .before .before .before .before .before .before .before)) (sym (c .before .before .includes .ensures) ∙ c .enum-told .given .1)
 
-includes-requires : tie.Need-includes-requires
-includes-requires c κs = search needs
-
-enum-told : tie.Need-enum-told
-enum-told c = search needs
-
 returns : tie.Need-returns
 returns c = not-included (left (c .before .before .before .before .before .before)) (right (c .before .before .before .before .before .before)) (c .before .includes .result) (c .before .includes .ensures) (c .match .keys2)
 
-bounds-requires : tie.Need-bounds-requires
-bounds-requires c κs = search needs
-
 returns-2 : tie.Need-returns-2
 returns-2 c = sym (told (c .before .before) ∙ rw (sym (c .before .bounds .ensures) ∙ not-true _ (c .if1 .taken)))
-
-value-requires : tie.Need-value-requires
-value-requires c κs = search needs
-
-bounds-requires-2 : tie.Need-bounds-requires-2
-bounds-requires-2 c κs = search needs
 
 returns-3 : tie.Need-returns-3
 returns-3 c = sym (told (c .before .before .before .before .before) ∙ rw ((sym (c .before .before .before .before .bounds .ensures) ∙ not-false _ (c .before .before .before .if1 .left)), ← (c .before .before .value .ensures), (sym (c .before .bounds2 .ensures) ∙ not-true _ (c .if2 .taken))))
@@ -52,12 +37,5 @@ pub contains-spec : {M : Type 1} → statement M
 contains-spec =
     tie.close
     (tie.spec
-    includes-requires
-    enum-told
-    returns
-    bounds-requires
-    returns-2
-    value-requires
-    bounds-requires-2
-    returns-3
-    returns-4)
+    (λ c κs. search needs) (λ c. search needs) returns (λ c κs. search needs) returns-2 (λ c κs. search needs) (λ c κs. search needs)
+    returns-3 returns-4)

@@ -28,36 +28,18 @@ right-well c = sym (c .before .well-formed2 .ensures) ∙ not-false _ (c .if2 .l
 told : (c : tie.After-enum-told) → let l = left (c .before .before .before .before .before .before .before .before .before .before .before) in let r = right (c .before .before .before .before .before .before .before .before .before .before .before) in areaIncludes l r ≡ verdict (includesSubspace (subspaceOf (l .subspace)) (subspaceOf (r .subspace)) && includesRange (l .times) (r .times))
 told c = prefix-told (left (c .before .before .before .before .before .before .before .before .before .before .before)) (right (c .before .before .before .before .before .before .before .before .before .before .before)) (left-well (c .before .before .before .before .before)) (right-well (c .before .before .before)) (sym (c .before .before .is-prefix-of .ensures) ∙ c .enum-told .given .1)
 
-well-formed-requires : tie.Need-well-formed-requires
-well-formed-requires c κs = search needs
-
 returns : tie.Need-returns
 returns c = sym (reference-malformed (left (c .before .before .before .before .before .before)) (right (c .before .before .before .before .before .before)) (sym (c .before .well-formed .ensures) ∙ not-true _ (c .if1 .taken)))
-
-well-formed-requires-2 : tie.Need-well-formed-requires-2
-well-formed-requires-2 c κs = search needs
 
 returns-2 : tie.Need-returns-2
 returns-2 c = sym (area-malformed (left (c .before .before .before .before .before .before .before .before)) (right (c .before .before .before .before .before .before .before .before)) (sym (c .before .well-formed2 .ensures) ∙ not-true _ (c .if2 .taken)))
 
-is-prefix-of-requires : tie.Need-is-prefix-of-requires
-is-prefix-of-requires c κs = search needs
-
-enum-told : tie.Need-enum-told
-enum-told c = search needs
-
 returns-3 : tie.Need-returns-3
 returns-3 c = not-prefix (left (c .before .before .before .before .before .before .before .before .before .before)) (right (c .before .before .before .before .before .before .before .before .before .before)) (left-well (c .before .before .before .before)) (right-well (c .before .before)) (c .before .is-prefix-of .result) (c .before .is-prefix-of .ensures) (c .match .keys2)
-
-includes-area-subspace-requires : tie.Need-includes-area-subspace-requires
-includes-area-subspace-requires c κs = search needs
 
 returns-4 : tie.Need-returns-4
 unfolding subspaceIncludes
 returns-4 c = sym (told (c .before .before) ∙ rw (sym (c .before .includes-area-subspace .ensures) ∙ not-true _ (c .if3 .taken)))
-
-includes-range-requires : tie.Need-includes-range-requires
-includes-range-requires c κs = search needs
 
 returns-5 : tie.Need-returns-5
 unfolding subspaceIncludes
@@ -71,15 +53,5 @@ pub includes-spec : {M : Type 1} → statement M
 includes-spec =
     tie.close
     (tie.spec
-    well-formed-requires
-    returns
-    well-formed-requires-2
-    returns-2
-    is-prefix-of-requires
-    enum-told
-    returns-3
-    includes-area-subspace-requires
-    returns-4
-    includes-range-requires
-    returns-5
-    returns-6)
+    (λ c κs. search needs) returns (λ c κs. search needs) returns-2 (λ c κs. search needs) (λ c. search needs) returns-3
+    (λ c κs. search needs) returns-4 (λ c κs. search needs) returns-5 returns-6)

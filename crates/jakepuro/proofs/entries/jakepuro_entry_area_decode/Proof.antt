@@ -3,24 +3,6 @@ use borrow.Author.Needs.{needs}
 use Rattle.jakepuro.proofs.entries.jakepuro_entry_area_decode.Statement.{statement}
 use Rattle.jakepuro.proofs.entries.jakepuro_entry_area_decode.Tie as tie
 
-path-sizes-requires : tie.Need-path-sizes-requires
-path-sizes-requires c κs = search needs
-
-subspace-requires : tie.Need-subspace-requires
-subspace-requires c κs = search needs
-
-times-requires : tie.Need-times-requires
-times-requires c κs = search needs
-
-path-bytes-requires : tie.Need-path-bytes-requires
-path-bytes-requires c κs = search needs
-
-relative-decode-requires : tie.Need-relative-decode-requires
-relative-decode-requires c κs = search needs
-
-give-entry-requires : tie.Need-give-entry-requires
-give-entry-requires c κs = search needs
-
 returns : tie.Need-returns
 returns c = rw (c .before .before .before .before .before .before .before .before .before .before .before .path-sizes .ensures, c .before .before .before .before .before .before .before .before .before .before .subspace .ensures, c .before .before .before .before .before .before .before .before .before .times .ensures, c .before .before .before .before .before .before .before .before .path-bytes .ensures) at (stores-as (c .give-entry .ensures) (c .before .before .before .before .relative-decode .ensures .answer))
 
@@ -28,10 +10,5 @@ pub jakepuro-entry-area-decode-spec : {M : Type 1} → statement M
 jakepuro-entry-area-decode-spec =
     tie.close
     (tie.spec
-    path-sizes-requires
-    subspace-requires
-    times-requires
-    path-bytes-requires
-    relative-decode-requires
-    give-entry-requires
-    returns)
+    (λ c κs. search needs) (λ c κs. search needs) (λ c κs. search needs) (λ c κs. search needs) (λ c κs. search needs)
+    (λ c κs. search needs) returns)

@@ -7,26 +7,11 @@ use borrow.Author.Needs.{needs}
 use Rattle.jakepuro.proofs.numbers.jakepuro_number_decode.Statement.{statement}
 use Rattle.jakepuro.proofs.numbers.jakepuro_number_decode.Tie as tie
 
-width-of-requires : tie.Need-width-of-requires
-width-of-requires c κs = search needs
-
-enum-known-known : tie.Need-enum-known-known
-enum-known-known c = search needs
-
-enum-told : tie.Need-enum-told
-enum-told c = search needs
-
 returns : tie.Need-returns
 returns c =
     let a = c .before .before .before .before .args in
     let e = has-no-bits (c .before .before .width-of .result) (a .width) (c .enum-told .given .1) (c .before .before .width-of .ensures) in
     rw (tagged-refused (a .canonic) (a .width) (a .tag) (drop (a .start) (now (a .message))) e) (record { code = refl; count = refl; value = refl })
-
-relative-decode-requires : tie.Need-relative-decode-requires
-relative-decode-requires c κs = search needs
-
-give-number-requires : tie.Need-give-number-requires
-give-number-requires c κs = search needs
 
 returns-2 : tie.Need-returns-2
 returns-2 c =
@@ -39,10 +24,4 @@ pub jakepuro-number-decode-spec : {M : Type 1} → statement M
 jakepuro-number-decode-spec =
     tie.close
     (tie.spec
-    width-of-requires
-    enum-known-known
-    enum-told
-    returns
-    relative-decode-requires
-    give-number-requires
-    returns-2)
+    (λ c κs. search needs) (λ c. search needs) (λ c. search needs) returns (λ c κs. search needs) (λ c κs. search needs) returns-2)

@@ -10,36 +10,12 @@ use borrow.Author.Needs.{needs}
 use Rattle.jakepuro.proofs.numbers.jakepuro_number_encode.Statement.{statement}
 use Rattle.jakepuro.proofs.numbers.jakepuro_number_encode.Tie as tie
 
-width-of-requires : tie.Need-width-of-requires
-width-of-requires c κs = search needs
-
-enum-known-known : tie.Need-enum-known-known
-enum-known-known c = search needs
-
-enum-told : tie.Need-enum-told
-enum-told c = search needs
-
-tell-length-requires : tie.Need-tell-length-requires
-tell-length-requires c κs = search needs
-
 returns : tie.Need-returns
 returns c =
     let a = c .before .before .before .before .before .before .args in
     let e = has-no-bits (c .before .before .before .before .width-of .result) (a .width) (c .before .before .enum-told .given .1) (c .before .before .before .before .width-of .ensures) in
     let p = put-barred (tagged (a .width) .check (a .value)) (numberBytes (a .width) (a .value)) (now (a .buffer)) 5 (tagged-barred (a .width) (a .value) e) in
     (encodes p (c .tell-length .ensures), rw (← (p .0)))
-
-relative-encode-requires : tie.Need-relative-encode-requires
-relative-encode-requires c κs = search needs
-
-enum-told-2 : tie.Need-enum-told-2
-enum-told-2 c = search needs
-
-tell-length-requires-2 : tie.Need-tell-length-requires-2
-tell-length-requires-2 c κs = search needs
-
-same-length : tie.Need-same-length
-same-length c = search needs
 
 returns-2 : tie.Need-returns-2
 returns-2 c =
@@ -49,15 +25,6 @@ returns-2 c =
     let w = tagged-writes (a .width) (a .value) t h _ (now (a .buffer)) _ (c .before .before .before .before .before .relative-encode .ensures) in
     let d = no-length (c .before .before .before .before .before .relative-encode .result) (c .before .before .match2 .keys2) .is in
     (encodes w (c .tell-length2 .ensures), rw (← (w .0), d))
-
-min-tag-requires : tie.Need-min-tag-requires
-min-tag-requires c κs = search needs
-
-tell-length-requires-3 : tie.Need-tell-length-requires-3
-tell-length-requires-3 c κs = search needs
-
-same-length-2 : tie.Need-same-length-2
-same-length-2 c = search needs
 
 returns-3 : tie.Need-returns-3
 returns-3 c =
@@ -71,17 +38,5 @@ pub jakepuro-number-encode-spec : {M : Type 1} → statement M
 jakepuro-number-encode-spec =
     tie.close
     (tie.spec
-    width-of-requires
-    enum-known-known
-    enum-told
-    tell-length-requires
-    returns
-    relative-encode-requires
-    enum-told-2
-    tell-length-requires-2
-    same-length
-    returns-2
-    min-tag-requires
-    tell-length-requires-3
-    same-length-2
-    returns-3)
+    (λ c κs. search needs) (λ c. search needs) (λ c. search needs) (λ c κs. search needs) returns (λ c κs. search needs) (λ c. search needs)
+    (λ c κs. search needs) (λ c. search needs) returns-2 (λ c κs. search needs) (λ c κs. search needs) (λ c. search needs) returns-3)

@@ -3,14 +3,8 @@ use borrow.Author.Needs.{needs}
 use Rattle.jakepuro.proofs.numbers.jakepuro_standalone_decode.Statement.{statement}
 use Rattle.jakepuro.proofs.numbers.jakepuro_standalone_decode.Tie as tie
 
-decode-requires : tie.Need-decode-requires
-decode-requires c κs = search needs
-
-give-number-requires : tie.Need-give-number-requires
-give-number-requires c κs = search needs
-
 returns : tie.Need-returns
 returns c = stores-as (c .give-number .ensures) (c .before .before .before .decode .ensures)
 
 pub jakepuro-standalone-decode-spec : {M : Type 1} → statement M
-jakepuro-standalone-decode-spec = tie.close (tie.spec decode-requires give-number-requires returns)
+jakepuro-standalone-decode-spec = tie.close (tie.spec (λ c κs. search needs) (λ c κs. search needs) returns)

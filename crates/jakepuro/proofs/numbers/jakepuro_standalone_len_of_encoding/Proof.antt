@@ -8,16 +8,9 @@ use Rattle.jakepuro.proofs.numbers.jakepuro_standalone_len_of_encoding.
 }
 use Rattle.jakepuro.proofs.numbers.jakepuro_standalone_len_of_encoding.Tie as tie
 
-len-of-encoding-requires : tie.Need-len-of-encoding-requires
-len-of-encoding-requires c κs = search needs
-
-tell-length-requires : tie.Need-tell-length-requires
-tell-length-requires c κs = search needs
-
 returns : tie.Need-returns
 unfolding lengthAnswer
 returns c = told-as (c .tell-length .ensures) (ap wrote (c .before .before .len-of-encoding .ensures .0))
 
 pub jakepuro-standalone-len-of-encoding-spec : {M : Type 1} → statement M
-jakepuro-standalone-len-of-encoding-spec =
-    tie.close (tie.spec len-of-encoding-requires tell-length-requires returns)
+jakepuro-standalone-len-of-encoding-spec = tie.close (tie.spec (λ c κs. search needs) (λ c κs. search needs) returns)

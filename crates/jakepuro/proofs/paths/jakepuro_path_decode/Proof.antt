@@ -3,14 +3,8 @@ use borrow.Author.Needs.{needs}
 use Rattle.jakepuro.proofs.paths.jakepuro_path_decode.Statement.{statement}
 use Rattle.jakepuro.proofs.paths.jakepuro_path_decode.Tie as tie
 
-decode-requires : tie.Need-decode-requires
-decode-requires c κs = search needs
-
-give-path-requires : tie.Need-give-path-requires
-give-path-requires c κs = search needs
-
 returns : tie.Need-returns
 returns c = stores-as (c .give-path .ensures) (c .before .before .before .before .decode .ensures .answer)
 
 pub jakepuro-path-decode-spec : {M : Type 1} → statement M
-jakepuro-path-decode-spec = tie.close (tie.spec decode-requires give-path-requires returns)
+jakepuro-path-decode-spec = tie.close (tie.spec (λ c κs. search needs) (λ c κs. search needs) returns)

@@ -3,24 +3,6 @@ use borrow.Author.Needs.{needs}
 use Rattle.jakepuro.proofs.paths.jakepuro_path_path_len_of_encoding.Statement.{statement}
 use Rattle.jakepuro.proofs.paths.jakepuro_path_path_len_of_encoding.Tie as tie
 
-sizes-requires : tie.Need-sizes-requires
-sizes-requires c κs = search needs
-
-sizes-requires-2 : tie.Need-sizes-requires-2
-sizes-requires-2 c κs = search needs
-
-bytes-requires : tie.Need-bytes-requires
-bytes-requires c κs = search needs
-
-bytes-requires-2 : tie.Need-bytes-requires-2
-bytes-requires-2 c κs = search needs
-
-relative-len-of-encoding-requires : tie.Need-relative-len-of-encoding-requires
-relative-len-of-encoding-requires c κs = search needs
-
-tell-length-requires : tie.Need-tell-length-requires
-tell-length-requires c κs = search needs
-
 returns : tie.Need-returns
 returns c = rw (c .before .before .before .before .before .before .before .before .before .before .before .before .sizes .ensures, c .before .before .before .before .before .before .before .before .before .before .before .sizes2 .ensures, c .before .before .before .before .before .before .before .before .before .before .bytes .ensures, c .before .before .before .before .before .before .bytes2 .ensures) at (told-as (c .tell-length .ensures) (c .before .before .relative-len-of-encoding .ensures))
 
@@ -28,10 +10,5 @@ pub jakepuro-path-path-len-of-encoding-spec : {M : Type 1} → statement M
 jakepuro-path-path-len-of-encoding-spec =
     tie.close
     (tie.spec
-    sizes-requires
-    sizes-requires-2
-    bytes-requires
-    bytes-requires-2
-    relative-len-of-encoding-requires
-    tell-length-requires
-    returns)
+    (λ c κs. search needs) (λ c κs. search needs) (λ c κs. search needs) (λ c κs. search needs) (λ c κs. search needs)
+    (λ c κs. search needs) returns)

@@ -17,9 +17,6 @@ well c = sym (c .before .well-formed .ensures) ∙ not-false _ (c .if1 .left)
 here : (c : tie.Else1) → Formed (c .before .before .args .t1)
 here c = formed (typed (c .before .before .args .t1) (c .before .before .good .0)) (well c)
 
-well-formed-requires : tie.Need-well-formed-requires
-well-formed-requires c κs = search needs
-
 returns : tie.Need-returns
 unfolding componentAt
 returns c =
@@ -60,12 +57,5 @@ pub component-spec : {M : Type 1} → statement M
 component-spec =
     tie.close
     (tie.spec
-    well-formed-requires
-    returns
-    returns-2
-    array-share-prefix-lengths
-    slice-aggregate-sum
-    sum-requires
-    mul-t13
-    element-copy-out-t16
+    (λ c κs. search needs) returns returns-2 array-share-prefix-lengths slice-aggregate-sum sum-requires mul-t13 element-copy-out-t16
     returns-3)

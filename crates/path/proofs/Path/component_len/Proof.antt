@@ -16,15 +16,9 @@ returns c =
     let past : length (a .t1 .lengths) ≤ a .i = omega arith in
     sym (List·getD-eq-default (a .t1 .lengths) 0 past)
 
-mul-result : tie.Need-mul-result
-mul-result c = search needs
-
-element-copy-out-result : tie.Need-element-copy-out-result
-element-copy-out-result c = search needs
-
 returns-2 : tie.Need-returns-2
 unfolding lengthAt
 returns-2 c = refl
 
 pub component-len-spec : {M : Type 1} → statement M
-component-len-spec = tie.close (tie.spec returns mul-result element-copy-out-result returns-2)
+component-len-spec = tie.close (tie.spec returns (λ c. search needs) (λ c. search needs) returns-2)

@@ -16,15 +16,6 @@ told c =
     let s = start c in
     equal-verdict (s .args .self) (s .args .other) _ (sym (c .before .before .longest-common-prefix .ensures) ∙ c .common .given .1)
 
-longest-common-prefix-requires : tie.Need-longest-common-prefix-requires
-longest-common-prefix-requires c κs = search needs
-
-enum-known-common : tie.Need-enum-known-common
-enum-known-common c = search needs
-
-enum-told : tie.Need-enum-told
-enum-told c = search needs
-
 returns : tie.Need-returns
 returns c = sym (equal-malformed _ _ (sym (c .before .before .longest-common-prefix .ensures) ∙ c .enum-told .given .1))
 
@@ -38,13 +29,4 @@ returns-4 : tie.Need-returns-4
 returns-4 c = sym (told (c .before .before .before .before .before) ∙ rw (eq-eqb _ _ (c .before .before .if1 .left), eq-eqb _ _ (c .if2 .left)))
 
 pub equals-spec : {M : Type 1} → statement M
-equals-spec =
-    tie.close
-    (tie.spec
-    longest-common-prefix-requires
-    enum-known-common
-    enum-told
-    returns
-    returns-2
-    returns-3
-    returns-4)
+equals-spec = tie.close (tie.spec (λ c κs. search needs) (λ c. search needs) (λ c. search needs) returns returns-2 returns-3 returns-4)

@@ -16,17 +16,11 @@ bytes-long c = length-unmapped ℕ (c .args .self .path .bytes) 600 (c .good .0 
 lengths-long : (c : tie.Start) → length (c .args .self .path .lengths) ≡ 20
 lengths-long c = length-unmapped ℕ (c .args .self .path .lengths) 20 (c .good .0 .1 .1 .0 .1 .1 .1 .0 .1 .0 .1)
 
-is-made-requires : tie.Need-is-made-requires
-is-made-requires c κs = search needs
-
 returns : tie.Need-returns
 unfolding appendComponent
 returns c =
     let m = c .before .is-made in
     rw (← (m .ensures), not-true (m .result) (c .if1 .taken))
-
-push-component-requires : tie.Need-push-component-requires
-push-component-requires c κs = search needs
 
 returns-2 : tie.Need-returns-2
 returns-2 c =
@@ -37,5 +31,4 @@ returns-2 c =
     c .push-component .ensures ∙ appends b (now (s .args .component)) is (rebuilt b (bytes-long s) (lengths-long s) is)
 
 pub append-component-spec : {M : Type 1} → statement M
-append-component-spec =
-    tie.close (tie.spec is-made-requires returns push-component-requires returns-2)
+append-component-spec = tie.close (tie.spec (λ c κs. search needs) returns (λ c κs. search needs) returns-2)

@@ -39,12 +39,6 @@ slice-aggregate-sum c = sym (taken (c .before .before .before .before))
 sum-requires : tie.Need-sum-requires
 sum-requires c κs = omega (arith, fits (c .before .before .before .before))
 
-sub-put-bytes : tie.Need-sub-put-bytes
-sub-put-bytes c = search needs
-
-part-bytes-start : tie.Need-part-bytes-start
-part-bytes-start c = search needs
-
 part-bytes-end : tie.Need-part-bytes-end
 part-bytes-end c = let s = c .before .before .before .before .before .before in omega (arith, extended-bytes (s .args .self) (s .args .path) (s .args .k) (s .pre) (formed s))
 
@@ -53,18 +47,6 @@ array-share-prefix-source c = omega (arith, fits (c .before .before .before .bef
 
 slice-aggregate-put-bytes : tie.Need-slice-aggregate-put-bytes
 slice-aggregate-put-bytes c = let s = c .before .before .before .before .before .before .before .before in sym (length-take-le (c .before .before .before .sum .result) (s .args .path .bytes) (omega (arith, fits s, formed s .bytes, c .before .before .before .sum .ensures)))
-
-put-bytes-requires : tie.Need-put-bytes-requires
-put-bytes-requires c κs = search needs
-
-mul-lengths : tie.Need-mul-lengths
-mul-lengths c = search needs
-
-sub-put-lengths : tie.Need-sub-put-lengths
-sub-put-lengths c = search needs
-
-part-lengths-start : tie.Need-part-lengths-start
-part-lengths-start c = search needs
 
 part-lengths-end : tie.Need-part-lengths-end
 part-lengths-end c = let s = c .before .before .before .before .before .before .before .before .before .before .before in omega (arith, extended-lengths (s .args .self) (s .args .path) (s .args .k) (s .pre) (formed s))
@@ -82,9 +64,6 @@ put-lengths-requires c κs =
     let long = extended-lengths (a .self) (a .path) (a .k) (s .pre) (formed s) in
     rw (taken s, rest-part (a .self .path .count) 20 (a .self .path .lengths) long, length-drop) (omega (arith, s .pre .few, long))
 
-add-t18 : tie.Need-add-t18
-add-t18 c = search needs
-
 add-t26 : tie.Need-add-t26
 add-t26 c = omega (arith, fits (c .before .before .before .before .before .before .before .before .before .before .before .before .before .before .before), c .before .before .before .before .before .before .before .before .before .before .sum .ensures)
 
@@ -97,22 +76,6 @@ pub extended-spec : {M : Type 1} → statement M
 extended-spec =
     tie.close
     (tie.spec
-    array-share-prefix-sizes
-    slice-aggregate-sum
-    sum-requires
-    sub-put-bytes
-    part-bytes-start
-    part-bytes-end
-    array-share-prefix-source
-    slice-aggregate-put-bytes
-    put-bytes-requires
-    mul-lengths
-    sub-put-lengths
-    part-lengths-start
-    part-lengths-end
-    array-share-prefix-sizes-2
-    slice-aggregate-put-lengths
-    put-lengths-requires
-    add-t18
-    add-t26
-    returns)
+    array-share-prefix-sizes slice-aggregate-sum sum-requires (λ c. search needs) (λ c. search needs) part-bytes-end
+    array-share-prefix-source slice-aggregate-put-bytes (λ c κs. search needs) (λ c. search needs) (λ c. search needs) (λ c. search needs)
+    part-lengths-end array-share-prefix-sizes-2 slice-aggregate-put-lengths put-lengths-requires (λ c. search needs) add-t26 returns)

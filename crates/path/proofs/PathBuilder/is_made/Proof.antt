@@ -18,9 +18,6 @@ lengths-long c = length-unmapped ℕ (c .args .self .path .lengths) 20 (c .good 
 well : (c : tie.Else1) → WellFormed (c .before .before .before .args .self .path)
 well c = well-formed _ (sym (c .before .well-formed .ensures) ∙ not-false (c .before .well-formed .result) (c .if1 .left))
 
-well-formed-requires : tie.Need-well-formed-requires
-well-formed-requires c κs = search needs
-
 returns : tie.Need-returns
 unfolding isBuilder
 returns c =
@@ -43,12 +40,4 @@ returns-2 c =
     rw (← (w .ensures), not-false (w .result) (c .before .before .before .before .if1 .left), ← (c .before .sum .ensures))
 
 pub is-made-spec : {M : Type 1} → statement M
-is-made-spec =
-    tie.close
-    (tie.spec
-    well-formed-requires
-    returns
-    array-share-prefix-lengths
-    slice-aggregate-sum
-    sum-requires
-    returns-2)
+is-made-spec = tie.close (tie.spec (λ c κs. search needs) returns array-share-prefix-lengths slice-aggregate-sum sum-requires returns-2)

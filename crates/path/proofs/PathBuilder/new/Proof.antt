@@ -2,11 +2,8 @@ use borrow.Author.Needs.{needs}
 use Rattle.path.proofs.PathBuilder.new.Statement.{statement}
 use Rattle.path.proofs.PathBuilder.new.Tie as tie
 
-new-empty-requires : tie.Need-new-empty-requires
-new-empty-requires c κs = search needs
-
 returns : tie.Need-returns
 returns c = rw (c .new-empty .ensures)
 
 pub new-spec : {M : Type 1} → statement M
-new-spec = tie.close (tie.spec new-empty-requires returns)
+new-spec = tie.close (tie.spec (λ c κs. search needs) returns)

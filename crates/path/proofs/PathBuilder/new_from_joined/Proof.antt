@@ -59,20 +59,11 @@ fits c = omega (arith, c .if3 .left, first-total (c .before .before .before .bef
 few : (c : tie.Else4) → c .before .before .before .before .before .before .before .before .before .before .before .before .args .prefix .count + c .before .before .before .before .before .before .before .before .before .before .before .before .args .suffix .count ≤ 20
 few c = omega (arith, prefix-formed (c .before .before .before .before .before .before .before .before .before) .well .count)
 
-new-requires : tie.Need-new-requires
-new-requires c κs = search needs
-
-well-formed-requires : tie.Need-well-formed-requires
-well-formed-requires c κs = search needs
-
 returns : tie.Need-returns
 unfolding joinedBuilder
 returns c =
     let w = c .before .well-formed in
     rw (← (w .ensures), not-true (w .result) (c .if1 .taken), c .before .before .new .ensures)
-
-well-formed-requires-2 : tie.Need-well-formed-requires-2
-well-formed-requires-2 c κs = search needs
 
 returns-2 : tie.Need-returns-2
 unfolding joinedBuilder
@@ -139,18 +130,5 @@ pub new-from-joined-spec : {M : Type 1} → statement M
 new-from-joined-spec =
     tie.close
     (tie.spec
-    new-requires
-    well-formed-requires
-    returns
-    well-formed-requires-2
-    returns-2
-    extended-requires
-    array-share-prefix-lengths
-    slice-aggregate-sum
-    sum-requires
-    sub-if3
-    returns-3
-    sub-if4
-    returns-4
-    extended-requires-2
-    returns-5)
+    (λ c κs. search needs) (λ c κs. search needs) returns (λ c κs. search needs) returns-2 extended-requires array-share-prefix-lengths
+    slice-aggregate-sum sum-requires sub-if3 returns-3 sub-if4 returns-4 extended-requires-2 returns-5)

@@ -26,12 +26,6 @@ formed c =
       well = well-formed _ (well c);
     }
 
-new-requires : tie.Need-new-requires
-new-requires c κs = search needs
-
-well-formed-requires : tie.Need-well-formed-requires
-well-formed-requires c κs = search needs
-
 returns : tie.Need-returns
 unfolding prefixBuilder
 returns c =
@@ -56,6 +50,4 @@ returns-3 c =
     rw (well (c .before .before), le-leb _ _ (c .before .if2 .left), grown)
 
 pub new-from-prefix-spec : {M : Type 1} → statement M
-new-from-prefix-spec =
-    tie.close
-    (tie.spec new-requires well-formed-requires returns returns-2 extended-requires returns-3)
+new-from-prefix-spec = tie.close (tie.spec (λ c κs. search needs) (λ c κs. search needs) returns returns-2 extended-requires returns-3)

@@ -28,9 +28,6 @@ bytes-long c = length-unmapped ℕ (c .args .self .path .bytes) 600 (c .good .0 
 room : (c : tie.Else1 Inv-loop μ-loop) → Fitting (c .before .before .before .before .args .self .total) (c .before .before .before .before .args .self .path .count) (length (now (c .before .before .before .before .args .component)))
 room c = fitting _ _ _ (sym (c .before .fits-after .ensures) ∙ not-false (c .before .fits-after .result) (c .if1 .left))
 
-fits-after-requires : tie.Need-fits-after-requires Inv-loop μ-loop
-fits-after-requires c κs = search needs
-
 returns : tie.Need-returns Inv-loop μ-loop
 unfolding pushComponent
 returns c =
@@ -43,17 +40,8 @@ loop-holds c = let a = c .before .before .before .before .args in (omega arith, 
 add-k : tie.Need-add-k Inv-loop μ-loop
 add-k c = omega (arith, room (c .before .before) .fits)
 
-shared-slice-read-path : tie.Need-shared-slice-read-path Inv-loop μ-loop
-shared-slice-read-path c = omega arith
-
 element-write-path : tie.Need-element-write-path Inv-loop μ-loop
 element-write-path c = omega (arith, room (c .before .before .before) .fits)
-
-add-i : tie.Need-add-i Inv-loop μ-loop
-add-i c = omega arith
-
-loop-less : tie.Need-loop-less Inv-loop μ-loop
-loop-less c = omega arith
 
 loop-again : tie.Need-loop-again Inv-loop μ-loop
 loop-again c =
@@ -93,19 +81,5 @@ pub push-component-spec : {M : Type 1} → statement M
 push-component-spec =
     tie.close
     (tie.spec
-    Inv-loop
-    μ-loop
-    fits-after-requires
-    returns
-    loop-holds
-    add-k
-    shared-slice-read-path
-    element-write-path
-    add-i
-    loop-less
-    loop-again
-    mul-path
-    element-write-path-2
-    add-path
-    add-self
-    returns-2)
+    Inv-loop μ-loop (λ c κs. search needs) returns loop-holds add-k (λ c. omega arith) element-write-path (λ c. omega arith)
+    (λ c. omega arith) loop-again mul-path element-write-path-2 add-path add-self returns-2)

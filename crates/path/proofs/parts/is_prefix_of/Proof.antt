@@ -19,15 +19,6 @@ right c = pathOf (now (c .args .other-bytes)) (now (c .args .other-lengths)) (c 
 told : (c : tie.After-common) → prefixOf (left (c .before .before .before .before .before .before .before)) (right (c .before .before .before .before .before .before .before)) ≡ verdict (eqb (c .common .given .0 .0) (c .before .before .before .before .before .before .before .args .count))
 told c = prefix-verdict (left (c .before .before .before .before .before .before .before)) (right (c .before .before .before .before .before .before .before)) _ (sym (c .before .before .longest-common-prefix .ensures) ∙ c .common .given .1)
 
-longest-common-prefix-requires : tie.Need-longest-common-prefix-requires
-longest-common-prefix-requires c κs = search needs
-
-enum-known-common : tie.Need-enum-known-common
-enum-known-common c = search needs
-
-enum-told : tie.Need-enum-told
-enum-told c = search needs
-
 returns : tie.Need-returns
 returns c = sym (prefix-malformed _ _ (sym (c .before .before .longest-common-prefix .ensures) ∙ c .enum-told .given .1))
 
@@ -38,12 +29,4 @@ returns-3 : tie.Need-returns-3
 returns-3 c = sym (told (c .before .before) ∙ rw (ne-eqb _ _ (c .if1 .left)))
 
 pub is-prefix-of-spec : {M : Type 1} → statement M
-is-prefix-of-spec =
-    tie.close
-    (tie.spec
-    longest-common-prefix-requires
-    enum-known-common
-    enum-told
-    returns
-    returns-2
-    returns-3)
+is-prefix-of-spec = tie.close (tie.spec (λ c κs. search needs) (λ c. search needs) (λ c. search needs) returns returns-2 returns-3)

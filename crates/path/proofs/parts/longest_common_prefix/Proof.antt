@@ -22,17 +22,11 @@ left-well c = sym (c .before .well-formed .ensures) ∙ not-false _ (c .if1 .lef
 right-well : (c : tie.Else2) → wellFormed (right (c .before .before .before .before .before .before .before .before)) ≡ true
 right-well c = sym (c .before .well-formed2 .ensures) ∙ not-false _ (c .if2 .left)
 
-well-formed-requires : tie.Need-well-formed-requires
-well-formed-requires c κs = search needs
-
 returns : tie.Need-returns
 unfolding commonPrefix
 returns c =
     let e : wellFormed (left (c .before .before .before .before .before .before)) ≡ false = sym (c .before .well-formed .ensures) ∙ not-true _ (c .if1 .taken) in
     rw e
-
-well-formed-requires-2 : tie.Need-well-formed-requires-2
-well-formed-requires-2 c κs = search needs
 
 returns-2 : tie.Need-returns-2
 unfolding commonPrefix
@@ -49,11 +43,4 @@ returns-3 c = rw (left-well (c .before .before .before), right-well (c .before))
 
 pub longest-common-prefix-spec : {M : Type 1} → statement M
 longest-common-prefix-spec =
-    tie.close
-    (tie.spec
-    well-formed-requires
-    returns
-    well-formed-requires-2
-    returns-2
-    shared-components-requires
-    returns-3)
+    tie.close (tie.spec (λ c κs. search needs) returns (λ c κs. search needs) returns-2 shared-components-requires returns-3)

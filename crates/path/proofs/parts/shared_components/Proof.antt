@@ -29,14 +29,8 @@ inside c = left-inside (c .before .before .components .inv) (c .before .componen
 components-holds : tie.Need-components-holds Inv-loop μ-loop Inv-components μ-components
 components-holds c = together (parts-formed (c .pre .0)) (parts-formed (c .pre .1))
 
-mul-len : tie.Need-mul-len Inv-loop μ-loop Inv-components μ-components
-mul-len c = omega arith
-
 shared-slice-read-len : tie.Need-shared-slice-read-len Inv-loop μ-loop Inv-components μ-components
 shared-slice-read-len c = let t = c .before .before .before .components .inv in omega (arith, t .left .lengths, t .left .well .count)
-
-mul-if2 : tie.Need-mul-if2 Inv-loop μ-loop Inv-components μ-components
-mul-if2 c = omega arith
 
 shared-slice-read-if2 : tie.Need-shared-slice-read-if2 Inv-loop μ-loop Inv-components μ-components
 shared-slice-read-if2 c = let t = c .before .before .before .before .components .inv in omega (arith, t .right .lengths, t .right .well .count)
@@ -57,9 +51,6 @@ shared-slice-read-if3-2 c = omega (arith, inside (c .before .before .before .bef
 add-i : tie.Need-add-i Inv-loop μ-loop Inv-components μ-components
 add-i c = omega (arith, inside (c .before .before .before .before .before .before .before .before))
 
-loop-less : tie.Need-loop-less Inv-loop μ-loop Inv-components μ-components
-loop-less c = omega arith
-
 loop-again : tie.Need-loop-again Inv-loop μ-loop Inv-components μ-components
 loop-again c =
     let e = c .before .before .before .before .before .before .before .before in
@@ -70,12 +61,6 @@ loop-again c =
 
 add-at : tie.Need-add-at Inv-loop μ-loop Inv-components μ-components
 add-at c = omega (arith, inside (c .before .before .before .before .before))
-
-add-k : tie.Need-add-k Inv-loop μ-loop Inv-components μ-components
-add-k c = omega arith
-
-components-less : tie.Need-components-less Inv-loop μ-loop Inv-components μ-components
-components-less c = omega arith
 
 components-again : tie.Need-components-again Inv-loop μ-loop Inv-components μ-components
 components-again c =
@@ -105,27 +90,6 @@ pub shared-components-spec : {M : Type 1} → statement M
 shared-components-spec =
     tie.close
     (tie.spec
-    Inv-loop
-    μ-loop
-    Inv-components
-    μ-components
-    components-holds
-    mul-len
-    shared-slice-read-len
-    mul-if2
-    shared-slice-read-if2
-    loop-holds
-    add-j
-    shared-slice-read-if3
-    shared-slice-read-if3-2
-    add-i
-    loop-less
-    loop-again
-    add-at
-    add-k
-    components-less
-    components-again
-    returns
-    returns-2
-    returns-3
-    returns-4)
+    Inv-loop μ-loop Inv-components μ-components components-holds (λ c. omega arith) shared-slice-read-len (λ c. omega arith)
+    shared-slice-read-if2 loop-holds add-j shared-slice-read-if3 shared-slice-read-if3-2 add-i (λ c. omega arith) loop-again add-at
+    (λ c. omega arith) (λ c. omega arith) components-again returns returns-2 returns-3 returns-4)

@@ -12,11 +12,5 @@ returns-2 : tie.Need-returns-2
 unfolding wellFormed
 returns-2 c = rw (eq-eqb _ _ (c .before .if1 .left), ne-eqb _ _ (c .if2 .taken))
 
-parts-formed-requires : tie.Need-parts-formed-requires
-parts-formed-requires c κs = search needs
-
-returns-3 : tie.Need-returns-3
-returns-3 c = search needs
-
 pub well-formed-spec : {M : Type 1} → statement M
-well-formed-spec = tie.close (tie.spec returns returns-2 parts-formed-requires returns-3)
+well-formed-spec = tie.close (tie.spec returns returns-2 (λ c κs. search needs) (λ c. search needs))

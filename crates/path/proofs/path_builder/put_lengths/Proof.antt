@@ -19,24 +19,6 @@ abbrev μ-loop : tie.MeasureT-loop
 loop-holds : tie.Need-loop-holds Inv-loop μ-loop
 loop-holds c = (omega arith, refl, refl)
 
-mul-lengths : tie.Need-mul-lengths Inv-loop μ-loop
-mul-lengths c = search needs
-
-shared-slice-read-lengths : tie.Need-shared-slice-read-lengths Inv-loop μ-loop
-shared-slice-read-lengths c = search needs
-
-mul-lengths-2 : tie.Need-mul-lengths-2 Inv-loop μ-loop
-mul-lengths-2 c = search needs
-
-slice-write-lengths : tie.Need-slice-write-lengths Inv-loop μ-loop
-slice-write-lengths c = search needs
-
-add-i : tie.Need-add-i Inv-loop μ-loop
-add-i c = search needs
-
-loop-less : tie.Need-loop-less Inv-loop μ-loop
-loop-less c = search needs
-
 loop-again : tie.Need-loop-again Inv-loop μ-loop
 loop-again c =
     let l = c .before .before .loop in
@@ -45,9 +27,6 @@ loop-again c =
       simp length-set (l .inv .1),
       rw (l .inv .2) (copy-next (now (a .lengths)) (now (a .s)) (l .i) (omega arith) (omega arith)),
     )
-
-same-length : tie.Need-same-length Inv-loop μ-loop
-same-length c = search needs
 
 returns : tie.Need-returns Inv-loop μ-loop
 returns c =
@@ -60,15 +39,5 @@ pub put-lengths-spec : {M : Type 1} → statement M
 put-lengths-spec =
     tie.close
     (tie.spec
-    Inv-loop
-    μ-loop
-    loop-holds
-    mul-lengths
-    shared-slice-read-lengths
-    mul-lengths-2
-    slice-write-lengths
-    add-i
-    loop-less
-    loop-again
-    same-length
-    returns)
+    Inv-loop μ-loop loop-holds (λ c. search needs) (λ c. search needs) (λ c. search needs) (λ c. search needs) (λ c. search needs)
+    (λ c. search needs) loop-again (λ c. search needs) returns)

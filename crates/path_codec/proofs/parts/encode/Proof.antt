@@ -12,12 +12,6 @@ use Rattle.path_codec.proofs.parts.encode.Tie as tie
 abbrev path : tie.Start → Path
 path c = pathOf (now (c .args .bytes)) (now (c .args .lengths)) (c .args .count)
 
-encode-suffix-requires : tie.Need-encode-suffix-requires
-encode-suffix-requires c κs = search needs
-
-same-length : tie.Need-same-length
-same-length c = search needs
-
 returns : tie.Need-returns
 returns c =
     let s = c .before .before .before .before .before .before .before in
@@ -28,4 +22,4 @@ returns c =
     )
 
 pub encode-spec : {M : Type 1} → statement M
-encode-spec = tie.close (tie.spec encode-suffix-requires same-length returns)
+encode-spec = tie.close (tie.spec (λ c κs. search needs) (λ c. search needs) returns)

@@ -11,11 +11,8 @@ use Rattle.path_codec.proofs.parts.len_of_encoding.Tie as tie
 abbrev path : tie.Start → Path
 path c = pathOf (now (c .args .bytes)) (now (c .args .lengths)) (c .args .count)
 
-suffix-len-requires : tie.Need-suffix-len-requires
-suffix-len-requires c κs = search needs
-
 returns : tie.Need-returns
 returns c = c .suffix-len .ensures ∙ ap (λ (f : Format Path). lengthAnswer f (path (c .before .before .before))) plain-suffix
 
 pub len-of-encoding-spec : {M : Type 1} → statement M
-len-of-encoding-spec = tie.close (tie.spec suffix-len-requires returns)
+len-of-encoding-spec = tie.close (tie.spec (λ c κs. search needs) returns)

@@ -30,20 +30,11 @@ fits c = omega (arith, c .if2 .left, known (c .before) .total, known (c .before)
 few : (c : tie.Else3) → length (now (c .before .before .before .before .before .before .before .args .lengths)) + c .before .before .before .before .before .before .before .args .count ≤ 20
 few c = omega (arith, c .if3 .left, known (c .before .before) .count)
 
-parts-ok-requires : tie.Need-parts-ok-requires
-parts-ok-requires c κs = search needs
-
-refuse-requires : tie.Need-refuse-requires
-refuse-requires c κs = search needs
-
 returns : tie.Need-returns
 returns c = rw (c .refuse .ensures) (gives-refused 5 refl (after-malformed _ _ _ _ _ _ (sym (c .before .before .parts-ok .ensures) ∙ not-true _ (c .before .if1 .taken))))
 
 sub-if2 : tie.Need-sub-if2
 sub-if2 c = omega (arith, known c .total, known c .long)
-
-refuse-requires-2 : tie.Need-refuse-requires-2
-refuse-requires-2 c κs = search needs
 
 returns-2 : tie.Need-returns-2
 returns-2 c = rw (c .refuse2 .ensures) (gives-refused 2 refl (after-long _ _ _ _ _ _ (formed (c .before .before)) (omega (arith, c .before .if2 .taken, known (c .before .before) .total, known (c .before .before) .long))))
@@ -51,20 +42,8 @@ returns-2 c = rw (c .refuse2 .ensures) (gives-refused 2 refl (after-long _ _ _ _
 sub-if3 : tie.Need-sub-if3
 sub-if3 c = known (c .before) .count
 
-refuse-requires-3 : tie.Need-refuse-requires-3
-refuse-requires-3 c κs = search needs
-
 returns-3 : tie.Need-returns-3
 returns-3 c = rw (c .refuse3 .ensures) (gives-refused 2 refl (after-many _ _ _ _ _ _ (formed (c .before .before .before)) (fits (c .before .before)) (omega (arith, c .before .if3 .taken, known (c .before .before .before) .count))))
-
-slice-aggregate-put-bytes : tie.Need-slice-aggregate-put-bytes
-slice-aggregate-put-bytes c = search needs
-
-put-bytes-requires : tie.Need-put-bytes-requires
-put-bytes-requires c κs = search needs
-
-slice-aggregate-put-lengths : tie.Need-slice-aggregate-put-lengths
-slice-aggregate-put-lengths c = search needs
 
 put-lengths-requires : tie.Need-put-lengths-requires
 put-lengths-requires c κs = known (c .before .before .before .before .before .before) .count
@@ -75,37 +54,16 @@ sub-decode-all c = omega (arith, known (c .before .before .before .before .befor
 part-all-start : tie.Need-part-all-start
 part-all-start c = omega (arith, known (c .before .before .before .before .before .before .before .before) .total, known (c .before .before .before .before .before .before .before .before) .long)
 
-part-all-end : tie.Need-part-all-end
-part-all-end c = search needs
-
-mul-sizes : tie.Need-mul-sizes
-mul-sizes c = search needs
-
 sub-decode-all-2 : tie.Need-sub-decode-all-2
 sub-decode-all-2 c = known (c .before .before .before .before .before .before .before .before .before) .count
 
 part-sizes-start : tie.Need-part-sizes-start
 part-sizes-start c = known (c .before .before .before .before .before .before .before .before .before) .count
 
-part-sizes-end : tie.Need-part-sizes-end
-part-sizes-end c = search needs
-
-decode-all-requires : tie.Need-decode-all-requires
-decode-all-requires c κs = search needs
-
-enum-told : tie.Need-enum-told
-enum-told c = search needs
-
-refuse-requires-4 : tie.Need-refuse-requires-4
-refuse-requires-4 c κs = search needs
-
 returns-4 : tie.Need-returns-4
 returns-4 c =
     let x = no-value (c .before .before .before .before .decode-all .result) (c .before .match .keys2) in
     rw (c .refuse4 .ensures) (gives-refused (x .why) (x .beside _) (after-refused _ _ _ _ _ _ (formed (c .before .before .before .before .before .before .before .before .before .before .before .before .before .before .before)) (fits (c .before .before .before .before .before .before .before .before .before .before .before .before .before .before)) (few (c .before .before .before .before .before .before .before .before .before .before .before .before .before)) _ _ (sym (x .beside _) ∙ c .before .before .before .before .decode-all .ensures)))
-
-add-t18 : tie.Need-add-t18
-add-t18 c = search needs
 
 returns-5 : tie.Need-returns-5
 returns-5 c =
@@ -126,29 +84,7 @@ pub decode-after-spec : {M : Type 1} → statement M
 decode-after-spec =
     tie.close
     (tie.spec
-    parts-ok-requires
-    refuse-requires
-    returns
-    sub-if2
-    refuse-requires-2
-    returns-2
-    sub-if3
-    refuse-requires-3
-    returns-3
-    slice-aggregate-put-bytes
-    put-bytes-requires
-    slice-aggregate-put-lengths
-    put-lengths-requires
-    sub-decode-all
-    part-all-start
-    part-all-end
-    mul-sizes
-    sub-decode-all-2
-    part-sizes-start
-    part-sizes-end
-    decode-all-requires
-    enum-told
-    refuse-requires-4
-    returns-4
-    add-t18
-    returns-5)
+    (λ c κs. search needs) (λ c κs. search needs) returns sub-if2 (λ c κs. search needs) returns-2 sub-if3 (λ c κs. search needs) returns-3
+    (λ c. search needs) (λ c κs. search needs) (λ c. search needs) put-lengths-requires sub-decode-all part-all-start (λ c. search needs)
+    (λ c. search needs) sub-decode-all-2 part-sizes-start (λ c. search needs) (λ c κs. search needs) (λ c. search needs)
+    (λ c κs. search needs) returns-4 (λ c. search needs) returns-5)

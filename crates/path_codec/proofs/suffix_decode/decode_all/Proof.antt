@@ -4,18 +4,6 @@ use borrow.Author.Needs.{needs}
 use Rattle.path_codec.proofs.suffix_decode.decode_all.Statement.{statement}
 use Rattle.path_codec.proofs.suffix_decode.decode_all.Tie as tie
 
-decode-some-requires : tie.Need-decode-some-requires
-decode-some-requires c κs = search needs
-
-same-length : tie.Need-same-length
-same-length c = search needs
-
-same-length-2 : tie.Need-same-length-2
-same-length-2 c = search needs
-
-returns : tie.Need-returns
-returns c = search needs
-
 returns-2 : tie.Need-returns-2
 returns-2 c = rw (c .before .if1 .left) (sym (ahead-over _ _ _ _ (c .if2 .taken)))
 
@@ -24,4 +12,4 @@ returns-3 c = rw (c .before .if1 .left) (sym (ahead-none _ _ _ _ (c .if2 .left))
 
 pub decode-all-spec : {M : Type 1} → statement M
 decode-all-spec =
-    tie.close (tie.spec decode-some-requires same-length same-length-2 returns returns-2 returns-3)
+    tie.close (tie.spec (λ c κs. search needs) (λ c. search needs) (λ c. search needs) (λ c. search needs) returns-2 returns-3)

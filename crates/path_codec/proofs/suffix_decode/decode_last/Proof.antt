@@ -21,14 +21,8 @@ returns c = sym (last-over _ _ _ _ _ _ (c .if1 .taken))
 returns-2 : tie.Need-returns-2
 returns-2 c = sym (last-long _ _ _ _ _ _ (c .before .if1 .left) (c .if2 .taken))
 
-sub-if3 : tie.Need-sub-if3
-sub-if3 c = search needs
-
 returns-3 : tie.Need-returns-3
 returns-3 c = sym (last-short _ _ _ _ _ _ (c .before .before .if1 .left) (c .before .if2 .left) (c .if3 .taken))
-
-add-end : tie.Need-add-end
-add-end c = search needs
 
 sub-put-bytes : tie.Need-sub-put-bytes
 sub-put-bytes c = omega (arith, room c .totals)
@@ -36,32 +30,11 @@ sub-put-bytes c = omega (arith, room c .totals)
 part-put-bytes-start : tie.Need-part-put-bytes-start
 part-put-bytes-start c = omega (arith, room c .totals)
 
-part-put-bytes-end : tie.Need-part-put-bytes-end
-part-put-bytes-end c = search needs
-
-sub-put-bytes-2 : tie.Need-sub-put-bytes-2
-sub-put-bytes-2 c = search needs
-
-part-put-bytes-start-2 : tie.Need-part-put-bytes-start-2
-part-put-bytes-start-2 c = search needs
-
-part-put-bytes-end-2 : tie.Need-part-put-bytes-end-2
-part-put-bytes-end-2 c = search needs
-
-put-bytes-requires : tie.Need-put-bytes-requires
-put-bytes-requires c κs = search needs
-
 mul-lengths : tie.Need-mul-lengths
 mul-lengths c = omega (arith, room (c .before .before .before .before .before) .counts)
 
 slice-write-lengths : tie.Need-slice-write-lengths
 slice-write-lengths c = omega (arith, room (c .before .before .before .before .before) .counts)
-
-same-length : tie.Need-same-length
-same-length c = search needs
-
-same-length-2 : tie.Need-same-length-2
-same-length-2 c = search needs
 
 returns-4 : tie.Need-returns-4
 returns-4 c =
@@ -77,20 +50,6 @@ pub decode-last-spec : {M : Type 1} → statement M
 decode-last-spec =
     tie.close
     (tie.spec
-    returns
-    returns-2
-    sub-if3
-    returns-3
-    add-end
-    sub-put-bytes
-    part-put-bytes-start
-    part-put-bytes-end
-    sub-put-bytes-2
-    part-put-bytes-start-2
-    part-put-bytes-end-2
-    put-bytes-requires
-    mul-lengths
-    slice-write-lengths
-    same-length
-    same-length-2
-    returns-4)
+    returns returns-2 (λ c. search needs) returns-3 (λ c. search needs) sub-put-bytes part-put-bytes-start (λ c. search needs)
+    (λ c. search needs) (λ c. search needs) (λ c. search needs) (λ c κs. search needs) mul-lengths slice-write-lengths (λ c. search needs)
+    (λ c. search needs) returns-4)

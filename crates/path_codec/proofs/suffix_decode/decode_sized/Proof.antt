@@ -20,15 +20,6 @@ begins c =
     let a = c .before .before .before .before .before .args in
     length-inside (a .canonic) (now (a .message)) (a .at) _ _ (length-is c) (c .before .before .before .before .before .pre)
 
-decode-requires : tie.Need-decode-requires
-decode-requires c κs = search needs
-
-enum-known-number : tie.Need-enum-known-number
-enum-known-number c = search needs
-
-length-refusal-requires : tie.Need-length-refusal-requires
-length-refusal-requires c κs = search needs
-
 returns : tie.Need-returns
 returns c =
     let a = c .before .before .before .before .args in
@@ -62,13 +53,4 @@ pub decode-sized-spec : {M : Type 1} → statement M
 decode-sized-spec =
     tie.close
     (tie.spec
-    decode-requires
-    enum-known-number
-    length-refusal-requires
-    returns
-    returns-2
-    add-begin
-    sub-if2
-    returns-3
-    add-t11
-    returns-4)
+    (λ c κs. search needs) (λ c. search needs) (λ c κs. search needs) returns returns-2 add-begin sub-if2 returns-3 add-t11 returns-4)

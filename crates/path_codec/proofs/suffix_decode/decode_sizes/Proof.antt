@@ -41,24 +41,6 @@ second-inside c =
 returns : tie.Need-returns
 returns c = sym (sizes-none _ (now (c .before .before .args .message)) _ (c .if1 .taken))
 
-shared-slice-read-unpack-tags : tie.Need-shared-slice-read-unpack-tags
-shared-slice-read-unpack-tags c = search needs
-
-unpack-tags-requires : tie.Need-unpack-tags-requires
-unpack-tags-requires c κs = search needs
-
-add-first : tie.Need-add-first
-add-first c = search needs
-
-relative-decode-requires : tie.Need-relative-decode-requires
-relative-decode-requires c κs = search needs
-
-enum-known-number : tie.Need-enum-known-number
-enum-known-number c = search needs
-
-number-refusal-requires : tie.Need-number-refusal-requires
-number-refusal-requires c κs = search needs
-
 returns-2 : tie.Need-returns-2
 returns-2 c =
     let a = c .before .before .before .before .before .before .before .args in
@@ -67,15 +49,6 @@ returns-2 c =
 
 add-relative-decode : tie.Need-add-relative-decode
 add-relative-decode c = omega (arith, first-inside c)
-
-relative-decode-requires-2 : tie.Need-relative-decode-requires-2
-relative-decode-requires-2 c κs = search needs
-
-enum-known-number2 : tie.Need-enum-known-number2
-enum-known-number2 c = search needs
-
-number-refusal-requires-2 : tie.Need-number-refusal-requires-2
-number-refusal-requires-2 c κs = search needs
 
 returns-3 : tie.Need-returns-3
 returns-3 c =
@@ -98,19 +71,5 @@ pub decode-sizes-spec : {M : Type 1} → statement M
 decode-sizes-spec =
     tie.close
     (tie.spec
-    returns
-    shared-slice-read-unpack-tags
-    unpack-tags-requires
-    add-first
-    relative-decode-requires
-    enum-known-number
-    number-refusal-requires
-    returns-2
-    add-relative-decode
-    relative-decode-requires-2
-    enum-known-number2
-    number-refusal-requires-2
-    returns-3
-    add-t12
-    add-t17
-    returns-4)
+    returns (λ c. search needs) (λ c κs. search needs) (λ c. search needs) (λ c κs. search needs) (λ c. search needs) (λ c κs. search needs)
+    returns-2 add-relative-decode (λ c κs. search needs) (λ c. search needs) (λ c κs. search needs) returns-3 add-t12 add-t17 returns-4)

@@ -32,12 +32,6 @@ loop-holds c = held-first (c .before .before .before .pre .0)
 decode-sized-requires : tie.Need-decode-sized-requires Inv-loop μ-loop
 decode-sized-requires c κs = c .before .loop .inv .inside
 
-enum-known-component : tie.Need-enum-known-component Inv-loop μ-loop
-enum-known-component c = search needs
-
-component-refusal-requires : tie.Need-component-refusal-requires Inv-loop μ-loop
-component-refusal-requires c κs = search needs
-
 same-length : tie.Need-same-length Inv-loop μ-loop
 same-length c = c .before .before .before .before .loop .inv .long
 
@@ -56,15 +50,6 @@ sub-len c = reads-part c .inside .1
 add-if1 : tie.Need-add-if1 Inv-loop μ-loop
 add-if1 c = omega (arith, reads-part c .inside .3, c .before .before .before .before .before .loop .inv .small, c .before .before .before .before .before .before .before .before .before .pre .1)
 
-sub-put-bytes : tie.Need-sub-put-bytes Inv-loop μ-loop
-sub-put-bytes c = search needs
-
-part-put-bytes-start : tie.Need-part-put-bytes-start Inv-loop μ-loop
-part-put-bytes-start c = search needs
-
-part-put-bytes-end : tie.Need-part-put-bytes-end Inv-loop μ-loop
-part-put-bytes-end c = search needs
-
 sub-put-bytes-2 : tie.Need-sub-put-bytes-2 Inv-loop μ-loop
 sub-put-bytes-2 c = reads-part (c .before .before) .inside .1
 
@@ -73,9 +58,6 @@ part-put-bytes-start-2 c = omega (arith, reads-part (c .before .before) .inside 
 
 part-put-bytes-end-2 : tie.Need-part-put-bytes-end-2 Inv-loop μ-loop
 part-put-bytes-end-2 c = omega (arith, reads-part (c .before .before) .inside .2)
-
-put-bytes-requires : tie.Need-put-bytes-requires Inv-loop μ-loop
-put-bytes-requires c κs = search needs
 
 sub-lengths : tie.Need-sub-lengths Inv-loop μ-loop
 sub-lengths c = omega (arith, c .before .before .before .before .before .before .before .before .before .before .before .loop .inv .counts)
@@ -88,12 +70,6 @@ slice-write-lengths c = omega (arith, c .before .before .before .before .before 
 
 add-used : tie.Need-add-used Inv-loop μ-loop
 add-used c = omega (arith, reads-part (c .before) .inside .3, c .before .before .before .before .before .before .loop .inv .small, c .before .before .before .before .before .before .before .before .before .before .pre .1)
-
-sub-left : tie.Need-sub-left Inv-loop μ-loop
-sub-left c = search needs
-
-loop-less : tie.Need-loop-less Inv-loop μ-loop
-loop-less c = search needs
 
 loop-again : tie.Need-loop-again Inv-loop μ-loop
 loop-again c =
@@ -109,17 +85,8 @@ loop-again c =
     (λ w. absurd (omega (arith, w .0 .left)))
     (c .if1 .came))
 
-sub-decode-last : tie.Need-sub-decode-last Inv-loop μ-loop
-sub-decode-last c = search needs
-
 decode-last-requires : tie.Need-decode-last-requires Inv-loop μ-loop
 decode-last-requires c κs = (c .before .before .before .loop .inv .inside, end-room (c .before .before .before .loop .inv) (c .before .before .before .before .before .before .before .pre .2))
-
-same-length-3 : tie.Need-same-length-3 Inv-loop μ-loop
-same-length-3 c = search needs
-
-same-length-4 : tie.Need-same-length-4 Inv-loop μ-loop
-same-length-4 c = search needs
 
 returns-2 : tie.Need-returns-2 Inv-loop μ-loop
 returns-2 c = c .before .before .before .before .decode-last .ensures ∙ sym (end-last (c .before .before .before .before .before .before .before .before .loop .inv) (c .before .before .before .before .before .before .before .before .before .before .before .before .pre .2) (c .before .before .before .before .before .before .before .loop-test .left))
@@ -128,33 +95,7 @@ pub decode-some-spec : {M : Type 1} → statement M
 decode-some-spec =
     tie.close
     (tie.spec
-    Inv-loop
-    μ-loop
-    loop-holds
-    decode-sized-requires
-    enum-known-component
-    component-refusal-requires
-    same-length
-    same-length-2
-    returns
-    sub-len
-    add-if1
-    sub-put-bytes
-    part-put-bytes-start
-    part-put-bytes-end
-    sub-put-bytes-2
-    part-put-bytes-start-2
-    part-put-bytes-end-2
-    put-bytes-requires
-    sub-lengths
-    mul-lengths
-    slice-write-lengths
-    add-used
-    sub-left
-    loop-less
-    loop-again
-    sub-decode-last
-    decode-last-requires
-    same-length-3
-    same-length-4
-    returns-2)
+    Inv-loop μ-loop loop-holds decode-sized-requires (λ c. search needs) (λ c κs. search needs) same-length same-length-2 returns sub-len
+    add-if1 (λ c. search needs) (λ c. search needs) (λ c. search needs) sub-put-bytes-2 part-put-bytes-start-2 part-put-bytes-end-2
+    (λ c κs. search needs) sub-lengths mul-lengths slice-write-lengths add-used (λ c. search needs) (λ c. search needs) loop-again
+    (λ c. search needs) decode-last-requires (λ c. search needs) (λ c. search needs) returns-2)

@@ -30,26 +30,11 @@ returns c = sym (parts-many _ _ (c .if1 .taken))
 loop-holds : tie.Need-loop-holds Inv-loop μ-loop
 loop-holds c = (omega arith, omega arith, omega arith, refl)
 
-mul-len : tie.Need-mul-len Inv-loop μ-loop
-mul-len c = omega arith
-
-shared-slice-read-len : tie.Need-shared-slice-read-len Inv-loop μ-loop
-shared-slice-read-len c = omega arith
-
 returns-2 : tie.Need-returns-2 Inv-loop μ-loop
 returns-2 c =
     let l = c .before .before .before .loop in
     let s = now (c .before .before .before .before .before .args .lengths) in
     sym (parts-long s _ (c .before .before .before .before .if1 .left) (l .inv .3 ∙ at-most-next 300 s (l .i) (omega arith) ∙ rw (lt-leb _ _ (c .if2 .taken))))
-
-add-total : tie.Need-add-total Inv-loop μ-loop
-add-total c = omega arith
-
-add-i : tie.Need-add-i Inv-loop μ-loop
-add-i c = omega arith
-
-loop-less : tie.Need-loop-less Inv-loop μ-loop
-loop-less c = omega arith
 
 loop-again : tie.Need-loop-again Inv-loop μ-loop
 loop-again c =
@@ -67,16 +52,5 @@ pub parts-ok-spec : {M : Type 1} → statement M
 parts-ok-spec =
     tie.close
     (tie.spec
-    Inv-loop
-    μ-loop
-    returns
-    loop-holds
-    mul-len
-    shared-slice-read-len
-    returns-2
-    add-total
-    add-i
-    loop-less
-    loop-again
-    returns-3
-    returns-4)
+    Inv-loop μ-loop returns loop-holds (λ c. omega arith) (λ c. omega arith) returns-2 (λ c. omega arith) (λ c. omega arith)
+    (λ c. omega arith) loop-again returns-3 returns-4)

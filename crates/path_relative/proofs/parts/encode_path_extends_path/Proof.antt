@@ -16,24 +16,6 @@ path c = pathOf (now (c .args .bytes)) (now (c .args .lengths)) (c .args .count)
 abbrev reference : tie.Start → Path
 reference c = pathOf (now (c .args .of-bytes)) (now (c .args .of-lengths)) (c .args .of-count)
 
-is-prefix-of-requires : tie.Need-is-prefix-of-requires
-is-prefix-of-requires c κs = search needs
-
-enum-told : tie.Need-enum-told
-enum-told c = search needs
-
-encode-suffix-requires : tie.Need-encode-suffix-requires
-encode-suffix-requires c κs = search needs
-
-enum-told-2 : tie.Need-enum-told-2
-enum-told-2 c = search needs
-
-enum-told-3 : tie.Need-enum-told-3
-enum-told-3 c = search needs
-
-same-length : tie.Need-same-length
-same-length c = search needs
-
 returns : tie.Need-returns
 returns c =
     let s = c .before .before .before .before .before .before .before .before .before .before .before .before in
@@ -55,12 +37,5 @@ pub encode-path-extends-path-spec : {M : Type 1} → statement M
 encode-path-extends-path-spec =
     tie.close
     (tie.spec
-    is-prefix-of-requires
-    enum-told
-    encode-suffix-requires
-    enum-told-2
-    enum-told-3
-    same-length
-    returns
-    returns-2
-    returns-3)
+    (λ c κs. search needs) (λ c. search needs) (λ c κs. search needs) (λ c. search needs) (λ c. search needs) (λ c. search needs) returns
+    returns-2 returns-3)

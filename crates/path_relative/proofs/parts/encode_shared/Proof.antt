@@ -23,15 +23,6 @@ answer-of : (c : tie.After-known-told)
     → writeAnswer (suffixFrom (c .before .before .before .before .before .before .before .before .before .before .before .before .args .k)) (path (c .before .before .before .before .before .before .before .before .before .before .before .before)) (length (drop (c .before .before .before .before .before .before .before .before .len-of-encoding .result) (now (c .before .before .before .before .before .before .before .before .before .before .before .before .args .buffer)))) ≡ wrote (c .before .suffix .given .0 .0)
 answer-of c = sym (rw (to-end (c .before .before .before .before .before .before .before .before .len-of-encoding .result) (now (c .before .before .before .before .before .before .before .before .before .before .before .before .args .buffer))) at (c .before .before .before .before .before .encode-suffix .ensures .0)) ∙ ap outcomeOf (c .before .suffix .given .1)
 
-len-of-encoding-requires : tie.Need-len-of-encoding-requires
-len-of-encoding-requires c κs = search needs
-
-shared-len-requires : tie.Need-shared-len-requires
-shared-len-requires c κs = search needs
-
-in-room-requires : tie.Need-in-room-requires
-in-room-requires c κs = search needs
-
 returns : tie.Need-returns
 returns c =
     let s = c .before .before .before .before .before .before .before in
@@ -39,24 +30,6 @@ returns c =
     let l = now (s .args .buffer) in
     let short = short-unchanged (f .check (path s)) (f .encode (path s)) l (rw length-append (omega (arith, c .before .before .if1 .taken, c .before .before .before .len-of-encoding .ensures .0))) in
     (length-in-room f (path s) (c .before .shared-len .result) (c .in-room .result) (length l) (c .before .shared-len .ensures) (c .in-room .ensures), short)
-
-sub-encode-suffix : tie.Need-sub-encode-suffix
-sub-encode-suffix c = search needs
-
-part-encode-suffix-start : tie.Need-part-encode-suffix-start
-part-encode-suffix-start c = search needs
-
-part-encode-suffix-end : tie.Need-part-encode-suffix-end
-part-encode-suffix-end c = search needs
-
-encode-suffix-requires : tie.Need-encode-suffix-requires
-encode-suffix-requires c κs = search needs
-
-enum-known-suffix : tie.Need-enum-known-suffix
-enum-known-suffix c = search needs
-
-same-length : tie.Need-same-length
-same-length c = search needs
 
 returns-2 : tie.Need-returns-2
 returns-2 c =
@@ -71,18 +44,12 @@ returns-2 c =
     let done = rest-denied (standaloneBytes (s .args .k)) (f .encode (path s)) l (n .result) (n .ensures .0) (c .before .before .before .before .before .if1 .left) (f .check (path s)) (none .why) (w .last .0) (sym answer ∙ none .is) bytes in
     (none .is ∙ done .0, put-end (n .result) l (w .last .0) ∙ done .1)
 
-encode-requires : tie.Need-encode-requires
-encode-requires c κs = search needs
-
 add-t11 : tie.Need-add-t11
 add-t11 c =
     let s = c .before .before .before .before .before .before .before .before .before .before .before .before .before .before .before .before in
     let f = suffixFrom (s .args .k) in
     let w = put-wrote (f .check (path s)) (f .encode (path s)) _ _ (answer-of (c .before .before .before .before)) in
     omega (arith, w .long, suffix-within (path s) (s .args .k) (w .allows), c .before .before .before .before .before .before .before .before .before .before .before .before .len-of-encoding .ensures)
-
-same-length-2 : tie.Need-same-length-2
-same-length-2 c = search needs
 
 returns-3 : tie.Need-returns-3
 returns-3 c =
@@ -98,18 +65,5 @@ pub encode-shared-spec : {M : Type 1} → statement M
 encode-shared-spec =
     tie.close
     (tie.spec
-    len-of-encoding-requires
-    shared-len-requires
-    in-room-requires
-    returns
-    sub-encode-suffix
-    part-encode-suffix-start
-    part-encode-suffix-end
-    encode-suffix-requires
-    enum-known-suffix
-    same-length
-    returns-2
-    encode-requires
-    add-t11
-    same-length-2
-    returns-3)
+    (λ c κs. search needs) (λ c κs. search needs) (λ c κs. search needs) returns (λ c. search needs) (λ c. search needs) (λ c. search needs)
+    (λ c κs. search needs) (λ c. search needs) (λ c. search needs) returns-2 (λ c κs. search needs) add-t11 (λ c. search needs) returns-3)

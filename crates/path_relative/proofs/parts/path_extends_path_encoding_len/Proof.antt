@@ -16,21 +16,6 @@ path c = pathOf (now (c .args .bytes)) (now (c .args .lengths)) (c .args .count)
 abbrev reference : tie.Start → Path
 reference c = pathOf (now (c .args .of-bytes)) (now (c .args .of-lengths)) (c .args .of-count)
 
-is-prefix-of-requires : tie.Need-is-prefix-of-requires
-is-prefix-of-requires c κs = search needs
-
-enum-told : tie.Need-enum-told
-enum-told c = search needs
-
-suffix-len-requires : tie.Need-suffix-len-requires
-suffix-len-requires c κs = search needs
-
-enum-told-2 : tie.Need-enum-told-2
-enum-told-2 c = search needs
-
-enum-told-3 : tie.Need-enum-told-3
-enum-told-3 c = search needs
-
 returns : tie.Need-returns
 returns c =
     let s = c .before .before .before .before .before .before .before .before in
@@ -51,11 +36,4 @@ pub path-extends-path-encoding-len-spec : {M : Type 1} → statement M
 path-extends-path-encoding-len-spec =
     tie.close
     (tie.spec
-    is-prefix-of-requires
-    enum-told
-    suffix-len-requires
-    enum-told-2
-    enum-told-3
-    returns
-    returns-2
-    returns-3)
+    (λ c κs. search needs) (λ c. search needs) (λ c κs. search needs) (λ c. search needs) (λ c. search needs) returns returns-2 returns-3)

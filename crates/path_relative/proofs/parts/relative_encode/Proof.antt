@@ -15,27 +15,12 @@ path c = pathOf (now (c .args .bytes)) (now (c .args .lengths)) (c .args .count)
 abbrev reference : tie.Start → Path
 reference c = pathOf (now (c .args .of-bytes)) (now (c .args .of-lengths)) (c .args .of-count)
 
-longest-common-prefix-requires : tie.Need-longest-common-prefix-requires
-longest-common-prefix-requires c κs = search needs
-
-enum-known-common : tie.Need-enum-known-common
-enum-known-common c = search needs
-
-enum-told : tie.Need-enum-told
-enum-told c = search needs
-
 returns : tie.Need-returns
 returns c =
     let s = c .before .before .before .before .before .before .before .before in
     let f = againstPath (reference s) in
     let w = uncommon (reference s) (path s) (sym (c .before .before .longest-common-prefix .ensures) ∙ c .enum-told .given .1) in
     put-barred (f .check (path s)) (f .encode (path s)) (now (s .args .buffer)) 5 (rw w)
-
-encode-shared-requires : tie.Need-encode-shared-requires
-encode-shared-requires c κs = search needs
-
-same-length : tie.Need-same-length
-same-length c = search needs
 
 returns-2 : tie.Need-returns-2
 returns-2 c =
@@ -48,10 +33,4 @@ pub relative-encode-spec : {M : Type 1} → statement M
 relative-encode-spec =
     tie.close
     (tie.spec
-    longest-common-prefix-requires
-    enum-known-common
-    enum-told
-    returns
-    encode-shared-requires
-    same-length
-    returns-2)
+    (λ c κs. search needs) (λ c. search needs) (λ c. search needs) returns (λ c κs. search needs) (λ c. search needs) returns-2)

@@ -15,22 +15,10 @@ path c = pathOf (now (c .args .bytes)) (now (c .args .lengths)) (c .args .count)
 abbrev reference : tie.Start → Path
 reference c = pathOf (now (c .args .of-bytes)) (now (c .args .of-lengths)) (c .args .of-count)
 
-longest-common-prefix-requires : tie.Need-longest-common-prefix-requires
-longest-common-prefix-requires c κs = search needs
-
-enum-known-common : tie.Need-enum-known-common
-enum-known-common c = search needs
-
-enum-told : tie.Need-enum-told
-enum-told c = search needs
-
 returns : tie.Need-returns
 returns c =
     let s = c .before .before .before .before .before .before .before in
     length-barred (againstPath (reference s)) (path s) 5 (rw (uncommon (reference s) (path s) (sym (c .before .before .longest-common-prefix .ensures) ∙ c .enum-told .given .1)))
-
-shared-len-requires : tie.Need-shared-len-requires
-shared-len-requires c κs = search needs
 
 returns-2 : tie.Need-returns-2
 returns-2 c =
@@ -40,11 +28,4 @@ returns-2 c =
 
 pub relative-len-of-encoding-spec : {M : Type 1} → statement M
 relative-len-of-encoding-spec =
-    tie.close
-    (tie.spec
-    longest-common-prefix-requires
-    enum-known-common
-    enum-told
-    returns
-    shared-len-requires
-    returns-2)
+    tie.close (tie.spec (λ c κs. search needs) (λ c. search needs) (λ c. search needs) returns (λ c κs. search needs) returns-2)

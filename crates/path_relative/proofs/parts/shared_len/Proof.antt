@@ -22,20 +22,11 @@ suffix-is : (c : tie.After-known-told)
     → (suffixFrom (c .before .before .before .before .before .before .args .k) .check (path (c .before .before .before .before .before .before)) ≡ allowed) × (c .before .suffix .given .0 .0 ≡ length (suffixFrom (c .before .before .before .before .before .before .args .k) .encode (path (c .before .before .before .before .before .before))))
 suffix-is c = length-wrote (suffixFrom (c .before .before .before .before .before .before .args .k)) (path (c .before .before .before .before .before .before)) _ (sym (c .before .before .before .suffix-len .ensures) ∙ ap outcomeOf (c .before .suffix .given .1))
 
-suffix-len-requires : tie.Need-suffix-len-requires
-suffix-len-requires c κs = search needs
-
-enum-known-suffix : tie.Need-enum-known-suffix
-enum-known-suffix c = search needs
-
 returns : tie.Need-returns
 returns c =
     let s = c .before .before .before .before in
     let none = no-length (c .before .suffix-len .result) (c .match .keys2) in
     none .is ∙ length-barred (sharedFrom (s .args .k)) (path s) (none .why) (length-denied (suffixFrom (s .args .k)) (path s) (none .why) (sym (c .before .suffix-len .ensures) ∙ none .is))
-
-len-of-encoding-requires : tie.Need-len-of-encoding-requires
-len-of-encoding-requires c κs = search needs
 
 add-t9 : tie.Need-add-t9
 add-t9 c =
@@ -50,12 +41,4 @@ returns-2 c =
     length-allowed (sharedFrom (s .args .k)) (path s) _ (l .0) (shared-long (path s) (s .args .k) _ _ (c .len-of-encoding .ensures .0) (l .1))
 
 pub shared-len-spec : {M : Type 1} → statement M
-shared-len-spec =
-    tie.close
-    (tie.spec
-    suffix-len-requires
-    enum-known-suffix
-    returns
-    len-of-encoding-requires
-    add-t9
-    returns-2)
+shared-len-spec = tie.close (tie.spec (λ c κs. search needs) (λ c. search needs) returns (λ c κs. search needs) add-t9 returns-2)

@@ -60,18 +60,6 @@ extends-at c =
     let s = c .before .before .before .before .before .before .before .before .before .before .before .before .before .before .before in
     extends-after _ (prefix s) (s .pre) (now (s .args .message)) (s .args .start) _ _ _ (sizes-are (c .before .before .before .before .before .before .before .before)) (λ i. omega (arith, c .before .before .before .before .before .before .before .before .before .before .before .before .before .before .shared-slice-known .given i)) (total-fits (c .before .before .before .before .before)) (omega (arith, c .before .before .before .before .if2 .left, parts-formed (s .pre) .well .count))
 
-decode-sizes-requires : tie.Need-decode-sizes-requires
-decode-sizes-requires c κs = search needs
-
-enum-known-sizes : tie.Need-enum-known-sizes
-enum-known-sizes c = search needs
-
-sizes-refusal-requires : tie.Need-sizes-refusal-requires
-sizes-refusal-requires c κs = search needs
-
-refuse-requires : tie.Need-refuse-requires
-refuse-requires c κs = search needs
-
 returns : tie.Need-returns
 returns c =
     let s = c .before .before .before .before .before .before .before in
@@ -87,9 +75,6 @@ sum-requires c κs = let s = c .before .before .before .before .before .before .
 sub-if1 : tie.Need-sub-if1
 sub-if1 c = total-small c
 
-decode-outside-requires : tie.Need-decode-outside-requires
-decode-outside-requires c κs = search needs
-
 returns-2 : tie.Need-returns-2
 returns-2 c =
     let s = c .before .before .before .before .before .before .before .before .before .before .before in
@@ -97,9 +82,6 @@ returns-2 c =
 
 sub-if2 : tie.Need-sub-if2
 sub-if2 c = parts-formed (c .before .before .before .before .before .before .before .before .before .before .pre) .well .count
-
-decode-outside-requires-2 : tie.Need-decode-outside-requires-2
-decode-outside-requires-2 c κs = search needs
 
 returns-3 : tie.Need-returns-3
 returns-3 c =
@@ -115,20 +97,11 @@ sub-decode-after c = begins (c .before .before .before .before)
 part-decode-after-start : tie.Need-part-decode-after-start
 part-decode-after-start c = omega (arith, begins (c .before .before .before .before))
 
-part-decode-after-end : tie.Need-part-decode-after-end
-part-decode-after-end c = search needs
-
 slice-aggregate-decode-after : tie.Need-slice-aggregate-decode-after
 slice-aggregate-decode-after c = let s = c .before .before .before .before .before .before .before .before .before .before .before .before .before in sym (length-take-le _ _ (omega (arith, total-small (c .before .before .before .before), parts-formed (s .pre) .bytes)))
 
 slice-aggregate-decode-after-2 : tie.Need-slice-aggregate-decode-after-2
 slice-aggregate-decode-after-2 c = let s = c .before .before .before .before .before .before .before .before .before .before .before .before .before .before in sym (lead-long (prefix s) (s .pre) (s .args .count) (omega arith))
-
-decode-after-requires : tie.Need-decode-after-requires
-decode-after-requires c κs = search needs
-
-enum-known-answer : tie.Need-enum-known-answer
-enum-known-answer c = search needs
 
 returns-4 : tie.Need-returns-4
 returns-4 c = rw (extends-at (c .before)) (later-refused _ _ (c .match2 .keys2) (after (c .before)))
@@ -147,27 +120,7 @@ pub decode-extension-spec : {M : Type 1} → statement M
 decode-extension-spec =
     tie.close
     (tie.spec
-    decode-sizes-requires
-    enum-known-sizes
-    sizes-refusal-requires
-    refuse-requires
-    returns
-    slice-aggregate-sum
-    sum-requires
-    sub-if1
-    decode-outside-requires
-    returns-2
-    sub-if2
-    decode-outside-requires-2
-    returns-3
-    add-at
-    sub-decode-after
-    part-decode-after-start
-    part-decode-after-end
-    slice-aggregate-decode-after
-    slice-aggregate-decode-after-2
-    decode-after-requires
-    enum-known-answer
-    returns-4
-    add-t20
-    returns-5)
+    (λ c κs. search needs) (λ c. search needs) (λ c κs. search needs) (λ c κs. search needs) returns slice-aggregate-sum sum-requires
+    sub-if1 (λ c κs. search needs) returns-2 sub-if2 (λ c κs. search needs) returns-3 add-at sub-decode-after part-decode-after-start
+    (λ c. search needs) slice-aggregate-decode-after slice-aggregate-decode-after-2 (λ c κs. search needs) (λ c. search needs) returns-4
+    add-t20 returns-5)

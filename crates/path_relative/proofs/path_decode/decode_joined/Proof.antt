@@ -75,16 +75,10 @@ slice-aggregate-decode-after c = sym (length-take-le _ _ (inside (c .before)))
 slice-aggregate-decode-after-2 : tie.Need-slice-aggregate-decode-after-2
 slice-aggregate-decode-after-2 c = let s = c .before .before .before .before .before .before .before in sym (lead-long (reference s) (s .pre .formed) (s .args .k) (s .pre .there))
 
-decode-after-requires : tie.Need-decode-after-requires
-decode-after-requires c κs = search needs
-
 returns : tie.Need-returns
 returns c =
     let s = c .before .before .before .before .before .before .before .before .before in
     rw (joined-lenient _ (reference s) (s .pre .formed) _ (s .pre .there) _ _ _ (not-true _ (c .if1 .taken))) (after (c .before))
-
-enum-told : tie.Need-enum-told
-enum-told c = search needs
 
 returns-2 : tie.Need-returns-2
 returns-2 c =
@@ -103,9 +97,6 @@ same-component-requires c κs =
     let x = read (c .before .before .before .before .before .before .before) in
     rw (c .before .before .before .before .before .before .before .before .before .before .before .before .before .sum .ensures) (stands-here (reference s) (s .pre .formed) _ (s .pre .there) _ x (c .before .before .before .before .before .before .if2 .left), stands-read (reference s) (s .pre .formed) _ (s .pre .there) _ x (c .before .before .before .before .before .before .if2 .left) (c .before .before .before .before .before .if3 .left))
 
-refuse-requires : tie.Need-refuse-requires
-refuse-requires c κs = search needs
-
 returns-5 : tie.Need-returns-5
 returns-5 c =
     let s = c .before .before .before .before .before .before .before .before .before .before .before .before .before .before .before .before .before .before .before .before .before in
@@ -123,17 +114,5 @@ pub decode-joined-spec : {M : Type 1} → statement M
 decode-joined-spec =
     tie.close
     (tie.spec
-    slice-aggregate-sum
-    sum-requires
-    slice-aggregate-decode-after
-    slice-aggregate-decode-after-2
-    decode-after-requires
-    returns
-    enum-told
-    returns-2
-    returns-3
-    returns-4
-    same-component-requires
-    refuse-requires
-    returns-5
-    returns-6)
+    slice-aggregate-sum sum-requires slice-aggregate-decode-after slice-aggregate-decode-after-2 (λ c κs. search needs) returns
+    (λ c. search needs) returns-2 returns-3 returns-4 same-component-requires (λ c κs. search needs) returns-5 returns-6)

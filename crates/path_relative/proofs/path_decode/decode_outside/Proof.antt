@@ -6,17 +6,8 @@ use borrow.Author.Needs.{needs}
 use Rattle.path_relative.proofs.path_decode.decode_outside.Statement.{statement}
 use Rattle.path_relative.proofs.path_decode.decode_outside.Tie as tie
 
-decode-requires : tie.Need-decode-requires
-decode-requires c κs = search needs
-
-enum-told : tie.Need-enum-told
-enum-told c = search needs
-
 returns : tie.Need-returns
 returns c = bind-refused _ _ (c .match .keys2) (c .before .decode .ensures)
-
-refuse-requires : tie.Need-refuse-requires
-refuse-requires c κs = search needs
 
 returns-2 : tie.Need-returns-2
 returns-2 c =
@@ -24,5 +15,4 @@ returns-2 c =
     rw (c .refuse .ensures) (gives-refused 2 refl (rw taken))
 
 pub decode-outside-spec : {M : Type 1} → statement M
-decode-outside-spec =
-    tie.close (tie.spec decode-requires enum-told returns refuse-requires returns-2)
+decode-outside-spec = tie.close (tie.spec (λ c κs. search needs) (λ c. search needs) returns (λ c κs. search needs) returns-2)

@@ -71,26 +71,8 @@ inside c =
     let e = sym (joined-are (c .before .before .before .before) .answer) ∙ ap (λ (d : Decoded). answerOf d (c .before .before .before .before .decode-joined .result .path)) (c .before .before .answer .given .1) in
     omega (arith, begins (c .before .before .before .before .before .before .before), joined-bounded (s .args .canonic) (reference s) _ _ _ .bound (drop at (now (s .args .message))) _ _ e, length-drop at (now (s .args .message)))
 
-well-formed-requires : tie.Need-well-formed-requires
-well-formed-requires c κs = search needs
-
-refuse-requires : tie.Need-refuse-requires
-refuse-requires c κs = search needs
-
 returns : tie.Need-returns
 returns c = rw (c .refuse .ensures) (gives-refused 5 refl (against-malformed _ _ _ (sym (c .before .before .well-formed .ensures) ∙ not-true _ (c .before .if1 .taken))))
-
-decode-requires : tie.Need-decode-requires
-decode-requires c κs = search needs
-
-enum-known-number : tie.Need-enum-known-number
-enum-known-number c = search needs
-
-refusal-requires : tie.Need-refusal-requires
-refusal-requires c κs = search needs
-
-refuse-requires-2 : tie.Need-refuse-requires-2
-refuse-requires-2 c κs = search needs
 
 returns-2 : tie.Need-returns-2
 returns-2 c =
@@ -101,26 +83,11 @@ returns-2 c =
 add-first : tie.Need-add-first
 add-first c = omega (arith, first-inside c)
 
-decode-sizes-requires : tie.Need-decode-sizes-requires
-decode-sizes-requires c κs = search needs
-
-enum-known-sizes : tie.Need-enum-known-sizes
-enum-known-sizes c = search needs
-
-sizes-refusal-requires : tie.Need-sizes-refusal-requires
-sizes-refusal-requires c κs = search needs
-
-refuse-requires-3 : tie.Need-refuse-requires-3
-refuse-requires-3 c κs = search needs
-
 returns-3 : tie.Need-returns-3
 returns-3 c =
     let s = c .before .before .before .before .before .before .before .before .before .before .before .before .before in
     let x = no-sizes (c .before .before .before .decode-sizes .result) (c .before .before .match2 .keys2) in
     rw (c .refuse3 .ensures, c .before .sizes-refusal .ensures) (gives-refused (x .why) (x .path) (against-sizes _ (reference s) (well (c .before .before .before .before .before .before .before .before)) (now (s .args .message)) (s .args .start) _ _ (shared-are (c .before .before .before .before)) (x .why) (sym (c .before .before .before .decode-sizes .ensures) ∙ x .sizes)))
-
-refuse-requires-4 : tie.Need-refuse-requires-4
-refuse-requires-4 c κs = search needs
 
 returns-4 : tie.Need-returns-4
 returns-4 c =
@@ -137,14 +104,8 @@ sub-decode-joined c = begins (c .before)
 part-decode-joined-start : tie.Need-part-decode-joined-start
 part-decode-joined-start c = omega (arith, begins (c .before))
 
-part-decode-joined-end : tie.Need-part-decode-joined-end
-part-decode-joined-end c = search needs
-
 decode-joined-requires : tie.Need-decode-joined-requires
 decode-joined-requires c κs = record { formed = well (c .before .before .before .before .before .before .before .before .before .before); there = omega (arith, c .before .if2 .left) }
-
-enum-known-answer : tie.Need-enum-known-answer
-enum-known-answer c = search needs
 
 returns-5 : tie.Need-returns-5
 returns-5 c = rw (joined-at (c .before)) (later-refused _ _ (c .match3 .keys2) (later-refused _ _ (c .match3 .keys2) (joined-are (c .before))))
@@ -162,29 +123,7 @@ pub relative-decode-spec : {M : Type 1} → statement M
 relative-decode-spec =
     tie.close
     (tie.spec
-    well-formed-requires
-    refuse-requires
-    returns
-    decode-requires
-    enum-known-number
-    refusal-requires
-    refuse-requires-2
-    returns-2
-    add-first
-    decode-sizes-requires
-    enum-known-sizes
-    sizes-refusal-requires
-    refuse-requires-3
-    returns-3
-    refuse-requires-4
-    returns-4
-    add-at
-    sub-decode-joined
-    part-decode-joined-start
-    part-decode-joined-end
-    decode-joined-requires
-    enum-known-answer
-    returns-5
-    add-t29
-    add-t32
-    returns-6)
+    (λ c κs. search needs) (λ c κs. search needs) returns (λ c κs. search needs) (λ c. search needs) (λ c κs. search needs)
+    (λ c κs. search needs) returns-2 add-first (λ c κs. search needs) (λ c. search needs) (λ c κs. search needs) (λ c κs. search needs)
+    returns-3 (λ c κs. search needs) returns-4 add-at sub-decode-joined part-decode-joined-start (λ c. search needs) decode-joined-requires
+    (λ c. search needs) returns-5 add-t29 add-t32 returns-6)

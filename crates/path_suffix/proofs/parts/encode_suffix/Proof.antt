@@ -33,9 +33,6 @@ sums c = omega (arith, suffix-sum (path (c .before .before .before .before .befo
 long : (c : tie.After-len-of) → c .len-of .result ≡ length (suffixFrom (c .before .before .before .before .before .before .before .before .args .k) .encode (path (c .before .before .before .before .before .before .before .before)))
 long c = c .len-of .ensures .0 ∙ suffix-is-long (path (c .before .before .before .before .before .before .before .before)) (here (c .before .before .before)) (c .before .before .before .before .before .before .before .before .args .k) (c .before .before .if2 .left)
 
-well-formed-requires : tie.Need-well-formed-requires
-well-formed-requires c κs = search needs
-
 returns : tie.Need-returns
 returns c = put-barred _ _ (now (c .before .before .before .before .before .args .buffer)) 5 (suffix-malformed _ _ (sym (c .before .well-formed .ensures) ∙ not-true _ (c .if1 .taken)))
 
@@ -44,9 +41,6 @@ returns-2 c = put-barred _ _ (now (c .before .before .before .before .before .be
 
 mul-len-of : tie.Need-mul-len-of
 mul-len-of c = omega (arith, here (c .before) .well .count)
-
-part-len-of-start : tie.Need-part-len-of-start
-part-len-of-start c = search needs
 
 part-len-of-end : tie.Need-part-len-of-end
 part-len-of-end c = omega (arith, here (c .before) .well .count, here (c .before) .lengths)
@@ -75,9 +69,6 @@ part-put-suffix-end c = omega (arith, here (c .before .before .before .before .b
 mul-put-suffix : tie.Need-mul-put-suffix
 mul-put-suffix c = omega (arith, here (c .before .before .before .before .before .before .before .before) .well .count)
 
-part-put-suffix-start-2 : tie.Need-part-put-suffix-start-2
-part-put-suffix-start-2 c = search needs
-
 part-put-suffix-end-2 : tie.Need-part-put-suffix-end-2
 part-put-suffix-end-2 c = omega (arith, here (c .before .before .before .before .before .before .before .before) .well .count, here (c .before .before .before .before .before .before .before .before) .lengths)
 
@@ -88,9 +79,6 @@ put-suffix-requires c κs =
     let at = c .before .before .before .total-of in
     let tail = to-end (at .result) (now (s .args .bytes)) in
     rw (tail, at .ensures) (suffix-there (path s) f (s .args .k) (c .before .before .before .before .before .before .before .before .if2 .left), rw (← (suffix-cut (path s) f (s .args .k) (c .before .before .before .before .before .before .before .before .if2 .left))) (omega (arith, long (c .before .before .before .before .before .before), c .before .before .before .before .before .if3 .left)))
-
-same-length : tie.Need-same-length
-same-length c = search needs
 
 returns-4 : tie.Need-returns-4
 returns-4 c =
@@ -106,22 +94,6 @@ pub encode-suffix-spec : {M : Type 1} → statement M
 encode-suffix-spec =
     tie.close
     (tie.spec
-    well-formed-requires
-    returns
-    returns-2
-    mul-len-of
-    part-len-of-start
-    part-len-of-end
-    len-of-requires
-    returns-3
-    slice-aggregate-total-of
-    total-of-requires
-    sub-put-suffix
-    part-put-suffix-start
-    part-put-suffix-end
-    mul-put-suffix
-    part-put-suffix-start-2
-    part-put-suffix-end-2
-    put-suffix-requires
-    same-length
-    returns-4)
+    (λ c κs. search needs) returns returns-2 mul-len-of (λ c. search needs) part-len-of-end len-of-requires returns-3
+    slice-aggregate-total-of total-of-requires sub-put-suffix part-put-suffix-start part-put-suffix-end mul-put-suffix (λ c. search needs)
+    part-put-suffix-end-2 put-suffix-requires (λ c. search needs) returns-4)

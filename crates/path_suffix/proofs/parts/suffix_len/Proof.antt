@@ -23,9 +23,6 @@ well c = sym (c .before .well-formed .ensures) ∙ not-false _ (c .if1 .left)
 here : (c : tie.Else1) → Formed (path (c .before .before .before .before))
 here c = parts-formed (well c)
 
-well-formed-requires : tie.Need-well-formed-requires
-well-formed-requires c κs = search needs
-
 returns : tie.Need-returns
 returns c = length-barred _ (path (c .before .before .before .before)) 5 (suffix-malformed _ _ (sym (c .before .well-formed .ensures) ∙ not-true _ (c .if1 .taken)))
 
@@ -34,9 +31,6 @@ returns-2 c = length-barred _ (path (c .before .before .before .before .before))
 
 mul-len-of : tie.Need-mul-len-of
 mul-len-of c = omega (arith, here (c .before) .well .count)
-
-part-len-of-start : tie.Need-part-len-of-start
-part-len-of-start c = search needs
 
 part-len-of-end : tie.Need-part-len-of-end
 part-len-of-end c = omega (arith, here (c .before) .well .count, here (c .before) .lengths)
@@ -52,13 +46,4 @@ returns-3 c =
 
 pub suffix-len-spec : {M : Type 1} → statement M
 suffix-len-spec =
-    tie.close
-    (tie.spec
-    well-formed-requires
-    returns
-    returns-2
-    mul-len-of
-    part-len-of-start
-    part-len-of-end
-    len-of-requires
-    returns-3)
+    tie.close (tie.spec (λ c κs. search needs) returns returns-2 mul-len-of (λ c. search needs) part-len-of-end len-of-requires returns-3)

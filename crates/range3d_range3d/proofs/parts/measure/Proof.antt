@@ -13,17 +13,11 @@ known-well c = sym (c .before .well-formed .ensures) ∙ not-false _ (c .if1 .le
 well : (c : tie.Else2) → wellFormedSubspaces (c .before .before .before .before .before .before .before .before .before .before .before .before .args .subspaces) ≡ true
 well c = sym (c .before .well-formed2 .ensures) ∙ not-false _ (c .if2 .left)
 
-well-formed-requires : tie.Need-well-formed-requires
-well-formed-requires c κs = search needs
-
 returns : tie.Need-returns
 unfolding measureIn
 returns c =
     let e : wellFormedSubspaces (c .before .before .before .before .before .before .before .before .before .before .args .of-subspaces) ≡ false = sym (c .before .well-formed .ensures) ∙ not-true _ (c .if1 .taken) in
     rw e
-
-well-formed-requires-2 : tie.Need-well-formed-requires-2
-well-formed-requires-2 c κs = search needs
 
 returns-2 : tie.Need-returns-2
 unfolding measureIn
@@ -31,20 +25,9 @@ returns-2 c =
     let e : wellFormedSubspaces (c .before .before .before .before .before .before .before .before .before .before .before .before .args .subspaces) ≡ false = sym (c .before .well-formed2 .ensures) ∙ not-true _ (c .if2 .taken) in
     rw (known-well (c .before .before), e)
 
-measure-requires : tie.Need-measure-requires
-measure-requires c κs = search needs
-
 returns-3 : tie.Need-returns-3
 unfolding measureIn
 returns-3 c = rw (known-well (c .before .before .before), well (c .before)) (c .measure .ensures)
 
 pub measure-spec : {M : Type 1} → statement M
-measure-spec =
-    tie.close
-    (tie.spec
-    well-formed-requires
-    returns
-    well-formed-requires-2
-    returns-2
-    measure-requires
-    returns-3)
+measure-spec = tie.close (tie.spec (λ c κs. search needs) returns (λ c κs. search needs) returns-2 (λ c κs. search needs) returns-3)

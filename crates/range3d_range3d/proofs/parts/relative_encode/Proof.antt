@@ -21,15 +21,6 @@ known c =
 paths-are : (c : tie.After-known-told) → let s = c .before .before .before .before .before .before .before .before .before .before .before .before .before in Measures (known s) (value s) (c .before .measured .given .0 .0) (c .before .measured .given .0 .1 .0) (c .before .measured .given .0 .1 .1 .0) (c .before .measured .given .0 .1 .1 .1 .0) (c .before .measured .given .0 .1 .1 .1 .1 .0)
 paths-are c = let s = c .before .before .before .before .before .before .before .before .before .before .before .before .before in measures (known s) (value s) _ _ _ _ _ (sym (c .before .before .before .measure .ensures) ∙ c .before .measured .given .1)
 
-measure-requires : tie.Need-measure-requires
-measure-requires c κs = search needs
-
-enum-known-measured : tie.Need-enum-known-measured
-enum-known-measured c = search needs
-
-enum-told : tie.Need-enum-told
-enum-told c = search needs
-
 returns : tie.Need-returns
 returns c =
     let s = c .before .before .before .before .before .before .before .before .before .before .before .before in
@@ -38,9 +29,6 @@ returns c =
 
 put-range-requires : tie.Need-put-range-requires
 put-range-requires c κs = let m = paths-are (c .before) in (m .shares, m .long, m .short)
-
-same-length : tie.Need-same-length
-same-length c = search needs
 
 returns-2 : tie.Need-returns-2
 returns-2 c =
@@ -51,10 +39,4 @@ pub relative-encode-spec : {M : Type 1} → statement M
 relative-encode-spec =
     tie.close
     (tie.spec
-    measure-requires
-    enum-known-measured
-    enum-told
-    returns
-    put-range-requires
-    same-length
-    returns-2)
+    (λ c κs. search needs) (λ c. search needs) (λ c. search needs) returns put-range-requires (λ c. search needs) returns-2)

@@ -22,23 +22,8 @@ known c =
 paths-are : (c : tie.After-known-told) → let s = c .before .before .before .before .before .before .before .before .before .before .before .before in Measures (known s) (value s) (c .before .measured .given .0 .0) (c .before .measured .given .0 .1 .0) (c .before .measured .given .0 .1 .1 .0) (c .before .measured .given .0 .1 .1 .1 .0) (c .before .measured .given .0 .1 .1 .1 .1 .0)
 paths-are c = let s = c .before .before .before .before .before .before .before .before .before .before .before .before in measures (known s) (value s) _ _ _ _ _ (sym (c .before .before .before .measure .ensures) ∙ c .before .measured .given .1)
 
-measure-requires : tie.Need-measure-requires
-measure-requires c κs = search needs
-
-enum-known-measured : tie.Need-enum-known-measured
-enum-known-measured c = search needs
-
-enum-told : tie.Need-enum-told
-enum-told c = search needs
-
 returns : tie.Need-returns
 returns c = let s = c .before .before .before .before .before .before .before .before .before .before .before in length-barred (againstRange (known s)) (value s) 5 (unmeasured (known s) (value s) (sym (c .before .before .measure .ensures) ∙ c .enum-told .given .1))
-
-relative-len-of-encoding-requires : tie.Need-relative-len-of-encoding-requires
-relative-len-of-encoding-requires c κs = search needs
-
-relative-len-of-encoding-requires-2 : tie.Need-relative-len-of-encoding-requires-2
-relative-len-of-encoding-requires-2 c κs = search needs
 
 add-t23 : tie.Need-add-t23
 add-t23 c = omega (arith, paths-are (c .before .before) .short, c .relative-len-of-encoding2 .ensures .1)
@@ -59,13 +44,5 @@ pub relative-len-of-encoding-spec : {M : Type 1} → statement M
 relative-len-of-encoding-spec =
     tie.close
     (tie.spec
-    measure-requires
-    enum-known-measured
-    enum-told
-    returns
-    relative-len-of-encoding-requires
-    relative-len-of-encoding-requires-2
-    add-t23
-    add-t24
-    add-t25
-    returns-2)
+    (λ c κs. search needs) (λ c. search needs) (λ c. search needs) returns (λ c κs. search needs) (λ c κs. search needs) add-t23 add-t24
+    add-t25 returns-2)

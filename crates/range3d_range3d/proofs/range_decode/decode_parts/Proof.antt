@@ -35,15 +35,6 @@ rest-told : (c : tie.After-decode-rest) → let s = c .before .before .before .b
     GivesRange (c .decode-rest .result) (shift 2 (shift a (readRestOf (c .before .before .before .before .before .before .relative-decode .result .subspaces) (known s .paths) (s .args .of-times) (s .args .header) (s .args .times) (drop a (now (s .args .message))))))
 rest-told c = rw (to-end (c .before .before .before .before .first-answer .given .0 .0) (now (c .before .before .before .before .before .before .before .before .before .before .before .before .args .message))) at (c .decode-rest .ensures)
 
-relative-decode-requires : tie.Need-relative-decode-requires
-relative-decode-requires c κs = search needs
-
-enum-known-first-answer : tie.Need-enum-known-first-answer
-enum-known-first-answer c = search needs
-
-refuse-early-requires : tie.Need-refuse-early-requires
-refuse-early-requires c κs = search needs
-
 returns : tie.Need-returns
 returns c =
     let s = c .before .before .before .before .before .before .before .before in
@@ -55,9 +46,6 @@ sub-decode-rest c = ids-in (c .before)
 
 part-decode-rest-start : tie.Need-part-decode-rest-start
 part-decode-rest-start c = omega (arith, ids-in (c .before))
-
-part-decode-rest-end : tie.Need-part-decode-rest-end
-part-decode-rest-end c = search needs
 
 decode-rest-requires : tie.Need-decode-rest-requires
 decode-rest-requires c κs =
@@ -72,12 +60,5 @@ pub decode-parts-spec : {M : Type 1} → statement M
 decode-parts-spec =
     tie.close
     (tie.spec
-    relative-decode-requires
-    enum-known-first-answer
-    refuse-early-requires
-    returns
-    sub-decode-rest
-    part-decode-rest-start
-    part-decode-rest-end
-    decode-rest-requires
-    returns-2)
+    (λ c κs. search needs) (λ c. search needs) (λ c κs. search needs) returns sub-decode-rest part-decode-rest-start (λ c. search needs)
+    decode-rest-requires returns-2)

@@ -37,12 +37,6 @@ parts-here s =
 parts-told : (c : tie.After-decode-parts) → GivesRange (c .decode-parts .result) (shift 2 (parts-here (c .before .before .before .before .before .before .before .before .before .before .before .before)))
 parts-told c = let a = c .before .before .before .before .before .before .before .before .before .before .before .before .args in rw (c .before .before .before .unpack .ensures, to-end (a .start + 1 + 1) (now (a .message))) at (c .decode-parts .ensures)
 
-has-header-requires : tie.Need-has-header-requires
-has-header-requires c κs = search needs
-
-refuse-early-requires : tie.Need-refuse-early-requires
-refuse-early-requires c κs = search needs
-
 returns : tie.Need-returns
 returns c =
     let s = c .before .before .before .before .before .before .before .before in
@@ -50,9 +44,6 @@ returns c =
 
 shared-slice-read-unpack : tie.Need-shared-slice-read-unpack
 shared-slice-read-unpack c = omega (arith, whole (c .before))
-
-unpack-requires : tie.Need-unpack-requires
-unpack-requires c κs = search needs
 
 add-second : tie.Need-add-second
 add-second c = omega (arith, whole (c .before .before), short (c .before .before .before .before .before .before .before .before .before))
@@ -69,9 +60,6 @@ sub-decode-parts c = omega (arith, whole (c .before .before .before))
 part-decode-parts-start : tie.Need-part-decode-parts-start
 part-decode-parts-start c = omega (arith, whole (c .before .before .before))
 
-part-decode-parts-end : tie.Need-part-decode-parts-end
-part-decode-parts-end c = search needs
-
 decode-parts-requires : tie.Need-decode-parts-requires
 decode-parts-requires c κs =
     let s = c .before .before .before .before .before .before .before .before .before .before .before in
@@ -84,16 +72,5 @@ pub decode-range-spec : {M : Type 1} → statement M
 decode-range-spec =
     tie.close
     (tie.spec
-    has-header-requires
-    refuse-early-requires
-    returns
-    shared-slice-read-unpack
-    unpack-requires
-    add-second
-    shared-slice-read-times
-    add-at
-    sub-decode-parts
-    part-decode-parts-start
-    part-decode-parts-end
-    decode-parts-requires
-    returns-2)
+    (λ c κs. search needs) (λ c κs. search needs) returns shared-slice-read-unpack (λ c κs. search needs) add-second shared-slice-read-times
+    add-at sub-decode-parts part-decode-parts-start (λ c. search needs) decode-parts-requires returns-2)

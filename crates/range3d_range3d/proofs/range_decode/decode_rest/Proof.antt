@@ -42,15 +42,6 @@ times-are c = sym (times-told (c .before .before .before)) ∙ ap (λ (d : Decod
 inside : (c : tie.After-known-told2) → c .before .before .before .before .before .before .first-answer .given .0 .0 + c .before .second-answer .given .0 .0 ≤ length (now (c .before .before .before .before .before .before .before .before .before .before .before .before .before .before .args .message))
 inside c = let s = c .before .before .before .before .before .before .before .before .before .before .before .before .before .before in rest-inside (s .args .subspaces) (known s) (s .args .of-times) (s .args .header) (s .args .times) (now (s .args .message)) _ _ (paths-are (c .before .before .before .before .before)) _ _ (times-are c)
 
-relative-decode-requires : tie.Need-relative-decode-requires
-relative-decode-requires c κs = search needs
-
-enum-known-first-answer : tie.Need-enum-known-first-answer
-enum-known-first-answer c = search needs
-
-refuse-requires : tie.Need-refuse-requires
-refuse-requires c κs = search needs
-
 returns : tie.Need-returns
 unfolding refusal
 returns c =
@@ -63,18 +54,6 @@ sub-relative-decode c = paths-in c
 
 part-relative-decode-start : tie.Need-part-relative-decode-start
 part-relative-decode-start c = omega (arith, paths-in c)
-
-part-relative-decode-end : tie.Need-part-relative-decode-end
-part-relative-decode-end c = search needs
-
-relative-decode-requires-2 : tie.Need-relative-decode-requires-2
-relative-decode-requires-2 c κs = search needs
-
-enum-known-second-answer : tie.Need-enum-known-second-answer
-enum-known-second-answer c = search needs
-
-refuse-requires-2 : tie.Need-refuse-requires-2
-refuse-requires-2 c κs = search needs
 
 returns-2 : tie.Need-returns-2
 unfolding refusal
@@ -101,18 +80,5 @@ pub decode-rest-spec : {M : Type 1} → statement M
 decode-rest-spec =
     tie.close
     (tie.spec
-    relative-decode-requires
-    enum-known-first-answer
-    refuse-requires
-    returns
-    sub-relative-decode
-    part-relative-decode-start
-    part-relative-decode-end
-    relative-decode-requires-2
-    enum-known-second-answer
-    refuse-requires-2
-    returns-2
-    add-t26
-    add-t29
-    add-t30
-    returns-3)
+    (λ c κs. search needs) (λ c. search needs) (λ c κs. search needs) returns sub-relative-decode part-relative-decode-start
+    (λ c. search needs) (λ c κs. search needs) (λ c. search needs) (λ c κs. search needs) returns-2 add-t26 add-t29 add-t30 returns-3)

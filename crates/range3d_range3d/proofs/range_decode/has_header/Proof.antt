@@ -8,11 +8,5 @@ use Rattle.range3d_range3d.proofs.range_decode.has_header.Tie as tie
 returns : tie.Need-returns
 returns c = let a = c .before .args in rw (le-ltb (a .start + 1) (a .len) (omega (arith, c .if1 .taken)))
 
-add-result : tie.Need-add-result
-add-result c = search needs
-
-returns-2 : tie.Need-returns-2
-returns-2 c = search needs
-
 pub has-header-spec : {M : Type 1} → statement M
-has-header-spec = tie.close (tie.spec returns add-result returns-2)
+has-header-spec = tie.close (tie.spec returns (λ c. search needs) (λ c. search needs))

@@ -10,21 +10,12 @@ use borrow.Author.Needs.{needs}
 use Rattle.range3d_range3d.proofs.range_decode.refuse_early.Statement.{statement}
 use Rattle.range3d_range3d.proofs.range_decode.refuse_early.Tie as tie
 
-well-formed-requires : tie.Need-well-formed-requires
-well-formed-requires c κs = search needs
-
-refuse-requires : tie.Need-refuse-requires
-refuse-requires c κs = search needs
-
 returns : tie.Need-returns
 unfolding earlyRefusal
 returns c =
     let a = c .before .before .before .before .before .before .before .args in
     let e : wellFormedPaths (pathsWith (pathOf (now (a .of-start-bytes)) (now (a .of-start-lengths)) (a .of-start-count)) (a .of-end-open) (pathOf (now (a .of-end-bytes)) (now (a .of-end-lengths)) (a .of-end-count))) ≡ false = sym (c .before .before .well-formed .ensures) ∙ not-true _ (c .before .if1 .taken) in
     rw e (c .refuse .ensures)
-
-refuse-requires-2 : tie.Need-refuse-requires-2
-refuse-requires-2 c κs = search needs
 
 returns-2 : tie.Need-returns-2
 unfolding earlyRefusal
@@ -34,5 +25,4 @@ returns-2 c =
     rw e (c .refuse2 .ensures)
 
 pub refuse-early-spec : {M : Type 1} → statement M
-refuse-early-spec =
-    tie.close (tie.spec well-formed-requires refuse-requires returns refuse-requires-2 returns-2)
+refuse-early-spec = tie.close (tie.spec (λ c κs. search needs) (λ c κs. search needs) returns (λ c κs. search needs) returns-2)

@@ -9,27 +9,6 @@ use borrow.Author.Needs.{needs}
 use Rattle.range3d_range3d.proofs.range_encode.put_head.Statement.{statement}
 use Rattle.range3d_range3d.proofs.range_encode.put_head.Tie as tie
 
-sources-of-requires : tie.Need-sources-of-requires
-sources-of-requires c κs = search needs
-
-is-open-requires : tie.Need-is-open-requires
-is-open-requires c κs = search needs
-
-pack-requires : tie.Need-pack-requires
-pack-requires c κs = search needs
-
-slice-write-buffer : tie.Need-slice-write-buffer
-slice-write-buffer c = search needs
-
-header-byte-requires : tie.Need-header-byte-requires
-header-byte-requires c κs = search needs
-
-slice-write-buffer-2 : tie.Need-slice-write-buffer-2
-slice-write-buffer-2 c = search needs
-
-same-length : tie.Need-same-length
-same-length c = search needs
-
 returns : tie.Need-returns
 returns c =
     let a = c .before .before .before .before .before .args in
@@ -43,11 +22,5 @@ pub put-head-spec : {M : Type 1} → statement M
 put-head-spec =
     tie.close
     (tie.spec
-    sources-of-requires
-    is-open-requires
-    pack-requires
-    slice-write-buffer
-    header-byte-requires
-    slice-write-buffer-2
-    same-length
-    returns)
+    (λ c κs. search needs) (λ c κs. search needs) (λ c κs. search needs) (λ c. search needs) (λ c κs. search needs) (λ c. search needs)
+    (λ c. search needs) returns)

@@ -45,22 +45,10 @@ inside c =
     let s = c .before .before .before .before .before .before .before .before .before .before .before .before .before in
     omega (arith, next-inside (now (s .args .buffer)) (sharedFrom (s .args .start-shared) .encode (paths s .start)) (sharedFrom (s .args .end-shared) .encode (paths s .end)) _ _ (there (c .before .before .before .before .before .before)) (long (c .before)) (room s (c .if1 .left)))
 
-encode-shared-requires : tie.Need-encode-shared-requires
-encode-shared-requires c κs = search needs
-
-enum-known-start : tie.Need-enum-known-start
-enum-known-start c = search needs
-
-same-length : tie.Need-same-length
-same-length c = search needs
-
 returns : tie.Need-returns
 returns c =
     let none = no-length (c .before .before .before .encode-shared .result) (c .match .keys2) in
     absurd (wrote-not-denied _ (none .why) (sym (answer (c .before .before .before)) ∙ none .is))
-
-same-length-2 : tie.Need-same-length-2
-same-length-2 c = search needs
 
 returns-2 : tie.Need-returns-2
 returns-2 c =
@@ -72,15 +60,6 @@ sub-encode-shared c = inside c
 
 part-encode-shared-start : tie.Need-part-encode-shared-start
 part-encode-shared-start c = inside c
-
-part-encode-shared-end : tie.Need-part-encode-shared-end
-part-encode-shared-end c = search needs
-
-encode-shared-requires-2 : tie.Need-encode-shared-requires-2
-encode-shared-requires-2 c κs = search needs
-
-same-length-3 : tie.Need-same-length-3
-same-length-3 c = search needs
 
 returns-3 : tie.Need-returns-3
 returns-3 c =
@@ -94,15 +73,5 @@ pub put-paths-spec : {M : Type 1} → statement M
 put-paths-spec =
     tie.close
     (tie.spec
-    encode-shared-requires
-    enum-known-start
-    same-length
-    returns
-    same-length-2
-    returns-2
-    sub-encode-shared
-    part-encode-shared-start
-    part-encode-shared-end
-    encode-shared-requires-2
-    same-length-3
-    returns-3)
+    (λ c κs. search needs) (λ c. search needs) (λ c. search needs) returns (λ c. search needs) returns-2 sub-encode-shared
+    part-encode-shared-start (λ c. search needs) (λ c κs. search needs) (λ c. search needs) returns-3)

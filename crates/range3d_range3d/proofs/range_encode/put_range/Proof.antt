@@ -75,69 +75,15 @@ three c =
     let w = c .before .before .put-paths in
     over-next (now (s .args .buffer)) (head s ++ subspaces s) (paths s) _ _ (two (c .before .before .before .before)) (at-paths (c .before .before .before .before .before .before .before .before .before .before .before .before)) (w .last .0) (w .ensures)
 
-relative-len-of-encoding-requires : tie.Need-relative-len-of-encoding-requires
-relative-len-of-encoding-requires c κs = search needs
-
-add-s : tie.Need-add-s
-add-s c = search needs
-
-add-t : tie.Need-add-t
-add-t c = search needs
-
-relative-len-of-encoding-requires-2 : tie.Need-relative-len-of-encoding-requires-2
-relative-len-of-encoding-requires-2 c κs = search needs
-
-add-whole : tie.Need-add-whole
-add-whole c = search needs
-
 returns : tie.Need-returns
 returns c =
     let s = c .before .before .before .before .before .before .before .before in
     put-full allowed (whole s) (now (s .args .buffer)) refl _ (long (c .before)) (c .if1 .taken)
 
-put-head-requires : tie.Need-put-head-requires
-put-head-requires c κs = search needs
-
-sub-relative-encode : tie.Need-sub-relative-encode
-sub-relative-encode c = search needs
-
-part-relative-encode-start : tie.Need-part-relative-encode-start
-part-relative-encode-start c = search needs
-
-part-relative-encode-end : tie.Need-part-relative-encode-end
-part-relative-encode-end c = search needs
-
-relative-encode-requires : tie.Need-relative-encode-requires
-relative-encode-requires c κs = search needs
-
-sub-put-paths : tie.Need-sub-put-paths
-sub-put-paths c = search needs
-
-part-put-paths-start : tie.Need-part-put-paths-start
-part-put-paths-start c = search needs
-
-part-put-paths-end : tie.Need-part-put-paths-end
-part-put-paths-end c = search needs
-
 put-paths-requires : tie.Need-put-paths-requires
 put-paths-requires c κs =
     let s = c .before .before .before .before .before .before .before .before .before .before .before .before .before .before .before .before .before in
     (s .pre .0, next-room (now (s .args .buffer)) (head s ++ subspaces s) (paths s) _ _ (two (c .before)) (at-paths (c .before .before .before .before .before .before .before .before .before)) (room-paths (c .before .before .before .before .before .before .before .before .before)))
-
-sub-relative-encode-2 : tie.Need-sub-relative-encode-2
-sub-relative-encode-2 c = search needs
-
-part-relative-encode-start-2 : tie.Need-part-relative-encode-start-2
-part-relative-encode-start-2 c = search needs
-
-part-relative-encode-end-2 : tie.Need-part-relative-encode-end-2
-part-relative-encode-end-2 c = search needs
-
-relative-encode-requires-2 : tie.Need-relative-encode-requires-2
-relative-encode-requires-2 c κs = search needs
-
-same-length : tie.Need-same-length
-same-length c = search needs
 
 returns-2 : tie.Need-returns-2
 returns-2 c =
@@ -152,24 +98,7 @@ pub put-range-spec : {M : Type 1} → statement M
 put-range-spec =
     tie.close
     (tie.spec
-    relative-len-of-encoding-requires
-    add-s
-    add-t
-    relative-len-of-encoding-requires-2
-    add-whole
-    returns
-    put-head-requires
-    sub-relative-encode
-    part-relative-encode-start
-    part-relative-encode-end
-    relative-encode-requires
-    sub-put-paths
-    part-put-paths-start
-    part-put-paths-end
-    put-paths-requires
-    sub-relative-encode-2
-    part-relative-encode-start-2
-    part-relative-encode-end-2
-    relative-encode-requires-2
-    same-length
-    returns-2)
+    (λ c κs. search needs) (λ c. search needs) (λ c. search needs) (λ c κs. search needs) (λ c. search needs) returns (λ c κs. search needs)
+    (λ c. search needs) (λ c. search needs) (λ c. search needs) (λ c κs. search needs) (λ c. search needs) (λ c. search needs)
+    (λ c. search needs) put-paths-requires (λ c. search needs) (λ c. search needs) (λ c. search needs) (λ c κs. search needs)
+    (λ c. search needs) returns-2)

@@ -5,15 +5,9 @@ use borrow.Author.Needs.{needs}
 use Rattle.range_3d.proofs.PathRange.well_formed.Statement.{statement}
 use Rattle.range_3d.proofs.PathRange.well_formed.Tie as tie
 
-well-formed-requires : tie.Need-well-formed-requires
-well-formed-requires c κs = search needs
-
 returns : tie.Need-returns
 unfolding wellFormedPaths
 returns c = rw (sym (c .before .well-formed .ensures) ∙ not-true _ (c .if1 .taken))
-
-well-formed-requires-2 : tie.Need-well-formed-requires-2
-well-formed-requires-2 c κs = search needs
 
 returns-2 : tie.Need-returns-2
 unfolding wellFormedPaths
@@ -28,6 +22,4 @@ unfolding wellFormedPaths
 returns-4 c = rw (sym (c .before .before .before .before .well-formed .ensures) ∙ not-false _ (c .before .before .before .if1 .left), sym (c .before .before .well-formed2 .ensures) ∙ not-false _ (c .before .if2 .left), c .if3 .left)
 
 pub well-formed-spec : {M : Type 1} → statement M
-well-formed-spec =
-    tie.close
-    (tie.spec well-formed-requires returns well-formed-requires-2 returns-2 returns-3 returns-4)
+well-formed-spec = tie.close (tie.spec (λ c κs. search needs) returns (λ c κs. search needs) returns-2 returns-3 returns-4)

@@ -7,9 +7,6 @@ use borrow.Author.Needs.{needs}
 use Rattle.range_paths.proofs.parts.empty.Statement.{statement}
 use Rattle.range_paths.proofs.parts.empty.Tie as tie
 
-well-formed-requires : tie.Need-well-formed-requires
-well-formed-requires c κs = search needs
-
 returns : tie.Need-returns
 returns c =
     let a = c .before .before .before .before .args in
@@ -23,4 +20,4 @@ returns-2 c =
     rw e
 
 pub empty-spec : {M : Type 1} → statement M
-empty-spec = tie.close (tie.spec well-formed-requires returns returns-2)
+empty-spec = tie.close (tie.spec (λ c κs. search needs) returns returns-2)

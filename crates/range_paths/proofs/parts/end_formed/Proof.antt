@@ -6,17 +6,11 @@ use borrow.Author.Needs.{needs}
 use Rattle.range_paths.proofs.parts.end_formed.Statement.{statement}
 use Rattle.range_paths.proofs.parts.end_formed.Tie as tie
 
-empty-requires : tie.Need-empty-requires
-empty-requires c κs = search needs
-
 returns : tie.Need-returns
 returns c = rw (c .before .if1 .taken) (c .empty .ensures)
-
-well-formed-requires : tie.Need-well-formed-requires
-well-formed-requires c κs = search needs
 
 returns-2 : tie.Need-returns-2
 returns-2 c = let a = c .before .before .before .before .args in rw (c .before .if1 .left) (c .well-formed .ensures ∙ sym (and-true (wellFormed (pathOf (now (a .bytes)) (now (a .lengths)) (a .count)))))
 
 pub end-formed-spec : {M : Type 1} → statement M
-end-formed-spec = tie.close (tie.spec empty-requires returns well-formed-requires returns-2)
+end-formed-spec = tie.close (tie.spec (λ c κs. search needs) returns (λ c κs. search needs) returns-2)

@@ -22,38 +22,17 @@ start-near c = let s = c .before .before .before .before .before .before .before
 end-near : (c : tie.After-known-told2) → let s = c .before .before .before .before .before .before .before .before .before .before .before .before .before .before .before .before .before .before in Nears (known s) (paths s .end) (c .before .last .given .0 .0) (c .before .last .given .0 .1 .0)
 end-near c = let s = c .before .before .before .before .before .before .before .before .before .before .before .before .before .before .before .before .before .before in nears (known s) (paths s .end) _ _ (sym (c .before .before .before .nearest2 .ensures) ∙ c .before .last .given .1)
 
-nearest-requires : tie.Need-nearest-requires
-nearest-requires c κs = search needs
-
-enum-known-first : tie.Need-enum-known-first
-enum-known-first c = search needs
-
-enum-told : tie.Need-enum-told
-enum-told c = search needs
-
 returns : tie.Need-returns
 returns c = let s = c .before .before .before .before .before .before .before .before .before .before .before in no-start (known s) (paths s) (sym (c .before .before .nearest .ensures) ∙ c .enum-told .given .1)
 
 path-len-requires : tie.Need-path-len-requires
 path-len-requires c κs = let s = c .before .before .before .before .before .before .before .before .before .before .before .before in near-allowed (known s) (paths s .start) _ _ (start-near c)
 
-empty-requires : tie.Need-empty-requires
-empty-requires c κs = search needs
-
 returns-2 : tie.Need-returns-2
 returns-2 c = let s = c .before .before .before .before .before .before .before .before .before .before .before .before .before .before .before .before in not-empty (known s) (paths s) (c .before .before .if1 .taken) (sym (c .before .empty .ensures) ∙ not-true _ (c .if2 .taken))
 
 returns-3 : tie.Need-returns-3
 returns-3 c = let s = c .before .before .before .before .before .before .before .before .before .before .before .before .before .before .before .before in measured-open (known s) (paths s) _ _ _ (start-near (c .before .before .before .before)) (c .before .before .before .path-len .ensures .0) (c .before .before .if1 .taken) (sym (c .before .empty .ensures) ∙ not-false _ (c .if2 .left))
-
-nearest-requires-2 : tie.Need-nearest-requires-2
-nearest-requires-2 c κs = search needs
-
-enum-known-last : tie.Need-enum-known-last
-enum-known-last c = search needs
-
-enum-told-2 : tie.Need-enum-told-2
-enum-told-2 c = search needs
 
 returns-4 : tie.Need-returns-4
 returns-4 c = let s = c .before .before .before .before .before .before .before .before .before .before .before .before .before .before .before .before .before in no-end (known s) (paths s) (c .before .before .before .if1 .left) (sym (c .before .before .nearest2 .ensures) ∙ c .enum-told2 .given .1)
@@ -71,18 +50,5 @@ pub measure-spec : {M : Type 1} → statement M
 measure-spec =
     tie.close
     (tie.spec
-    nearest-requires
-    enum-known-first
-    enum-told
-    returns
-    path-len-requires
-    empty-requires
-    returns-2
-    returns-3
-    nearest-requires-2
-    enum-known-last
-    enum-told-2
-    returns-4
-    path-len-requires-2
-    add-t26
-    returns-5)
+    (λ c κs. search needs) (λ c. search needs) (λ c. search needs) returns path-len-requires (λ c κs. search needs) returns-2 returns-3
+    (λ c κs. search needs) (λ c. search needs) (λ c. search needs) returns-4 path-len-requires-2 add-t26 returns-5)

@@ -23,35 +23,14 @@ with-start c = let s = c .before .before .before .before .before .before .before
 with-end : (c : tie.After-known-told2) → let s = c .before .before .before .before .before .before .before .before .before .before .before .before .before .before .before in Common (known s .end) (path s) (c .before .with-end .given .0 .0)
 with-end c = let s = c .before .before .before .before .before .before .before .before .before .before .before .before .before .before .before in common (known s .end) (path s) _ (sym (c .before .before .before .longest-common-prefix2 .ensures) ∙ c .before .with-end .given .1)
 
-longest-common-prefix-requires : tie.Need-longest-common-prefix-requires
-longest-common-prefix-requires c κs = search needs
-
-enum-known-with-start : tie.Need-enum-known-with-start
-enum-known-with-start c = search needs
-
-enum-told : tie.Need-enum-told
-enum-told c = search needs
-
 returns : tie.Need-returns
 returns c = let s = c .before .before .before .before .before .before .before .before .before in near-no-start (known s) (path s) (uncommon (known s .start) (path s) (sym (c .before .before .longest-common-prefix .ensures) ∙ c .enum-told .given .1))
-
-empty-requires : tie.Need-empty-requires
-empty-requires c κs = search needs
 
 returns-2 : tie.Need-returns-2
 returns-2 c = let s = c .before .before .before .before .before .before .before .before .before .before .before .before .before in near-not-empty (known s) (path s) (c .before .before .if1 .taken) (sym (c .before .empty .ensures) ∙ not-true _ (c .if2 .taken))
 
 returns-3 : tie.Need-returns-3
 returns-3 c = let s = c .before .before .before .before .before .before .before .before .before .before .before .before .before in near-open (known s) (path s) (c .before .before .if1 .taken) _ (with-start (c .before .before .before)) (sym (c .before .empty .ensures) ∙ not-false _ (c .if2 .left))
-
-longest-common-prefix-requires-2 : tie.Need-longest-common-prefix-requires-2
-longest-common-prefix-requires-2 c κs = search needs
-
-enum-known-with-end : tie.Need-enum-known-with-end
-enum-known-with-end c = search needs
-
-enum-told-2 : tie.Need-enum-told-2
-enum-told-2 c = search needs
 
 returns-4 : tie.Need-returns-4
 returns-4 c = let s = c .before .before .before .before .before .before .before .before .before .before .before .before .before .before in near-no-end (known s) (path s) (c .before .before .before .if1 .left) (uncommon (known s .end) (path s) (sym (c .before .before .longest-common-prefix2 .ensures) ∙ c .enum-told2 .given .1))
@@ -66,16 +45,5 @@ pub nearest-spec : {M : Type 1} → statement M
 nearest-spec =
     tie.close
     (tie.spec
-    longest-common-prefix-requires
-    enum-known-with-start
-    enum-told
-    returns
-    empty-requires
-    returns-2
-    returns-3
-    longest-common-prefix-requires-2
-    enum-known-with-end
-    enum-told-2
-    returns-4
-    returns-5
-    returns-6)
+    (λ c κs. search needs) (λ c. search needs) (λ c. search needs) returns (λ c κs. search needs) returns-2 returns-3 (λ c κs. search needs)
+    (λ c. search needs) (λ c. search needs) returns-4 returns-5 returns-6)

@@ -20,12 +20,6 @@ path c = pathOf (now (c .args .bytes)) (now (c .args .lengths)) (c .args .count)
 short : (c : tie.Start) → length (sharedFrom (c .args .k) .encode (path c)) ≤ 900
 short c = shared-short (path c) (c .args .k) (verdict-allowed _ _ (c .pre) .0)
 
-shared-len-requires : tie.Need-shared-len-requires
-shared-len-requires c κs = search needs
-
-enum-known-whole : tie.Need-enum-known-whole
-enum-known-whole c = search needs
-
 returns : tie.Need-returns
 returns c =
     let s = c .before .before .before .before in
@@ -39,4 +33,4 @@ returns-2 c =
     (n .1, omega (arith, n .1, short s))
 
 pub path-len-spec : {M : Type 1} → statement M
-path-len-spec = tie.close (tie.spec shared-len-requires enum-known-whole returns returns-2)
+path-len-spec = tie.close (tie.spec (λ c κs. search needs) (λ c. search needs) returns returns-2)

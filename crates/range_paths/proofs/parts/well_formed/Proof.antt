@@ -8,18 +8,12 @@ use borrow.Author.Needs.{needs}
 use Rattle.range_paths.proofs.parts.well_formed.Statement.{statement}
 use Rattle.range_paths.proofs.parts.well_formed.Tie as tie
 
-well-formed-requires : tie.Need-well-formed-requires
-well-formed-requires c κs = search needs
-
 returns : tie.Need-returns
 unfolding wellFormedPaths
 returns c =
     let a = c .before .before .before .before .before .before .args in
     let e : wellFormed (pathOf (now (a .start-bytes)) (now (a .start-lengths)) (a .start-count)) ≡ false = sym (c .before .well-formed .ensures) ∙ not-true _ (c .if1 .taken) in
     rw e
-
-end-formed-requires : tie.Need-end-formed-requires
-end-formed-requires c κs = search needs
 
 returns-2 : tie.Need-returns-2
 unfolding wellFormedPaths
@@ -29,4 +23,4 @@ returns-2 c =
     rw e (c .end-formed .ensures)
 
 pub well-formed-spec : {M : Type 1} → statement M
-well-formed-spec = tie.close (tie.spec well-formed-requires returns end-formed-requires returns-2)
+well-formed-spec = tie.close (tie.spec (λ c κs. search needs) returns (λ c κs. search needs) returns-2)

@@ -34,20 +34,11 @@ end-is : (c : tie.After-known-told2) → let s = c .before .before .before .befo
     readSideOf (known s) (s .args .sides .«end_from_start») (drop (c .before .before .before .before .before .before .before .before .first-answer .given .0 .0) (now (s .args .message))) ≡ accepted (c .before .before .before .decode-path .result .path) (c .before .second-answer .given .0 .0)
 end-is c = sym (end-told (c .before .before .before) .answer) ∙ ap (λ (d : Decoded). answerOf d (c .before .before .before .decode-path .result .path)) (c .before .second-answer .given .1)
 
-enum-known-first-answer : tie.Need-enum-known-first-answer
-enum-known-first-answer c = search needs
-
-refuse-requires : tie.Need-refuse-requires
-refuse-requires c κs = search needs
-
 returns : tie.Need-returns
 returns c =
     let s = c .before .before .before .before .before .before .before in
     let x = no-value (s .args .first .answer) (c .before .match .keys2) in
     rw (c .refuse .ensures .0, c .refuse .ensures .1) (gives-refused (x .why) (x .beside _) (paths-start (s .args .end-open) (s .args .sides) (known s) (now (s .args .message)) (s .pre .0) (x .why) (sym (s .pre .1 .answer) ∙ x .beside _)))
-
-new-empty-requires : tie.Need-new-empty-requires
-new-empty-requires c κs = search needs
 
 returns-2 : tie.Need-returns-2
 returns-2 c =
@@ -59,18 +50,6 @@ sub-decode-path c = start-in (c .before .before)
 
 part-decode-path-start : tie.Need-part-decode-path-start
 part-decode-path-start c = omega (arith, start-in (c .before .before))
-
-part-decode-path-end : tie.Need-part-decode-path-end
-part-decode-path-end c = search needs
-
-decode-path-requires : tie.Need-decode-path-requires
-decode-path-requires c κs = search needs
-
-enum-known-second-answer : tie.Need-enum-known-second-answer
-enum-known-second-answer c = search needs
-
-refuse-requires-2 : tie.Need-refuse-requires-2
-refuse-requires-2 c κs = search needs
 
 returns-3 : tie.Need-returns-3
 returns-3 c =
@@ -92,17 +71,5 @@ pub decode-end-spec : {M : Type 1} → statement M
 decode-end-spec =
     tie.close
     (tie.spec
-    enum-known-first-answer
-    refuse-requires
-    returns
-    new-empty-requires
-    returns-2
-    sub-decode-path
-    part-decode-path-start
-    part-decode-path-end
-    decode-path-requires
-    enum-known-second-answer
-    refuse-requires-2
-    returns-3
-    add-t24
-    returns-4)
+    (λ c. search needs) (λ c κs. search needs) returns (λ c κs. search needs) returns-2 sub-decode-path part-decode-path-start
+    (λ c. search needs) (λ c κs. search needs) (λ c. search needs) (λ c κs. search needs) returns-3 add-t24 returns-4)

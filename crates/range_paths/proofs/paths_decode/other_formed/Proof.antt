@@ -10,23 +10,14 @@ use Rattle.range_paths.proofs.paths_decode.other_formed.Tie as tie
 start-formed : (c : tie.Else2) → let a = c .before .before .before .before .before .before .before .args in wellFormed (pathOf (now (a .start-bytes)) (now (a .start-lengths)) (a .start-count)) ≡ true
 start-formed c = sym (c .before .well-formed .ensures) ∙ not-false _ (c .if2 .left)
 
-end-formed-requires : tie.Need-end-formed-requires
-end-formed-requires c κs = search needs
-
 returns : tie.Need-returns
 returns c = rw (c .before .if1 .taken) (c .end-formed .ensures)
-
-well-formed-requires : tie.Need-well-formed-requires
-well-formed-requires c κs = search needs
 
 returns-2 : tie.Need-returns-2
 returns-2 c =
     let a = c .before .before .before .before .before .before .before .args in
     let e : wellFormed (pathOf (now (a .start-bytes)) (now (a .start-lengths)) (a .start-count)) ≡ false = sym (c .before .well-formed .ensures) ∙ not-true _ (c .if2 .taken) in
     rw (c .before .before .if1 .left, e)
-
-empty-requires : tie.Need-empty-requires
-empty-requires c κs = search needs
 
 returns-3 : tie.Need-returns-3
 returns-3 c = rw (c .before .before .before .before .if1 .left, start-formed (c .before .before), c .before .if3 .taken) (c .empty .ensures)
@@ -36,12 +27,4 @@ returns-4 c = rw (c .before .before .before .if1 .left, start-formed (c .before)
 
 pub other-formed-spec : {M : Type 1} → statement M
 other-formed-spec =
-    tie.close
-    (tie.spec
-    end-formed-requires
-    returns
-    well-formed-requires
-    returns-2
-    empty-requires
-    returns-3
-    returns-4)
+    tie.close (tie.spec (λ c κs. search needs) returns (λ c κs. search needs) returns-2 (λ c κs. search needs) returns-3 returns-4)

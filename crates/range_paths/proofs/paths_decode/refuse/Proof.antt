@@ -4,15 +4,9 @@ use borrow.Author.Needs.{needs}
 use Rattle.range_paths.proofs.paths_decode.refuse.Statement.{statement}
 use Rattle.range_paths.proofs.paths_decode.refuse.Tie as tie
 
-new-empty-requires : tie.Need-new-empty-requires
-new-empty-requires c κs = search needs
-
-new-empty-requires-2 : tie.Need-new-empty-requires-2
-new-empty-requires-2 c κs = search needs
-
 returns : tie.Need-returns
 unfolding pathsFrom
 returns c = (refl, rw (c .before .new-empty .ensures, c .new-empty2 .ensures))
 
 pub refuse-spec : {M : Type 1} → statement M
-refuse-spec = tie.close (tie.spec new-empty-requires new-empty-requires-2 returns)
+refuse-spec = tie.close (tie.spec (λ c κs. search needs) (λ c κs. search needs) returns)

@@ -13,33 +13,16 @@ use Rattle.range_paths.proofs.paths_decode.relative_decode.Tie as tie
 abbrev known : tie.Start → PathRange
 known s = let a = s .args in pathsWith (pathOf (now (a .of-start-bytes)) (now (a .of-start-lengths)) (a .of-start-count)) (a .of-end-open) (pathOf (now (a .of-end-bytes)) (now (a .of-end-lengths)) (a .of-end-count))
 
-other-formed-requires : tie.Need-other-formed-requires
-other-formed-requires c κs = search needs
-
-refuse-requires : tie.Need-refuse-requires
-refuse-requires c κs = search needs
-
 returns : tie.Need-returns
 returns c =
     let s = c .before .before .before .before .before .before .before .before in
     rw (c .refuse .ensures .0, c .refuse .ensures .1) (gives-refused 5 refl (paths-malformed (s .args .end-open) (s .args .sides) (known s) (now (s .args .message)) (other-fails (known s) (s .args .sides .«start_from_start») (sym (c .before .before .other-formed .ensures) ∙ not-true _ (c .before .if1 .taken)))))
 
-decode-path-requires : tie.Need-decode-path-requires
-decode-path-requires c κs = search needs
-
 decode-end-requires : tie.Need-decode-end-requires
 decode-end-requires c κs = (sym (c .before .before .other-formed .ensures) ∙ not-false _ (c .before .if1 .left), c .decode-path .ensures)
-
-returns-2 : tie.Need-returns-2
-returns-2 c = search needs
 
 pub relative-decode-spec : {M : Type 1} → statement M
 relative-decode-spec =
     tie.close
     (tie.spec
-    other-formed-requires
-    refuse-requires
-    returns
-    decode-path-requires
-    decode-end-requires
-    returns-2)
+    (λ c κs. search needs) (λ c κs. search needs) returns (λ c κs. search needs) decode-end-requires (λ c. search needs))
