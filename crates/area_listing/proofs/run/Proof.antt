@@ -16,19 +16,35 @@ loop-holds : tie.Need-loop-holds Inv-loop μ-loop
 loop-holds c = (omega arith, refl, refl)
 
 turn-requires : tie.Need-turn-requires Inv-loop μ-loop
-turn-requires c κs = (c .before .before .before .loop .inv .0, (omega (arith, c .before .before .before .loop .inv .1), omega (arith, c .before .before .before .loop .inv .2)))
+turn-requires c κs =
+    let at-loop : tie.At-loop Inv-loop μ-loop = search in
+    (at-loop .loop .inv .0, (omega (arith, at-loop .loop .inv .1), omega (arith, at-loop .loop .inv .2)))
 
 finish-requires : tie.Need-finish-requires Inv-loop μ-loop
-finish-requires c κs = omega (arith, c .before .before .before .before .before .before .before .before .turn .ensures, c .before .before .before .before .before .before .before .before .turn .kept .0, c .before .before .before .before .before .before .before .before .before .before .before .before .loop .inv .1)
+finish-requires c κs =
+    let after-turn : tie.After-turn Inv-loop μ-loop = search in
+    let at-loop : tie.At-loop Inv-loop μ-loop = search in
+    omega (arith, after-turn .turn .ensures, after-turn .turn .kept .0, at-loop .loop .inv .1)
 
 same-length : tie.Need-same-length Inv-loop μ-loop
-same-length c = c .before .before .before .before .finish .kept .0 ∙ c .before .before .before .before .before .before .before .before .before .before .before .before .before .turn .kept .0 ∙ c .before .before .before .before .before .before .before .before .before .before .before .before .before .before .before .before .before .loop .inv .1
+same-length c =
+    let after-finish : tie.After-finish Inv-loop μ-loop = search in
+    let after-turn : tie.After-turn Inv-loop μ-loop = search in
+    let at-loop : tie.At-loop Inv-loop μ-loop = search in
+    after-finish .finish .kept .0 ∙ after-turn .turn .kept .0 ∙ at-loop .loop .inv .1
 
 same-length-2 : tie.Need-same-length-2 Inv-loop μ-loop
-same-length-2 c = c .before .before .before .before .finish .kept .1 .1 .0 ∙ c .before .before .before .before .before .before .before .before .before .before .before .before .before .turn .kept .1 .1 .0 ∙ c .before .before .before .before .before .before .before .before .before .before .before .before .before .before .before .before .before .loop .inv .2
+same-length-2 c =
+    let after-finish : tie.After-finish Inv-loop μ-loop = search in
+    let after-turn : tie.After-turn Inv-loop μ-loop = search in
+    let at-loop : tie.At-loop Inv-loop μ-loop = search in
+    after-finish .finish .kept .1 .1 .0 ∙ after-turn .turn .kept .1 .1 .0 ∙ at-loop .loop .inv .2
 
 loop-again : tie.Need-loop-again Inv-loop μ-loop
-loop-again c = (c .before .before .before .before .before .before .turn .ensures, c .before .before .before .before .before .before .turn .kept .0 ∙ c .before .before .before .before .before .before .before .before .before .before .loop .inv .1, c .before .before .before .before .before .before .turn .kept .1 .1 .0 ∙ c .before .before .before .before .before .before .before .before .before .before .loop .inv .2)
+loop-again c =
+    let after-turn : tie.After-turn Inv-loop μ-loop = search in
+    let at-loop : tie.At-loop Inv-loop μ-loop = search in
+    (after-turn .turn .ensures, after-turn .turn .kept .0 ∙ at-loop .loop .inv .1, after-turn .turn .kept .1 .1 .0 ∙ at-loop .loop .inv .2)
 
 same-length-3 : tie.Need-same-length-3 Inv-loop μ-loop
 same-length-3 c = c .before .loop .inv .1

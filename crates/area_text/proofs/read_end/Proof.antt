@@ -9,11 +9,18 @@ returns c = rw (← (c .before .same-bytes .ensures), c .if1 .taken)
 
 returns-2 : tie.Need-returns-2
 unfolding readEndText
-returns-2 c = rw (← (c .before .before .before .before .before .same-bytes .ensures), c .before .before .before .before .if1 .left, ← (c .before .before .before .read-decimal .ensures), c .before .number .given .1)
+returns-2 c =
+    let after-read-decimal : tie.After-read-decimal = search in
+    let else1 : tie.Else1 = search in
+    let after-same-bytes : tie.After-same-bytes = search in
+    rw (← (after-same-bytes .same-bytes .ensures), else1 .if1 .left, ← (after-read-decimal .read-decimal .ensures), c .before .number .given .1)
 
 returns-3 : tie.Need-returns-3
 unfolding readEndText
-returns-3 c = rw (← (c .before .before .before .before .same-bytes .ensures), c .before .before .before .if1 .left, ← (c .before .before .read-decimal .ensures), c .enum-told .given .1)
+returns-3 c =
+    let else1 : tie.Else1 = search in
+    let after-same-bytes : tie.After-same-bytes = search in
+    rw (← (after-same-bytes .same-bytes .ensures), else1 .if1 .left, ← (c .before .before .read-decimal .ensures), c .enum-told .given .1)
 
 pub read-end-spec : {M : Type 1} → statement M
 read-end-spec =

@@ -5,7 +5,10 @@ use Rattle.area_times.proofs.header_of.Tie as tie
 
 returns : tie.Need-returns
 unfolding headerOf
-returns c = rw (c .min-tag2 .ensures, c .before .min-tag .ensures, c .before .before .is-open .ensures, c .before .before .before .end-difference .ensures, c .before .before .before .before .difference .ensures)
+returns c =
+    let after-end-difference : tie.After-end-difference = search in
+    let after-difference : tie.After-difference = search in
+    rw (c .min-tag2 .ensures, c .before .min-tag .ensures, c .before .before .is-open .ensures, after-end-difference .end-difference .ensures, after-difference .difference .ensures)
 
 pub header-of-spec : {M : Type 1} → statement M
 header-of-spec =

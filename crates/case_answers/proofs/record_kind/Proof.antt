@@ -11,20 +11,20 @@ returns c =
 returns-2 : tie.Need-returns-2
 unfolding recordKind
 returns-2 c =
-    let c1 = c .before .before .before in
+    let c1 : tie.Else1 = search in
     rw (← (c1 .before .same-bytes .ensures), c1 .if1 .left, ← (c .before .same-bytes2 .ensures), c .if2 .taken)
 
 returns-3 : tie.Need-returns-3
 unfolding recordKind
 returns-3 c =
-    let c2 = c .before .before .before in
+    let c2 : tie.Else2 = search in
     let c1 = c2 .before .before .before in
     rw (← (c1 .before .same-bytes .ensures), c1 .if1 .left, ← (c2 .before .same-bytes2 .ensures), c2 .if2 .left, ← (c .before .same-bytes3 .ensures), c .if3 .taken)
 
 returns-4 : tie.Need-returns-4
 unfolding recordKind
 returns-4 c =
-    let c3 = c .before .before .before in
+    let c3 : tie.Else3 = search in
     let c2 = c3 .before .before .before in
     let c1 = c2 .before .before .before in
     rw (← (c1 .before .same-bytes .ensures), c1 .if1 .left, ← (c2 .before .same-bytes2 .ensures), c2 .if2 .left, ← (c3 .before .same-bytes3 .ensures), c3 .if3 .left, ← (c .before .same-bytes4 .ensures), c .if4 .taken)
@@ -32,7 +32,7 @@ returns-4 c =
 returns-5 : tie.Need-returns-5
 unfolding recordKind
 returns-5 c =
-    let c4 = c .before .before .before in
+    let c4 : tie.Else4 = search in
     let c3 = c4 .before .before .before in
     let c2 = c3 .before .before .before in
     let c1 = c2 .before .before .before in
@@ -41,7 +41,7 @@ returns-5 c =
 returns-6 : tie.Need-returns-6
 unfolding recordKind
 returns-6 c =
-    let c4 = c .before .before .before in
+    let c4 : tie.Else4 = search in
     let c3 = c4 .before .before .before in
     let c2 = c3 .before .before .before in
     let c1 = c2 .before .before .before in

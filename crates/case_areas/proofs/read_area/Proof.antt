@@ -33,49 +33,91 @@ subspace-of i line s k = pathField (i + 1) line (λ p. path-of i line s p k)
 returns : tie.Need-returns
 unfolding noArea
 returns c =
-    let i = c .before .before .before .before .before .before .args .place in
-    let line = now (c .before .before .before .before .before .before .args .line) in
-    rw (c .no-area .ensures) (says-none (subspace-of i line) _ (field-says readSubspaceText (λ r. r .ok) (λ r. r .subspace) i line (c .before .before .before .before .part .ensures) (c .before .before .before .read-subspace .ensures) false (not-true _ (c .before .if1 .taken))), refl)
+    let after-read-subspace : tie.After-read-subspace = search in
+    let after-part : tie.After-part = search in
+    let start : tie.Start = search in
+    let i = start .args .place in
+    let line = now (start .args .line) in
+    rw (c .no-area .ensures) (says-none (subspace-of i line) _ (field-says readSubspaceText (λ r. r .ok) (λ r. r .subspace) i line (after-part .part .ensures) (after-read-subspace .read-subspace .ensures) false (not-true _ (c .before .if1 .taken))), refl)
 
 -- src/lib.rt:63:9
 returns-2 : tie.Need-returns-2
 unfolding noArea
 returns-2 c =
-    let i = c .before .before .before .before .before .before .before .before .before .before .args .place in
-    let line = now (c .before .before .before .before .before .before .before .before .before .before .args .line) in
-    let first = field-says readSubspaceText (λ r. r .ok) (λ r. r .subspace) i line (c .before .before .before .before .before .before .before .before .part .ensures) (c .before .before .before .before .before .before .before .read-subspace .ensures) true (not-false _ (c .before .before .before .before .before .if1 .left)) in
-    rw (c .no-area2 .ensures) (says-then (subspace-of i line) first (says-none (path-of i line _) _ (path-says-no (i + 1) line (c .before .before .before .before .part2 .ensures) (c .before .before .before .read-path .ensures) (c .before .enum-told2 .given .1))), refl)
+    let after-read-path : tie.After-read-path = search in
+    let after-part2 : tie.After-part2 = search in
+    let else1 : tie.Else1 = search in
+    let after-read-subspace : tie.After-read-subspace = search in
+    let after-part : tie.After-part = search in
+    let start : tie.Start = search in
+    let i = start .args .place in
+    let line = now (start .args .line) in
+    let first = field-says readSubspaceText (λ r. r .ok) (λ r. r .subspace) i line (after-part .part .ensures) (after-read-subspace .read-subspace .ensures) true (not-false _ (else1 .if1 .left)) in
+    rw (c .no-area2 .ensures) (says-then (subspace-of i line) first (says-none (path-of i line _) _ (path-says-no (i + 1) line (after-part2 .part2 .ensures) (after-read-path .read-path .ensures) (c .before .enum-told2 .given .1))), refl)
 
 -- src/lib.rt:67:9
 returns-3 : tie.Need-returns-3
 unfolding noArea
 returns-3 c =
-    let i = c .before .before .before .before .before .before .before .before .before .before .before .before .before .before .args .place in
-    let line = now (c .before .before .before .before .before .before .before .before .before .before .before .before .before .before .args .line) in
-    let first = field-says readSubspaceText (λ r. r .ok) (λ r. r .subspace) i line (c .before .before .before .before .before .before .before .before .before .before .before .before .part .ensures) (c .before .before .before .before .before .before .before .before .before .before .before .read-subspace .ensures) true (not-false _ (c .before .before .before .before .before .before .before .before .before .if1 .left)) in
-    let second = path-says (i + 1) line (c .before .before .before .before .before .before .before .before .part2 .ensures) (c .before .before .before .before .before .before .before .read-path .ensures) (c .before .before .before .before .before .enum-told .given .1) in
-    rw (c .no-area3 .ensures) (says-then (subspace-of i line) first (says-then (path-of i line _) second (says-none (start-of i line _ _) _ (decimal-says-no (i + 2) line (c .before .before .before .before .part3 .ensures) (c .before .before .before .read-decimal .ensures) (c .before .enum-told3 .given .1)))), refl)
+    let after-read-decimal : tie.After-read-decimal = search in
+    let after-part3 : tie.After-part3 = search in
+    let after-enum-told : tie.After-enum-told = search in
+    let after-read-path : tie.After-read-path = search in
+    let after-part2 : tie.After-part2 = search in
+    let else1 : tie.Else1 = search in
+    let after-read-subspace : tie.After-read-subspace = search in
+    let after-part : tie.After-part = search in
+    let start : tie.Start = search in
+    let i = start .args .place in
+    let line = now (start .args .line) in
+    let first = field-says readSubspaceText (λ r. r .ok) (λ r. r .subspace) i line (after-part .part .ensures) (after-read-subspace .read-subspace .ensures) true (not-false _ (else1 .if1 .left)) in
+    let second = path-says (i + 1) line (after-part2 .part2 .ensures) (after-read-path .read-path .ensures) (after-enum-told .enum-told .given .1) in
+    rw (c .no-area3 .ensures) (says-then (subspace-of i line) first (says-then (path-of i line _) second (says-none (start-of i line _ _) _ (decimal-says-no (i + 2) line (after-part3 .part3 .ensures) (after-read-decimal .read-decimal .ensures) (c .before .enum-told3 .given .1)))), refl)
 
 -- src/lib.rt:71:9
 returns-4 : tie.Need-returns-4
 unfolding noArea
 returns-4 c =
-    let i = c .before .before .before .before .before .before .before .before .before .before .before .before .before .before .before .before .before .before .before .args .place in
-    let line = now (c .before .before .before .before .before .before .before .before .before .before .before .before .before .before .before .before .before .before .before .args .line) in
-    let first = field-says readSubspaceText (λ r. r .ok) (λ r. r .subspace) i line (c .before .before .before .before .before .before .before .before .before .before .before .before .before .before .before .before .before .part .ensures) (c .before .before .before .before .before .before .before .before .before .before .before .before .before .before .before .before .read-subspace .ensures) true (not-false _ (c .before .before .before .before .before .before .before .before .before .before .before .before .before .before .if1 .left)) in
-    let second = path-says (i + 1) line (c .before .before .before .before .before .before .before .before .before .before .before .before .before .part2 .ensures) (c .before .before .before .before .before .before .before .before .before .before .before .before .read-path .ensures) (c .before .before .before .before .before .before .before .before .before .before .enum-told .given .1) in
-    let third = decimal-says (i + 2) line (c .before .before .before .before .before .before .before .before .before .part3 .ensures) (c .before .before .before .before .before .before .before .before .read-decimal .ensures) (c .before .before .before .before .before .before .third .given .1) in
-    rw (c .no-area4 .ensures) (says-then (subspace-of i line) first (says-then (path-of i line _) second (says-then (start-of i line _ _) third (says-none (end-of _ _ _) _ (field-says readEndText (λ r. r .ok) (λ r. r .end) (i + 3) line (c .before .before .before .before .part4 .ensures) (c .before .before .before .read-end .ensures) false (not-true _ (c .before .if2 .taken)))))), refl)
+    let after-read-end : tie.After-read-end = search in
+    let after-part4 : tie.After-part4 = search in
+    let after-third : tie.After-third = search in
+    let after-read-decimal : tie.After-read-decimal = search in
+    let after-part3 : tie.After-part3 = search in
+    let after-enum-told : tie.After-enum-told = search in
+    let after-read-path : tie.After-read-path = search in
+    let after-part2 : tie.After-part2 = search in
+    let else1 : tie.Else1 = search in
+    let after-read-subspace : tie.After-read-subspace = search in
+    let after-part : tie.After-part = search in
+    let start : tie.Start = search in
+    let i = start .args .place in
+    let line = now (start .args .line) in
+    let first = field-says readSubspaceText (λ r. r .ok) (λ r. r .subspace) i line (after-part .part .ensures) (after-read-subspace .read-subspace .ensures) true (not-false _ (else1 .if1 .left)) in
+    let second = path-says (i + 1) line (after-part2 .part2 .ensures) (after-read-path .read-path .ensures) (after-enum-told .enum-told .given .1) in
+    let third = decimal-says (i + 2) line (after-part3 .part3 .ensures) (after-read-decimal .read-decimal .ensures) (after-third .third .given .1) in
+    rw (c .no-area4 .ensures) (says-then (subspace-of i line) first (says-then (path-of i line _) second (says-then (start-of i line _ _) third (says-none (end-of _ _ _) _ (field-says readEndText (λ r. r .ok) (λ r. r .end) (i + 3) line (after-part4 .part4 .ensures) (after-read-end .read-end .ensures) false (not-true _ (c .before .if2 .taken)))))), refl)
 
 -- src/lib.rt:52:1
 returns-5 : tie.Need-returns-5
 returns-5 c =
-    let i = c .before .before .before .before .before .before .before .before .before .before .before .before .before .before .before .before .before .before .before .before .args .place in
-    let line = now (c .before .before .before .before .before .before .before .before .before .before .before .before .before .before .before .before .before .before .before .before .args .line) in
-    let first = field-says readSubspaceText (λ r. r .ok) (λ r. r .subspace) i line (c .before .before .before .before .before .before .before .before .before .before .before .before .before .before .before .before .before .before .part .ensures) (c .before .before .before .before .before .before .before .before .before .before .before .before .before .before .before .before .before .read-subspace .ensures) true (not-false _ (c .before .before .before .before .before .before .before .before .before .before .before .before .before .before .before .if1 .left)) in
-    let second = path-says (i + 1) line (c .before .before .before .before .before .before .before .before .before .before .before .before .before .before .part2 .ensures) (c .before .before .before .before .before .before .before .before .before .before .before .before .before .read-path .ensures) (c .before .before .before .before .before .before .before .before .before .before .before .enum-told .given .1) in
-    let third = decimal-says (i + 2) line (c .before .before .before .before .before .before .before .before .before .before .part3 .ensures) (c .before .before .before .before .before .before .before .before .before .read-decimal .ensures) (c .before .before .before .before .before .before .before .third .given .1) in
-    (says-then (subspace-of i line) first (says-then (path-of i line _) second (says-then (start-of i line _ _) third (says-then (end-of _ _ _) (field-says readEndText (λ r. r .ok) (λ r. r .end) (i + 3) line (c .before .before .before .before .before .part4 .ensures) (c .before .before .before .before .read-end .ensures) true (not-false _ (c .before .before .if2 .left))) (record { said = λ k. refl })))), refl)
+    let after-read-end : tie.After-read-end = search in
+    let after-part4 : tie.After-part4 = search in
+    let after-third : tie.After-third = search in
+    let after-read-decimal : tie.After-read-decimal = search in
+    let after-part3 : tie.After-part3 = search in
+    let after-enum-told : tie.After-enum-told = search in
+    let after-read-path : tie.After-read-path = search in
+    let after-part2 : tie.After-part2 = search in
+    let else1 : tie.Else1 = search in
+    let after-read-subspace : tie.After-read-subspace = search in
+    let after-part : tie.After-part = search in
+    let start : tie.Start = search in
+    let i = start .args .place in
+    let line = now (start .args .line) in
+    let first = field-says readSubspaceText (λ r. r .ok) (λ r. r .subspace) i line (after-part .part .ensures) (after-read-subspace .read-subspace .ensures) true (not-false _ (else1 .if1 .left)) in
+    let second = path-says (i + 1) line (after-part2 .part2 .ensures) (after-read-path .read-path .ensures) (after-enum-told .enum-told .given .1) in
+    let third = decimal-says (i + 2) line (after-part3 .part3 .ensures) (after-read-decimal .read-decimal .ensures) (after-third .third .given .1) in
+    (says-then (subspace-of i line) first (says-then (path-of i line _) second (says-then (start-of i line _ _) third (says-then (end-of _ _ _) (field-says readEndText (λ r. r .ok) (λ r. r .end) (i + 3) line (after-part4 .part4 .ensures) (after-read-end .read-end .ensures) true (not-false _ (c .before .before .if2 .left))) (record { said = λ k. refl })))), refl)
 
 pub read-area-spec : {M : Type 1} → statement M
 read-area-spec =

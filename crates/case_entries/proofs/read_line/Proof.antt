@@ -11,22 +11,36 @@ use Rattle.case_entries.proofs.read_line.Tie as tie
 
 returns : tie.Need-returns
 returns c =
-    let a = c .before .before .before .before .before .before .before .before .before .before .before .args in
-    puts (read-refused entryText (readAgainstNamespaceArea (a .canonic) (a .namespace) (a .area)) 7 (now (a .line)) (c .before .before .before .before .before .before .before .message .ensures) (c .before .before .before .before .enum-told .given .1)) (c .before .before .refuse .ensures)
+    let after-enum-told : tie.After-enum-told = search in
+    let after-message : tie.After-message = search in
+    let start : tie.Start = search in
+    let a = start .args in
+    puts (read-refused entryText (readAgainstNamespaceArea (a .canonic) (a .namespace) (a .area)) 7 (now (a .line)) (after-message .message .ensures) (after-enum-told .enum-told .given .1)) (c .before .before .refuse .ensures)
 
 array-share-prefix-bytes : tie.Need-array-share-prefix-bytes
-array-share-prefix-bytes c = message-inside 7 (now (c .before .before .before .before .before .before .before .before .args .line)) (c .before .before .before .before .message .ensures) (c .before .message2 .given .1)
+array-share-prefix-bytes c =
+    let after-message : tie.After-message = search in
+    let start : tie.Start = search in
+    message-inside 7 (now (start .args .line)) (after-message .message .ensures) (c .before .message2 .given .1)
 
 slice-aggregate-relative-decode : tie.Need-slice-aggregate-relative-decode
-slice-aggregate-relative-decode c = sym (message-long 7 (now (c .before .before .before .before .before .before .before .before .before .args .line)) (c .before .before .before .before .before .message .ensures) (c .before .before .message2 .given .1))
+slice-aggregate-relative-decode c =
+    let after-message : tie.After-message = search in
+    let start : tie.Start = search in
+    sym (message-long 7 (now (start .args .line)) (after-message .message .ensures) (c .before .before .message2 .given .1))
 
 returns-2 : tie.Need-returns-2
 returns-2 c =
-    let a = c .before .before .before .before .before .before .before .before .before .before .before .before .before .before .before .before .before .args in
-    let read = c .before .before .before .before .before .before .before .relative-decode in
+    let after-print-entry : tie.After-print-entry = search in
+    let after-relative-decode : tie.After-relative-decode = search in
+    let after-message2 : tie.After-message2 = search in
+    let after-message : tie.After-message = search in
+    let start : tie.Start = search in
+    let a = start .args in
+    let read = after-relative-decode .relative-decode in
     puts
-    (read-answer entryText (readAgainstNamespaceArea (a .canonic) (a .namespace) (a .area)) 7 (now (a .line)) (c .before .before .before .before .before .before .before .before .before .before .before .before .before .message .ensures) (c .before .before .before .before .before .before .before .before .before .before .message2 .given .1) (read .ensures .answer)
-    ∙ read-printed entryText (read .result .answer) (read .result .entry) (puts-first (c .before .before .before .before .before .print-entry .ensures)))
+    (read-answer entryText (readAgainstNamespaceArea (a .canonic) (a .namespace) (a .area)) 7 (now (a .line)) (after-message .message .ensures) (after-message2 .message2 .given .1) (read .ensures .answer)
+    ∙ read-printed entryText (read .result .answer) (read .result .entry) (puts-first (after-print-entry .print-entry .ensures)))
     (c .before .before .value .ensures)
 
 pub read-line-spec : {M : Type 1} → statement M

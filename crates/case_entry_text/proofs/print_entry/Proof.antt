@@ -17,14 +17,23 @@ use Rattle.case_entry_text.proofs.print_entry.Statement.{statement}
 use Rattle.case_entry_text.proofs.print_entry.Tie as tie
 
 slice-aggregate-put-hex : tie.Need-slice-aggregate-put-hex
-slice-aggregate-put-hex c = search (needs, typed-entry (c .before .before .before .before .before .before .before .before .before .before .before .before .before .before .before .before .before .before .args .entry) (c .before .before .before .before .before .before .before .before .before .before .before .before .before .before .before .before .before .before .good .0) .digest .0)
+slice-aggregate-put-hex c =
+    let start : tie.Start = search in
+    search (needs, typed-entry (start .args .entry) (start .good .0) .digest .0)
 
 returns : tie.Need-returns
 returns c =
-    let a = c .before .before .before .before .before .before .before .before .before .before .before .before .before .before .before .before .before .before .before .args .entry in
-    let b = c .before .before .before .before .before .before .before .before .before .before .before .before .before .before .before .before .before .before .before .args .buffer in
-    let g : length (now b) ≡ 8192 = c .before .before .before .before .before .before .before .before .before .before .before .before .before .before .before .before .before .print-names .ensures .1 in
-    let t = typed-entry a (c .before .before .before .before .before .before .before .before .before .before .before .before .before .before .before .before .before .before .before .good .0) in
+    let after-put-bytes3 : tie.After-put-bytes3 = search in
+    let after-put-decimal2 : tie.After-put-decimal2 = search in
+    let after-put-bytes2 : tie.After-put-bytes2 = search in
+    let after-put-decimal : tie.After-put-decimal = search in
+    let after-put-bytes : tie.After-put-bytes = search in
+    let after-print-names : tie.After-print-names = search in
+    let start : tie.Start = search in
+    let a = start .args .entry in
+    let b = start .args .buffer in
+    let g : length (now b) ≡ 8192 = after-print-names .print-names .ensures .1 in
+    let t = typed-entry a (start .good .0) in
     let x = namesText a in
     let d = decimalText (a .timestamp) in
     let z = decimalText (a .«payload_length») in
@@ -39,10 +48,10 @@ returns c =
     puts-tab
     (puts-tab
     (puts-tab {a = x} {l = now b}
-    (c .before .before .before .before .before .before .before .before .before .before .before .before .before .before .before .before .before .print-names .ensures .0)
-    d (omega (arith, g)) (c .before .before .before .before .before .before .before .before .before .before .before .before .before .before .put-bytes .ensures) (c .before .before .before .before .before .before .before .before .before .before .before .before .put-decimal .ensures))
-    z (omega (arith, g)) (c .before .before .before .before .before .before .before .before .before .put-bytes2 .ensures) (c .before .before .before .before .before .before .before .put-decimal2 .ensures))
-    h (omega (arith, g)) (c .before .before .before .before .put-bytes3 .ensures) (c .put-hex .ensures)
+    (after-print-names .print-names .ensures .0)
+    d (omega (arith, g)) (after-put-bytes .put-bytes .ensures) (after-put-decimal .put-decimal .ensures))
+    z (omega (arith, g)) (after-put-bytes2 .put-bytes2 .ensures) (after-put-decimal2 .put-decimal2 .ensures))
+    h (omega (arith, g)) (after-put-bytes3 .put-bytes3 .ensures) (c .put-hex .ensures)
 
 pub print-entry-spec : {M : Type 1} → statement M
 print-entry-spec =

@@ -14,8 +14,12 @@ use Rattle.case_entry_text.proofs.print_names.Tie as tie
 
 returns : tie.Need-returns
 returns c =
-    let a = c .before .before .before .before .before .before .before .before .before .before .before .before .before .before .before .before .args .entry in
-    let t = typed-entry a (c .before .before .before .before .before .before .before .before .before .before .before .before .before .before .before .before .good .0) in
+    let after-put-hex2 : tie.After-put-hex2 = search in
+    let after-put-bytes : tie.After-put-bytes = search in
+    let after-put-hex : tie.After-put-hex = search in
+    let start : tie.Start = search in
+    let a = start .args .entry in
+    let t = typed-entry a (start .good .0) in
     let n = hexText (a .«namespace_id») in
     let s = hexText (a .«subspace_id») in
     let p = pathTextOf (a .path) in
@@ -27,8 +31,8 @@ returns c =
     let ns = length-append n (afterTab s) in (
       puts-tab
           (puts-tab
-          (puts-fits n (omega arith) (c .before .before .before .before .before .before .before .before .before .before .before .before .put-hex .ensures))
-          s (omega arith) (c .before .before .before .before .before .before .before .before .before .put-bytes .ensures) (c .before .before .before .before .before .put-hex2 .ensures))
+          (puts-fits n (omega arith) (after-put-hex .put-hex .ensures))
+          s (omega arith) (after-put-bytes .put-bytes .ensures) (after-put-hex2 .put-hex2 .ensures))
           p (omega arith) (c .before .before .put-bytes2 .ensures) (c .put-path .ensures),
       omega arith,
     )

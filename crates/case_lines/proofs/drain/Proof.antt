@@ -23,7 +23,10 @@ loop-holds : tie.Need-loop-holds Inv-loop μ-loop
 loop-holds c = (omega arith, refl, omega arith)
 
 same-length : tie.Need-same-length Inv-loop μ-loop
-same-length c = c .before .before .before .answer-lines .kept .1 .0 ∙ c .before .before .before .before .before .before .loop .inv .1
+same-length c =
+    let after-answer-lines : tie.After-answer-lines Inv-loop μ-loop = search in
+    let at-loop : tie.At-loop Inv-loop μ-loop = search in
+    after-answer-lines .answer-lines .kept .1 .0 ∙ at-loop .loop .inv .1
 
 returns : tie.Need-returns Inv-loop μ-loop
 returns c =
@@ -36,22 +39,35 @@ returns c =
     (λ k. omega (arith, z, l .inv .2), l .inv .0)
 
 slice-reshare-prefix-write-all : tie.Need-slice-reshare-prefix-write-all Inv-loop μ-loop
-slice-reshare-prefix-write-all c = omega (arith, c .before .before .before .answer-lines .ensures .1 .1 .1)
+slice-reshare-prefix-write-all c =
+    let after-answer-lines : tie.After-answer-lines Inv-loop μ-loop = search in
+    omega (arith, after-answer-lines .answer-lines .ensures .1 .1 .1)
 
 slice-aggregate-write-all : tie.Need-slice-aggregate-write-all Inv-loop μ-loop
-slice-aggregate-write-all c = sym (length-take-le _ _ (omega (arith, c .before .before .before .before .answer-lines .ensures .1 .1 .1)))
+slice-aggregate-write-all c =
+    let after-answer-lines : tie.After-answer-lines Inv-loop μ-loop = search in
+    sym (length-take-le _ _ (omega (arith, after-answer-lines .answer-lines .ensures .1 .1 .1)))
 
 same-length-2 : tie.Need-same-length-2 Inv-loop μ-loop
-same-length-2 c = c .before .before .before .before .before .before .answer-lines .kept .1 .0 ∙ c .before .before .before .before .before .before .before .before .before .loop .inv .1
+same-length-2 c =
+    let after-answer-lines : tie.After-answer-lines Inv-loop μ-loop = search in
+    let at-loop : tie.At-loop Inv-loop μ-loop = search in
+    after-answer-lines .answer-lines .kept .1 .0 ∙ at-loop .loop .inv .1
 
 returns-2 : tie.Need-returns-2 Inv-loop μ-loop
-returns-2 c = (λ k. absurd (false≢true k), c .before .before .before .before .before .before .before .before .before .loop .inv .0)
+returns-2 c =
+    let at-loop : tie.At-loop Inv-loop μ-loop = search in
+    (λ k. absurd (false≢true k), at-loop .loop .inv .0)
 
 add-at : tie.Need-add-at Inv-loop μ-loop
-add-at c = omega (arith, c .before .before .before .before .before .before .answer-lines .ensures .1 .1 .0)
+add-at c =
+    let after-answer-lines : tie.After-answer-lines Inv-loop μ-loop = search in
+    omega (arith, after-answer-lines .answer-lines .ensures .1 .1 .0)
 
 loop-less : tie.Need-loop-less Inv-loop μ-loop
-loop-less c = omega (arith, c .before .before .before .before .before .before .answer-lines .ensures .1 .1 .0)
+loop-less c =
+    let after-answer-lines : tie.After-answer-lines Inv-loop μ-loop = search in
+    omega (arith, after-answer-lines .answer-lines .ensures .1 .1 .0)
 
 loop-again : tie.Need-loop-again Inv-loop μ-loop
 loop-again c =

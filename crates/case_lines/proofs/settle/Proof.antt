@@ -17,9 +17,12 @@ returns c = (λ k. absurd (false≢true (sym (c .fail .ensures .1) ∙ k)), (ome
 
 returns-2 : tie.Need-returns-2
 returns-2 c =
-    let b = now (c .before .before .before .before .before .before .before .before .before .before .before .before .before .args .buf) in
-    let all = c .before .before .before .before .before .before .before .before .drain .ensures .0 (not-false (c .before .before .before .before .before .before .before .before .drain .result .ok) (c .before .before .before .before .if1 .left)) in
-    let e = kept-after 16385 (c .before .before .before .before .before .before .before .before .drain .result .taken) (c .before .before .before .before .before .before .before .before .before .before .before .before .before .args .end) b all (c .before .before .before .before .before .before .before .before .drain .ensures .1) (c .before .before .before .before .before .before .before .before .before .before .before .before .before .pre .0) in
+    let else1 : tie.Else1 = search in
+    let after-drain : tie.After-drain = search in
+    let start : tie.Start = search in
+    let b = now (start .args .buf) in
+    let all = after-drain .drain .ensures .0 (not-false (after-drain .drain .result .ok) (else1 .if1 .left)) in
+    let e = kept-after 16385 (after-drain .drain .result .taken) (start .args .end) b all (after-drain .drain .ensures .1) (start .pre .0) in
     (λ k. (rw (← e) (c .before .before .keep .ensures .0), rw (← e) (c .before .before .keep .ensures .1)), (c .before .before .keep .ensures .2, λ k. absurd (false≢true (sym k))))
 
 pub settle-spec : {M : Type 1} → statement M

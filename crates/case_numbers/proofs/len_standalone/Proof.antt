@@ -11,25 +11,41 @@ use Rattle.case_numbers.proofs.len_standalone.Tie as tie
 
 returns : tie.Need-returns
 returns c =
-    let line = now (c .before .before .before .before .before .before .before .before .args .line) in
-    let counted = c .before .before .before .before .before .part-count .ensures in
-    puts (length-fields decimalField standalone 2 3 line counted (c .before .before .before .before .if1 .taken)) (c .before .before .refuse .ensures)
+    let then1 : tie.Then1 = search in
+    let after-part-count : tie.After-part-count = search in
+    let start : tie.Start = search in
+    let line = now (start .args .line) in
+    let counted = after-part-count .part-count .ensures in
+    puts (length-fields decimalField standalone 2 3 line counted (then1 .if1 .taken)) (c .before .before .refuse .ensures)
 
 returns-2 : tie.Need-returns-2
 returns-2 c =
-    let line = now (c .before .before .before .before .before .before .before .before .before .before .before .before .args .line) in
-    let counted = c .before .before .before .before .before .before .before .before .before .part-count .ensures in
-    let many = c .before .before .before .before .before .before .before .before .if1 .left in
-    let value = decimal-refused 2 line (c .before .before .before .before .before .before .before .part .ensures) (c .before .before .before .before .before .before .read-decimal .ensures) (c .before .before .before .before .enum-told .given .1) in
+    let after-enum-told : tie.After-enum-told = search in
+    let after-read-decimal : tie.After-read-decimal = search in
+    let after-part : tie.After-part = search in
+    let else1 : tie.Else1 = search in
+    let after-part-count : tie.After-part-count = search in
+    let start : tie.Start = search in
+    let line = now (start .args .line) in
+    let counted = after-part-count .part-count .ensures in
+    let many = else1 .if1 .left in
+    let value = decimal-refused 2 line (after-part .part .ensures) (after-read-decimal .read-decimal .ensures) (after-enum-told .enum-told .given .1) in
     puts (length-value decimalField standalone 2 3 line counted many value) (c .before .before .refuse2 .ensures)
 
 returns-3 : tie.Need-returns-3
 returns-3 c =
-    let line = now (c .before .before .before .before .before .before .before .before .before .before .before .before .before .before .args .line) in
-    let counted = c .before .before .before .before .before .before .before .before .before .before .before .part-count .ensures in
-    let many = c .before .before .before .before .before .before .before .before .before .before .if1 .left in
-    let value = decimal-value 2 line (c .before .before .before .before .before .before .before .before .before .part .ensures) (c .before .before .before .before .before .before .before .before .read-decimal .ensures) (c .before .before .before .before .before .before .value .given .1) in
-    let long = c .before .before .before .len-of-encoding .ensures .0 in
+    let after-len-of-encoding : tie.After-len-of-encoding = search in
+    let after-value : tie.After-value = search in
+    let after-read-decimal : tie.After-read-decimal = search in
+    let after-part : tie.After-part = search in
+    let else1 : tie.Else1 = search in
+    let after-part-count : tie.After-part-count = search in
+    let start : tie.Start = search in
+    let line = now (start .args .line) in
+    let counted = after-part-count .part-count .ensures in
+    let many = else1 .if1 .left in
+    let value = decimal-value 2 line (after-part .part .ensures) (after-read-decimal .read-decimal .ensures) (after-value .value .given .1) in
+    let long = after-len-of-encoding .len-of-encoding .ensures .0 in
     puts (length-answer decimalField standalone 2 3 line counted many _ value (length-allowed standalone _ _ refl long)) (c .before .before .length .ensures)
 
 pub len-standalone-spec : {M : Type 1} → statement M

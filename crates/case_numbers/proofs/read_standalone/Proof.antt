@@ -10,19 +10,33 @@ use Rattle.case_numbers.proofs.read_standalone.Tie as tie
 
 returns : tie.Need-returns
 returns c =
-    let a = c .before .before .before .before .before .before .before .before .before .before .before .args in
-    puts (read-refused decimalText (readStandalone (a .canonic)) 2 (now (a .line)) (c .before .before .before .before .before .before .before .message .ensures) (c .before .before .before .before .enum-told .given .1)) (c .before .before .refuse .ensures)
+    let after-enum-told : tie.After-enum-told = search in
+    let after-message : tie.After-message = search in
+    let start : tie.Start = search in
+    let a = start .args in
+    puts (read-refused decimalText (readStandalone (a .canonic)) 2 (now (a .line)) (after-message .message .ensures) (after-enum-told .enum-told .given .1)) (c .before .before .refuse .ensures)
 
 array-share-prefix-bytes : tie.Need-array-share-prefix-bytes
-array-share-prefix-bytes c = message-inside 2 (now (c .before .before .before .before .before .before .before .before .before .args .line)) (c .before .before .before .before .before .message .ensures) (c .before .before .message2 .given .1)
+array-share-prefix-bytes c =
+    let after-message : tie.After-message = search in
+    let start : tie.Start = search in
+    message-inside 2 (now (start .args .line)) (after-message .message .ensures) (c .before .before .message2 .given .1)
 
 slice-aggregate-decode : tie.Need-slice-aggregate-decode
-slice-aggregate-decode c = sym (message-long 2 (now (c .before .before .before .before .before .before .before .before .before .before .args .line)) (c .before .before .before .before .before .before .message .ensures) (c .before .before .before .message2 .given .1))
+slice-aggregate-decode c =
+    let after-message2 : tie.After-message2 = search in
+    let after-message : tie.After-message = search in
+    let start : tie.Start = search in
+    sym (message-long 2 (now (start .args .line)) (after-message .message .ensures) (after-message2 .message2 .given .1))
 
 returns-2 : tie.Need-returns-2
 returns-2 c =
-    let a = c .before .before .before .before .before .before .before .before .before .before .before .before .before .before .args in
-    puts (read-answer decimalText (readStandalone (a .canonic)) 2 (now (a .line)) (c .before .before .before .before .before .before .before .before .before .before .message .ensures) (c .before .before .before .before .before .before .before .message2 .given .1) (c .before .before .before .decode .ensures)) (c .before .before .number .ensures)
+    let after-decode : tie.After-decode = search in
+    let after-message2 : tie.After-message2 = search in
+    let after-message : tie.After-message = search in
+    let start : tie.Start = search in
+    let a = start .args in
+    puts (read-answer decimalText (readStandalone (a .canonic)) 2 (now (a .line)) (after-message .message .ensures) (after-message2 .message2 .given .1) (after-decode .decode .ensures)) (c .before .before .number .ensures)
 
 pub read-standalone-spec : {M : Type 1} → statement M
 read-standalone-spec =

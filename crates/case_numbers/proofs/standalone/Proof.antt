@@ -10,32 +10,52 @@ use Rattle.case_numbers.proofs.standalone.Tie as tie
 
 returns : tie.Need-returns
 returns c =
-    let line = now (c .before .before .before .before .before .before .before .before .before .before .args .line) in
-    let told = op-told line (c .before .before .before .before .before .before .before .part .ensures) (c .before .before .before .before .before .before .op .ensures) (c .before .before .before .before .enum-told .given .1) in
+    let after-enum-told : tie.After-enum-told = search in
+    let after-op : tie.After-op = search in
+    let after-part : tie.After-part = search in
+    let start : tie.Start = search in
+    let line = now (start .args .line) in
+    let told = op-told line (after-part .part .ensures) (after-op .op .ensures) (after-enum-told .enum-told .given .1) in
     puts (told (λ o. recordLine decimalField decimalText readStandalone standalone 2 3 o line)) (c .before .before .read-standalone .ensures)
 
 returns-2 : tie.Need-returns-2
 returns-2 c =
-    let line = now (c .before .before .before .before .before .before .before .before .before .before .args .line) in
-    let told = op-told line (c .before .before .before .before .before .before .before .part .ensures) (c .before .before .before .before .before .before .op .ensures) (c .before .before .before .before .enum-told2 .given .1) in
+    let after-enum-told2 : tie.After-enum-told2 = search in
+    let after-op : tie.After-op = search in
+    let after-part : tie.After-part = search in
+    let start : tie.Start = search in
+    let line = now (start .args .line) in
+    let told = op-told line (after-part .part .ensures) (after-op .op .ensures) (after-enum-told2 .enum-told2 .given .1) in
     puts (told (λ o. recordLine decimalField decimalText readStandalone standalone 2 3 o line)) (c .before .before .read-standalone2 .ensures)
 
 returns-3 : tie.Need-returns-3
 returns-3 c =
-    let line = now (c .before .before .before .before .before .before .before .before .before .before .args .line) in
-    let told = op-told line (c .before .before .before .before .before .before .before .part .ensures) (c .before .before .before .before .before .before .op .ensures) (c .before .before .before .before .enum-told3 .given .1) in
+    let after-enum-told3 : tie.After-enum-told3 = search in
+    let after-op : tie.After-op = search in
+    let after-part : tie.After-part = search in
+    let start : tie.Start = search in
+    let line = now (start .args .line) in
+    let told = op-told line (after-part .part .ensures) (after-op .op .ensures) (after-enum-told3 .enum-told3 .given .1) in
     puts (told (λ o. recordLine decimalField decimalText readStandalone standalone 2 3 o line)) (c .before .before .write-standalone .ensures)
 
 returns-4 : tie.Need-returns-4
 returns-4 c =
-    let line = now (c .before .before .before .before .before .before .before .before .before .before .args .line) in
-    let told = op-told line (c .before .before .before .before .before .before .before .part .ensures) (c .before .before .before .before .before .before .op .ensures) (c .before .before .before .before .enum-told4 .given .1) in
+    let after-enum-told4 : tie.After-enum-told4 = search in
+    let after-op : tie.After-op = search in
+    let after-part : tie.After-part = search in
+    let start : tie.Start = search in
+    let line = now (start .args .line) in
+    let told = op-told line (after-part .part .ensures) (after-op .op .ensures) (after-enum-told4 .enum-told4 .given .1) in
     puts (told (λ o. recordLine decimalField decimalText readStandalone standalone 2 3 o line)) (c .before .before .len-standalone .ensures)
 
 returns-5 : tie.Need-returns-5
 returns-5 c =
-    let line = now (c .before .before .before .before .before .before .before .before .before .before .args .line) in
-    let told = op-told line (c .before .before .before .before .before .before .before .part .ensures) (c .before .before .before .before .before .before .op .ensures) (c .before .before .before .before .enum-told5 .given .1) in
+    let after-enum-told5 : tie.After-enum-told5 = search in
+    let after-op : tie.After-op = search in
+    let after-part : tie.After-part = search in
+    let start : tie.Start = search in
+    let line = now (start .args .line) in
+    let told = op-told line (after-part .part .ensures) (after-op .op .ensures) (after-enum-told5 .enum-told5 .given .1) in
     puts (told (λ o. recordLine decimalField decimalText readStandalone standalone 2 3 o line)) (c .before .before .refuse .ensures)
 
 pub standalone-spec : {M : Type 1} → statement M

@@ -11,37 +11,57 @@ use Rattle.case_paths.proofs.answer.Tie as tie
 
 returns : tie.Need-returns
 returns c =
-    let a = c .before .before .before .before .before .before .before .before .before .before .args in
+    let after-enum-told : tie.After-enum-told = search in
+    let after-op : tie.After-op = search in
+    let after-part : tie.After-part = search in
+    let start : tie.Start = search in
+    let a = start .args in
     let line = now (a .line) in
-    let told = op-told line (c .before .before .before .before .before .before .before .part .ensures) (c .before .before .before .before .before .before .op .ensures) (c .before .before .before .before .enum-told .given .1) in
+    let told = op-told line (after-part .part .ensures) (after-op .op .ensures) (after-enum-told .enum-told .given .1) in
     puts (told (λ o. recordLine pathField pathTextOf (encodingReader (a .encoding) (a .reference)) (encodingFormat (a .encoding) (a .reference)) (a .i) (a .i + 1) o line)) (c .before .before .read-path .ensures)
 
 returns-2 : tie.Need-returns-2
 returns-2 c =
-    let a = c .before .before .before .before .before .before .before .before .before .before .args in
+    let after-enum-told2 : tie.After-enum-told2 = search in
+    let after-op : tie.After-op = search in
+    let after-part : tie.After-part = search in
+    let start : tie.Start = search in
+    let a = start .args in
     let line = now (a .line) in
-    let told = op-told line (c .before .before .before .before .before .before .before .part .ensures) (c .before .before .before .before .before .before .op .ensures) (c .before .before .before .before .enum-told2 .given .1) in
+    let told = op-told line (after-part .part .ensures) (after-op .op .ensures) (after-enum-told2 .enum-told2 .given .1) in
     puts (told (λ o. recordLine pathField pathTextOf (encodingReader (a .encoding) (a .reference)) (encodingFormat (a .encoding) (a .reference)) (a .i) (a .i + 1) o line)) (c .before .before .read-path2 .ensures)
 
 returns-3 : tie.Need-returns-3
 returns-3 c =
-    let a = c .before .before .before .before .before .before .before .before .before .before .args in
+    let after-enum-told3 : tie.After-enum-told3 = search in
+    let after-op : tie.After-op = search in
+    let after-part : tie.After-part = search in
+    let start : tie.Start = search in
+    let a = start .args in
     let line = now (a .line) in
-    let told = op-told line (c .before .before .before .before .before .before .before .part .ensures) (c .before .before .before .before .before .before .op .ensures) (c .before .before .before .before .enum-told3 .given .1) in
+    let told = op-told line (after-part .part .ensures) (after-op .op .ensures) (after-enum-told3 .enum-told3 .given .1) in
     puts (told (λ o. recordLine pathField pathTextOf (encodingReader (a .encoding) (a .reference)) (encodingFormat (a .encoding) (a .reference)) (a .i) (a .i + 1) o line)) (c .before .before .write-path .ensures)
 
 returns-4 : tie.Need-returns-4
 returns-4 c =
-    let a = c .before .before .before .before .before .before .before .before .before .before .args in
+    let after-enum-told4 : tie.After-enum-told4 = search in
+    let after-op : tie.After-op = search in
+    let after-part : tie.After-part = search in
+    let start : tie.Start = search in
+    let a = start .args in
     let line = now (a .line) in
-    let told = op-told line (c .before .before .before .before .before .before .before .part .ensures) (c .before .before .before .before .before .before .op .ensures) (c .before .before .before .before .enum-told4 .given .1) in
+    let told = op-told line (after-part .part .ensures) (after-op .op .ensures) (after-enum-told4 .enum-told4 .given .1) in
     puts (told (λ o. recordLine pathField pathTextOf (encodingReader (a .encoding) (a .reference)) (encodingFormat (a .encoding) (a .reference)) (a .i) (a .i + 1) o line)) (c .before .before .len-path .ensures)
 
 returns-5 : tie.Need-returns-5
 returns-5 c =
-    let a = c .before .before .before .before .before .before .before .before .before .before .args in
+    let after-enum-told5 : tie.After-enum-told5 = search in
+    let after-op : tie.After-op = search in
+    let after-part : tie.After-part = search in
+    let start : tie.Start = search in
+    let a = start .args in
     let line = now (a .line) in
-    let told = op-told line (c .before .before .before .before .before .before .before .part .ensures) (c .before .before .before .before .before .before .op .ensures) (c .before .before .before .before .enum-told5 .given .1) in
+    let told = op-told line (after-part .part .ensures) (after-op .op .ensures) (after-enum-told5 .enum-told5 .given .1) in
     puts (told (λ o. recordLine pathField pathTextOf (encodingReader (a .encoding) (a .reference)) (encodingFormat (a .encoding) (a .reference)) (a .i) (a .i + 1) o line)) (c .before .before .refuse .ensures)
 
 pub answer-spec : {M : Type 1} → statement M

@@ -10,28 +10,40 @@ use Rattle.case_paths.proofs.read_path.Tie as tie
 
 returns : tie.Need-returns
 returns c =
-    let a = c .before .before .before .before .before .before .before .before .before .before .before .args in
+    let after-enum-told : tie.After-enum-told = search in
+    let after-message : tie.After-message = search in
+    let start : tie.Start = search in
+    let a = start .args in
     let reader = encodingReader (a .encoding) (a .reference) (a .canonic) in
-    puts (read-refused pathTextOf reader (a .i) (now (a .line)) (c .before .before .before .before .before .before .before .message .ensures) (c .before .before .before .before .enum-told .given .1)) (c .before .before .refuse .ensures)
+    puts (read-refused pathTextOf reader (a .i) (now (a .line)) (after-message .message .ensures) (after-enum-told .enum-told .given .1)) (c .before .before .refuse .ensures)
 
 array-share-prefix-bytes : tie.Need-array-share-prefix-bytes
 array-share-prefix-bytes c =
-    let a = c .before .before .before .before .before .before .before .before .args in
-    message-inside (a .i) (now (a .line)) (c .before .before .before .before .message .ensures) (c .before .message2 .given .1)
+    let after-message : tie.After-message = search in
+    let start : tie.Start = search in
+    let a = start .args in
+    message-inside (a .i) (now (a .line)) (after-message .message .ensures) (c .before .message2 .given .1)
 
 slice-aggregate-decode : tie.Need-slice-aggregate-decode
 slice-aggregate-decode c =
-    let a = c .before .before .before .before .before .before .before .before .before .args in
-    sym (message-long (a .i) (now (a .line)) (c .before .before .before .before .before .message .ensures) (c .before .before .message2 .given .1))
+    let after-message : tie.After-message = search in
+    let start : tie.Start = search in
+    let a = start .args in
+    sym (message-long (a .i) (now (a .line)) (after-message .message .ensures) (c .before .before .message2 .given .1))
 
 returns-2 : tie.Need-returns-2
 returns-2 c =
-    let a = c .before .before .before .before .before .before .before .before .before .before .before .before .before .before .before .before .before .args in
+    let after-print : tie.After-print = search in
+    let after-decode : tie.After-decode = search in
+    let after-message2 : tie.After-message2 = search in
+    let after-message : tie.After-message = search in
+    let start : tie.Start = search in
+    let a = start .args in
     let reader = encodingReader (a .encoding) (a .reference) (a .canonic) in
-    let read = c .before .before .before .before .before .before .before .decode in
+    let read = after-decode .decode in
     puts
-    (read-answer pathTextOf reader (a .i) (now (a .line)) (c .before .before .before .before .before .before .before .before .before .before .before .before .before .message .ensures) (c .before .before .before .before .before .before .before .before .before .before .message2 .given .1) (read .ensures .answer)
-    ∙ read-printed pathTextOf (read .result .answer) (read .result .path) (c .before .before .before .before .before .print .ensures))
+    (read-answer pathTextOf reader (a .i) (now (a .line)) (after-message .message .ensures) (after-message2 .message2 .given .1) (read .ensures .answer)
+    ∙ read-printed pathTextOf (read .result .answer) (read .result .path) (after-print .print .ensures))
     (c .before .before .value .ensures)
 
 pub read-path-spec : {M : Type 1} → statement M

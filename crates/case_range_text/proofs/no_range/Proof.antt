@@ -5,7 +5,11 @@ use Rattle.case_range_text.proofs.no_range.Tie as tie
 
 returns : tie.Need-returns
 unfolding noSubspacesField noPathsField noTimesField noRangeField
-returns c = rw (c .before .before .before .before .before .no-subspaces .ensures, c .before .before .before .before .no-paths .ensures, c .before .before .before .no-times .ensures)
+returns c =
+    let after-no-times : tie.After-no-times = search in
+    let after-no-paths : tie.After-no-paths = search in
+    let after-no-subspaces : tie.After-no-subspaces = search in
+    rw (after-no-subspaces .no-subspaces .ensures, after-no-paths .no-paths .ensures, after-no-times .no-times .ensures)
 
 pub no-range-spec : {M : Type 1} → statement M
 no-range-spec = tie.close (tie.spec (λ c κs. search needs) (λ c κs. search needs) (λ c κs. search needs) returns)

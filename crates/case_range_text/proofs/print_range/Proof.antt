@@ -20,10 +20,18 @@ use Rattle.case_range_text.proofs.print_range.Tie as tie
 
 returns : tie.Need-returns
 returns c =
-    let a = c .before .before .before .before .before .before .before .before .before .before .before .before .before .before .before .before .before .before .before .before .before .before .before .before .args .range in
-    let b = c .before .before .before .before .before .before .before .before .before .before .before .before .before .before .before .before .before .before .before .before .before .before .before .before .args .buffer in
-    let g : length (now b) ≡ 8192 = c .before .before .before .before .before .before .before .before .before .before .before .before .before .before .before .before .before .before .before .before .print-subspaces .ensures .1 in
-    let t = typed-range3d a (c .before .before .before .before .before .before .before .before .before .before .before .before .before .before .before .before .before .before .before .before .before .before .before .before .good .0) in
+    let after-put-decimal : tie.After-put-decimal = search in
+    let after-put-bytes3 : tie.After-put-bytes3 = search in
+    let after-put-path-end : tie.After-put-path-end = search in
+    let after-put-bytes2 : tie.After-put-bytes2 = search in
+    let after-put-path : tie.After-put-path = search in
+    let after-put-bytes : tie.After-put-bytes = search in
+    let after-print-subspaces : tie.After-print-subspaces = search in
+    let start : tie.Start = search in
+    let a = start .args .range in
+    let b = start .args .buffer in
+    let g : length (now b) ≡ 8192 = after-print-subspaces .print-subspaces .ensures .1 in
+    let t = typed-range3d a (start .good .0) in
     let x = subspacesText (a .subspaces) in
     let p = pathTextOf (a .paths .start) in
     let q = pathEndText (a .paths) in
@@ -41,10 +49,10 @@ returns c =
     (puts-tab
     (puts-tab
     (puts-tab {a = x} {l = now b}
-    (c .before .before .before .before .before .before .before .before .before .before .before .before .before .before .before .before .before .before .before .before .print-subspaces .ensures .0)
-    p (omega (arith, g, xf, pf)) (c .before .before .before .before .before .before .before .before .before .before .before .before .before .before .before .before .before .put-bytes .ensures) (c .before .before .before .before .before .before .before .before .before .before .before .before .before .before .before .put-path .ensures))
-    q (omega (arith, g, xf, pf, qf, xp)) (c .before .before .before .before .before .before .before .before .before .before .before .before .put-bytes2 .ensures) (c .before .before .before .before .before .before .before .before .before .before .put-path-end .ensures))
-    d (omega (arith, g, xf, pf, qf, df, xp, xpq)) (c .before .before .before .before .before .before .before .put-bytes3 .ensures) (c .before .before .before .before .before .put-decimal .ensures))
+    (after-print-subspaces .print-subspaces .ensures .0)
+    p (omega (arith, g, xf, pf)) (after-put-bytes .put-bytes .ensures) (after-put-path .put-path .ensures))
+    q (omega (arith, g, xf, pf, qf, xp)) (after-put-bytes2 .put-bytes2 .ensures) (after-put-path-end .put-path-end .ensures))
+    d (omega (arith, g, xf, pf, qf, df, xp, xpq)) (after-put-bytes3 .put-bytes3 .ensures) (after-put-decimal .put-decimal .ensures))
     e (omega (arith, g, xf, pf, qf, df, ef, xp, xpq, xpqd)) (c .before .before .put-bytes4 .ensures) (c .put-end .ensures)
 
 pub print-range-spec : {M : Type 1} → statement M

@@ -11,15 +11,17 @@ use Rattle.case_range_text.proofs.print_subspaces.Tie as tie
 
 returns : tie.Need-returns
 returns c =
-    let a = c .before .before .before .before .before .before .before .before .before .before .args .subspaces in
-    let t = typed-subspaces a (c .before .before .before .before .before .before .before .before .before .before .good .0) in
+    let after-put-hex : tie.After-put-hex = search in
+    let start : tie.Start = search in
+    let a = start .args .subspaces in
+    let t = typed-subspaces a (start .good .0) in
     let n = hexText (a .start) in
     let s = subspaceText (record { any = a .«end_open»; id = a .end }) in
     let nl = hexText-long (a .start) in
     let nt = t .start .0 in
     let sf = subspace-few (record { any = a .«end_open»; id = a .end }) (t .end .0) in (
       puts-tab
-          (puts-fits n (omega arith) (c .before .before .before .before .before .put-hex .ensures))
+          (puts-fits n (omega arith) (after-put-hex .put-hex .ensures))
           s (omega arith) (c .before .before .put-bytes .ensures) (c .put-subspace .ensures),
       omega arith,
     )

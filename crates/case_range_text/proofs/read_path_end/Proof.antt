@@ -9,11 +9,19 @@ returns c = rw (← (c .before .before .same-bytes .ensures), c .before .if1 .ta
 
 returns-2 : tie.Need-returns-2
 unfolding readPathEnd
-returns-2 c = rw (← (c .before .before .before .before .before .same-bytes .ensures), c .before .before .before .before .if1 .left, ← (c .before .before .before .read-path .ensures), c .enum-told .given .1)
+returns-2 c =
+    let after-read-path : tie.After-read-path = search in
+    let else1 : tie.Else1 = search in
+    let after-same-bytes : tie.After-same-bytes = search in
+    rw (← (after-same-bytes .same-bytes .ensures), else1 .if1 .left, ← (after-read-path .read-path .ensures), c .enum-told .given .1)
 
 returns-3 : tie.Need-returns-3
 unfolding readPathEnd
-returns-3 c = rw (← (c .before .before .before .before .before .same-bytes .ensures), c .before .before .before .before .if1 .left, ← (c .before .before .before .read-path .ensures), c .enum-told2 .given .1)
+returns-3 c =
+    let after-read-path : tie.After-read-path = search in
+    let else1 : tie.Else1 = search in
+    let after-same-bytes : tie.After-same-bytes = search in
+    rw (← (after-same-bytes .same-bytes .ensures), else1 .if1 .left, ← (after-read-path .read-path .ensures), c .enum-told2 .given .1)
 
 pub read-path-end-spec : {M : Type 1} → statement M
 read-path-end-spec =

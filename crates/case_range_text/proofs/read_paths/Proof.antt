@@ -24,24 +24,40 @@ start-of i line start k = onField (readPathEnd (field (i + 1) line) .ok) (readPa
 returns : tie.Need-returns
 unfolding noPathsField
 returns c =
-    let i = c .before .before .before .before .before .before .args .i in
-    let line = now (c .before .before .before .before .before .before .args .line) in
-    rw (c .no-paths .ensures) (says-none (start-of i line) _ (path-says-no i line (c .before .before .before .before .part .ensures) (c .before .before .before .read-path .ensures) (c .before .enum-told2 .given .1)))
+    let after-read-path : tie.After-read-path = search in
+    let after-part : tie.After-part = search in
+    let start : tie.Start = search in
+    let i = start .args .i in
+    let line = now (start .args .line) in
+    rw (c .no-paths .ensures) (says-none (start-of i line) _ (path-says-no i line (after-part .part .ensures) (after-read-path .read-path .ensures) (c .before .enum-told2 .given .1)))
 
 returns-2 : tie.Need-returns-2
 unfolding noPathsField
 returns-2 c =
-    let i = c .before .before .before .before .before .before .before .before .before .before .args .i in
-    let line = now (c .before .before .before .before .before .before .before .before .before .before .args .line) in
-    let first = path-says i line (c .before .before .before .before .before .before .before .before .part .ensures) (c .before .before .before .before .before .before .before .read-path .ensures) (c .before .before .before .before .before .enum-told .given .1) in
-    rw (c .no-paths2 .ensures) (says-then (start-of i line) first (says-none (end-of _) _ (field-says readPathEnd (λ r. r .ok) (λ r. r .end) (i + 1) line (c .before .before .before .before .part2 .ensures) (c .before .before .before .read-path-end .ensures) false (not-true _ (c .before .if1 .taken)))))
+    let after-read-path-end : tie.After-read-path-end = search in
+    let after-part2 : tie.After-part2 = search in
+    let after-enum-told : tie.After-enum-told = search in
+    let after-read-path : tie.After-read-path = search in
+    let after-part : tie.After-part = search in
+    let start : tie.Start = search in
+    let i = start .args .i in
+    let line = now (start .args .line) in
+    let first = path-says i line (after-part .part .ensures) (after-read-path .read-path .ensures) (after-enum-told .enum-told .given .1) in
+    rw (c .no-paths2 .ensures) (says-then (start-of i line) first (says-none (end-of _) _ (field-says readPathEnd (λ r. r .ok) (λ r. r .end) (i + 1) line (after-part2 .part2 .ensures) (after-read-path-end .read-path-end .ensures) false (not-true _ (c .before .if1 .taken)))))
 
 returns-3 : tie.Need-returns-3
 returns-3 c =
-    let i = c .before .before .before .before .before .before .before .before .before .before .before .before .args .i in
-    let line = now (c .before .before .before .before .before .before .before .before .before .before .before .before .args .line) in
-    let first = path-says i line (c .before .before .before .before .before .before .before .before .before .before .part .ensures) (c .before .before .before .before .before .before .before .before .before .read-path .ensures) (c .before .before .before .before .before .before .before .enum-told .given .1) in
-    says-then (start-of i line) first (says-then (end-of _) (field-says readPathEnd (λ r. r .ok) (λ r. r .end) (i + 1) line (c .before .before .before .before .before .before .part2 .ensures) (c .before .before .before .before .before .read-path-end .ensures) true (not-false _ (c .before .before .before .if1 .left))) (record { said = λ k. refl }))
+    let else1 : tie.Else1 = search in
+    let after-read-path-end : tie.After-read-path-end = search in
+    let after-part2 : tie.After-part2 = search in
+    let after-enum-told : tie.After-enum-told = search in
+    let after-read-path : tie.After-read-path = search in
+    let after-part : tie.After-part = search in
+    let start : tie.Start = search in
+    let i = start .args .i in
+    let line = now (start .args .line) in
+    let first = path-says i line (after-part .part .ensures) (after-read-path .read-path .ensures) (after-enum-told .enum-told .given .1) in
+    says-then (start-of i line) first (says-then (end-of _) (field-says readPathEnd (λ r. r .ok) (λ r. r .end) (i + 1) line (after-part2 .part2 .ensures) (after-read-path-end .read-path-end .ensures) true (not-false _ (else1 .if1 .left))) (record { said = λ k. refl }))
 
 pub read-paths-spec : {M : Type 1} → statement M
 read-paths-spec =

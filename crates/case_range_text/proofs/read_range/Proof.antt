@@ -26,29 +26,48 @@ subspaces-of i line s k = pathsField (i + 2) line (λ p. paths-of i line s p k)
 returns : tie.Need-returns
 unfolding noRangeField
 returns c =
-    let i = c .before .before .before .before .before .args .place in
-    let line = now (c .before .before .before .before .before .args .line) in
-    rw (c .no-range .ensures) (says-none (subspaces-of i line) _ (says-as (c .before .before .before .read-subspaces .ensures) (not-true _ (c .before .if1 .taken))), refl)
+    let after-read-subspaces : tie.After-read-subspaces = search in
+    let start : tie.Start = search in
+    let i = start .args .place in
+    let line = now (start .args .line) in
+    rw (c .no-range .ensures) (says-none (subspaces-of i line) _ (says-as (after-read-subspaces .read-subspaces .ensures) (not-true _ (c .before .if1 .taken))), refl)
 
 returns-2 : tie.Need-returns-2
 unfolding noRangeField
 returns-2 c =
-    let i = c .before .before .before .before .before .before .before .before .args .place in
-    let line = now (c .before .before .before .before .before .before .before .before .args .line) in
-    rw (c .no-range2 .ensures) (says-then (subspaces-of i line) (says-as (c .before .before .before .before .before .before .read-subspaces .ensures) (not-false _ (c .before .before .before .before .if1 .left))) (says-none (paths-of i line _) _ (says-as (c .before .before .before .read-paths .ensures) (not-true _ (c .before .if2 .taken)))), refl)
+    let after-read-paths : tie.After-read-paths = search in
+    let else1 : tie.Else1 = search in
+    let after-read-subspaces : tie.After-read-subspaces = search in
+    let start : tie.Start = search in
+    let i = start .args .place in
+    let line = now (start .args .line) in
+    rw (c .no-range2 .ensures) (says-then (subspaces-of i line) (says-as (after-read-subspaces .read-subspaces .ensures) (not-false _ (else1 .if1 .left))) (says-none (paths-of i line _) _ (says-as (after-read-paths .read-paths .ensures) (not-true _ (c .before .if2 .taken)))), refl)
 
 returns-3 : tie.Need-returns-3
 unfolding noRangeField
 returns-3 c =
-    let i = c .before .before .before .before .before .before .before .before .before .before .before .args .place in
-    let line = now (c .before .before .before .before .before .before .before .before .before .before .before .args .line) in
-    rw (c .no-range3 .ensures) (says-then (subspaces-of i line) (says-as (c .before .before .before .before .before .before .before .before .before .read-subspaces .ensures) (not-false _ (c .before .before .before .before .before .before .before .if1 .left))) (says-then (paths-of i line _) (says-as (c .before .before .before .before .before .before .read-paths .ensures) (not-false _ (c .before .before .before .before .if2 .left))) (says-none (times-of _ _) _ (says-as (c .before .before .before .read-times .ensures) (not-true _ (c .before .if3 .taken))))), refl)
+    let after-read-times : tie.After-read-times = search in
+    let else2 : tie.Else2 = search in
+    let after-read-paths : tie.After-read-paths = search in
+    let else1 : tie.Else1 = search in
+    let after-read-subspaces : tie.After-read-subspaces = search in
+    let start : tie.Start = search in
+    let i = start .args .place in
+    let line = now (start .args .line) in
+    rw (c .no-range3 .ensures) (says-then (subspaces-of i line) (says-as (after-read-subspaces .read-subspaces .ensures) (not-false _ (else1 .if1 .left))) (says-then (paths-of i line _) (says-as (after-read-paths .read-paths .ensures) (not-false _ (else2 .if2 .left))) (says-none (times-of _ _) _ (says-as (after-read-times .read-times .ensures) (not-true _ (c .before .if3 .taken))))), refl)
 
 returns-4 : tie.Need-returns-4
 returns-4 c =
-    let i = c .before .before .before .before .before .before .before .before .before .before .before .before .before .args .place in
-    let line = now (c .before .before .before .before .before .before .before .before .before .before .before .before .before .args .line) in
-    (says-then (subspaces-of i line) (says-as (c .before .before .before .before .before .before .before .before .before .before .before .read-subspaces .ensures) (not-false _ (c .before .before .before .before .before .before .before .before .before .if1 .left))) (says-then (paths-of i line _) (says-as (c .before .before .before .before .before .before .before .before .read-paths .ensures) (not-false _ (c .before .before .before .before .before .before .if2 .left))) (says-then (times-of _ _) (says-as (c .before .before .before .before .before .read-times .ensures) (not-false _ (c .before .before .before .if3 .left))) (record { said = λ k. refl }))), refl)
+    let else3 : tie.Else3 = search in
+    let after-read-times : tie.After-read-times = search in
+    let else2 : tie.Else2 = search in
+    let after-read-paths : tie.After-read-paths = search in
+    let else1 : tie.Else1 = search in
+    let after-read-subspaces : tie.After-read-subspaces = search in
+    let start : tie.Start = search in
+    let i = start .args .place in
+    let line = now (start .args .line) in
+    (says-then (subspaces-of i line) (says-as (after-read-subspaces .read-subspaces .ensures) (not-false _ (else1 .if1 .left))) (says-then (paths-of i line _) (says-as (after-read-paths .read-paths .ensures) (not-false _ (else2 .if2 .left))) (says-then (times-of _ _) (says-as (after-read-times .read-times .ensures) (not-false _ (else3 .if3 .left))) (record { said = λ k. refl }))), refl)
 
 pub read-range-spec : {M : Type 1} → statement M
 read-range-spec =

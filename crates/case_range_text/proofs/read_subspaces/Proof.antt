@@ -25,24 +25,40 @@ start-of i line start k = onField (readSubspaceText (field (i + 1) line) .ok) (r
 returns : tie.Need-returns
 unfolding noSubspacesField
 returns c =
-    let i = c .before .before .before .before .before .before .args .i in
-    let line = now (c .before .before .before .before .before .before .args .line) in
-    rw (c .no-subspaces .ensures) (says-none (start-of i line) _ (field-says readId (λ r. r .ok) (λ r. r .id) i line (c .before .before .before .before .part .ensures) (c .before .before .before .read-id .ensures) false (not-true _ (c .before .if1 .taken))))
+    let after-read-id : tie.After-read-id = search in
+    let after-part : tie.After-part = search in
+    let start : tie.Start = search in
+    let i = start .args .i in
+    let line = now (start .args .line) in
+    rw (c .no-subspaces .ensures) (says-none (start-of i line) _ (field-says readId (λ r. r .ok) (λ r. r .id) i line (after-part .part .ensures) (after-read-id .read-id .ensures) false (not-true _ (c .before .if1 .taken))))
 
 returns-2 : tie.Need-returns-2
 unfolding noSubspacesField
 returns-2 c =
-    let i = c .before .before .before .before .before .before .before .before .before .before .args .i in
-    let line = now (c .before .before .before .before .before .before .before .before .before .before .args .line) in
-    let first = field-says readId (λ r. r .ok) (λ r. r .id) i line (c .before .before .before .before .before .before .before .before .part .ensures) (c .before .before .before .before .before .before .before .read-id .ensures) true (not-false _ (c .before .before .before .before .before .if1 .left)) in
-    rw (c .no-subspaces2 .ensures) (says-then (start-of i line) first (says-none (end-of _) _ (field-says readSubspaceText (λ r. r .ok) (λ r. r .subspace) (i + 1) line (c .before .before .before .before .part2 .ensures) (c .before .before .before .read-subspace .ensures) false (not-true _ (c .before .if2 .taken)))))
+    let after-read-subspace : tie.After-read-subspace = search in
+    let after-part2 : tie.After-part2 = search in
+    let else1 : tie.Else1 = search in
+    let after-read-id : tie.After-read-id = search in
+    let after-part : tie.After-part = search in
+    let start : tie.Start = search in
+    let i = start .args .i in
+    let line = now (start .args .line) in
+    let first = field-says readId (λ r. r .ok) (λ r. r .id) i line (after-part .part .ensures) (after-read-id .read-id .ensures) true (not-false _ (else1 .if1 .left)) in
+    rw (c .no-subspaces2 .ensures) (says-then (start-of i line) first (says-none (end-of _) _ (field-says readSubspaceText (λ r. r .ok) (λ r. r .subspace) (i + 1) line (after-part2 .part2 .ensures) (after-read-subspace .read-subspace .ensures) false (not-true _ (c .before .if2 .taken)))))
 
 returns-3 : tie.Need-returns-3
 returns-3 c =
-    let i = c .before .before .before .before .before .before .before .before .before .before .before .before .args .i in
-    let line = now (c .before .before .before .before .before .before .before .before .before .before .before .before .args .line) in
-    let first = field-says readId (λ r. r .ok) (λ r. r .id) i line (c .before .before .before .before .before .before .before .before .before .before .part .ensures) (c .before .before .before .before .before .before .before .before .before .read-id .ensures) true (not-false _ (c .before .before .before .before .before .before .before .if1 .left)) in
-    says-then (start-of i line) first (says-then (end-of _) (field-says readSubspaceText (λ r. r .ok) (λ r. r .subspace) (i + 1) line (c .before .before .before .before .before .before .part2 .ensures) (c .before .before .before .before .before .read-subspace .ensures) true (not-false _ (c .before .before .before .if2 .left))) (record { said = λ k. refl }))
+    let else2 : tie.Else2 = search in
+    let after-read-subspace : tie.After-read-subspace = search in
+    let after-part2 : tie.After-part2 = search in
+    let else1 : tie.Else1 = search in
+    let after-read-id : tie.After-read-id = search in
+    let after-part : tie.After-part = search in
+    let start : tie.Start = search in
+    let i = start .args .i in
+    let line = now (start .args .line) in
+    let first = field-says readId (λ r. r .ok) (λ r. r .id) i line (after-part .part .ensures) (after-read-id .read-id .ensures) true (not-false _ (else1 .if1 .left)) in
+    says-then (start-of i line) first (says-then (end-of _) (field-says readSubspaceText (λ r. r .ok) (λ r. r .subspace) (i + 1) line (after-part2 .part2 .ensures) (after-read-subspace .read-subspace .ensures) true (not-false _ (else2 .if2 .left))) (record { said = λ k. refl }))
 
 pub read-subspaces-spec : {M : Type 1} → statement M
 read-subspaces-spec =

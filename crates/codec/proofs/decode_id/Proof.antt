@@ -14,17 +14,22 @@ enough : (c : tie.Else1) → 32 ≤ length (drop (c .before .before .before .arg
 enough c = omega (arith, c .if1 .left, c .before .bytes-from .ensures)
 
 inside : (c : tie.Else1) → c .before .before .before .args .start + 32 ≤ length (now (c .before .before .before .args .message))
-inside c = omega (arith, enough c, length-drop (c .before .before .before .args .start) (now (c .before .before .before .args .message)))
+inside c =
+    let start : tie.Start = search in
+    omega (arith, enough c, length-drop (start .args .start) (now (start .args .message)))
 
 id-is : (c : tie.After-put-bytes) → c .put-bytes .last .0 ≡ take 32 (drop (c .before .before .before .before .before .before .args .start) (now (c .before .before .before .before .before .before .args .message)))
 id-is c =
-    let a = c .before .before .before .before .before .before .args in
+    let else1 : tie.Else1 = search in
+    let start : tie.Start = search in
+    let a = start .args in
     let m : (a .start + 32) - a .start ≡ 32 = omega arith in
-    rw m at (c .put-bytes .ensures .1) ∙ id-put (drop (a .start) (now (a .message))) (enough (c .before .before .before))
+    rw m at (c .put-bytes .ensures .1) ∙ id-put (drop (a .start) (now (a .message))) (enough else1)
 
 returns : tie.Need-returns
 returns c =
-    let a = c .before .before .before .args in
+    let start : tie.Start = search in
+    let a = start .args in
     gives-refused 1 refl (bytes-short 32 (drop (a .start) (now (a .message))) (omega (arith, c .before .bytes-from .ensures, c .if1 .taken)))
 
 add-end : tie.Need-add-end
@@ -35,8 +40,10 @@ part-put-bytes-end c = omega (arith, inside (c .before))
 
 returns-2 : tie.Need-returns-2
 returns-2 c =
-    let a = c .before .before .before .before .before .before .before .args in
-    rw (id-is (c .before)) (gives-accepted (bytes-there 32 (drop (a .start) (now (a .message))) (enough (c .before .before .before .before))))
+    let else1 : tie.Else1 = search in
+    let start : tie.Start = search in
+    let a = start .args in
+    rw (id-is (c .before)) (gives-accepted (bytes-there 32 (drop (a .start) (now (a .message))) (enough else1)))
 
 pub decode-id-spec : {M : Type 1} → statement M
 decode-id-spec =

@@ -25,8 +25,9 @@ loop-holds c = (omega arith, refl, refl)
 
 loop-again : tie.Need-loop-again Inv-loop μ-loop
 loop-again c =
+    let start : tie.Start Inv-loop μ-loop = search in
     let l = c .before .before .loop in
-    let a = c .before .before .before .before .args in (
+    let a = start .args in (
       omega arith,
       simp length-set (l .inv .1),
       rw (l .inv .2) (copy-next (now (a .buffer)) (now (a .s)) (l .i) (omega arith) (omega arith)),
@@ -37,8 +38,9 @@ same-length c = c .before .loop .inv .1
 
 returns-2 : tie.Need-returns-2 Inv-loop μ-loop
 returns-2 c =
+    let start : tie.Start Inv-loop μ-loop = search in
     let l = c .before .loop in
-    let a = c .before .before .before .args in
+    let a = start .args in
     let s = now (a .s) in
     let e : l .i ≡ length s = omega arith in
     let f = put-fits allowed s (now (a .buffer)) refl (l .i) e (omega arith) in

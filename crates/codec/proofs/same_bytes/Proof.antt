@@ -23,16 +23,20 @@ loop-holds c = (omega arith, omega arith, refl)
 
 returns-2 : tie.Need-returns-2 Inv-loop μ-loop
 returns-2 c =
-    let s = now (c .before .before .before .before .before .before .args .s) in
-    let t = now (c .before .before .before .before .before .before .args .t) in
-    let l = c .before .before .before .before .loop in
+    let at-loop : tie.At-loop Inv-loop μ-loop = search in
+    let start : tie.Start Inv-loop μ-loop = search in
+    let s = now (start .args .s) in
+    let t = now (start .args .t) in
+    let l = at-loop .loop in
     sym (l .inv .2 ∙ same-next s t (l .i) (omega arith) (omega arith) ∙ rw (ne-eqb (getD s (l .i) 0) (getD t (l .i) 0) (c .if2 .taken)))
 
 loop-again : tie.Need-loop-again Inv-loop μ-loop
 loop-again c =
-    let s = now (c .before .before .before .before .before .before .args .s) in
-    let t = now (c .before .before .before .before .before .before .args .t) in
-    let l = c .before .before .before .before .loop in
+    let at-loop : tie.At-loop Inv-loop μ-loop = search in
+    let start : tie.Start Inv-loop μ-loop = search in
+    let s = now (start .args .s) in
+    let t = now (start .args .t) in
+    let l = at-loop .loop in
     let e : getD s (l .i) 0 ≡ getD t (l .i) 0 = omega arith in (
       omega arith,
       omega arith,
@@ -41,8 +45,9 @@ loop-again c =
 
 returns-3 : tie.Need-returns-3 Inv-loop μ-loop
 returns-3 c =
+    let start : tie.Start Inv-loop μ-loop = search in
     let l = c .before .loop in
-    sym (l .inv .2 ∙ same-end (now (c .before .before .before .args .s)) (now (c .before .before .before .args .t)) (l .i) (omega arith) (omega arith))
+    sym (l .inv .2 ∙ same-end (now (start .args .s)) (now (start .args .t)) (l .i) (omega arith) (omega arith))
 
 pub same-bytes-spec : {M : Type 1} → statement M
 same-bytes-spec =

@@ -24,13 +24,16 @@ mul-v c = omega (arith, room64 (c .before .loop .i) (c .before .loop .v) 0 (omeg
 
 add-v : tie.Need-add-v Inv-loop μ-loop
 add-v c =
-    let l = c .before .before .before .loop in
+    let at-loop : tie.At-loop Inv-loop μ-loop = search in
+    let l = at-loop .loop in
     omega (arith, room64 (l .i) (l .v) (c .wide .result) (omega arith) (omega arith) (omega arith))
 
 loop-again : tie.Need-loop-again Inv-loop μ-loop
 loop-again c =
-    let l = c .before .before .before .loop in
-    let a = c .before .before .before .before .before .args in
+    let at-loop : tie.At-loop Inv-loop μ-loop = search in
+    let start : tie.Start Inv-loop μ-loop = search in
+    let l = at-loop .loop in
+    let a = start .args in
     let s = now (a .message) in
     let h : l .i < length (drop (a .start) s) = rw length-drop (omega arith) in (
       omega arith,

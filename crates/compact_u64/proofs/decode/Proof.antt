@@ -13,7 +13,9 @@ use Rattle.compact_u64.proofs.decode.Statement.{statement}
 use Rattle.compact_u64.proofs.decode.Tie as tie
 
 told : (c : tie.After-relative-decode) → readStandalone (c .before .before .before .before .args .canonic) (drop (c .before .before .before .before .args .start) (now (c .before .before .before .before .args .message))) ≡ shift 1 (numberAnswer (c .relative-decode .result))
-told c = let a = c .before .before .before .before .args in standalone-some (a .canonic) (now (a .message)) (a .start) (c .before .before .if1 .left) ∙ ap (shift 1) (sym (c .relative-decode .ensures))
+told c =
+    let start : tie.Start = search in
+    let a = start .args in standalone-some (a .canonic) (now (a .message)) (a .start) (c .before .before .if1 .left) ∙ ap (shift 1) (sym (c .relative-decode .ensures))
 
 returns : tie.Need-returns
 returns c = sym (standalone-none _ (now (c .before .before .args .message)) _ (c .if1 .taken))
@@ -23,13 +25,17 @@ returns-2 c = sym (told (c .before) ∙ refusal-shifted (c .before .relative-dec
 
 add-t8 : tie.Need-add-t8
 add-t8 c =
-    let a = c .before .before .before .before .before .before .before .args in
+    let after-relative-decode : tie.After-relative-decode = search in
+    let start : tie.Start = search in
+    let a = start .args in
     let m = now (a .message) in
-    let e = sym (c .before .before .before .relative-decode .ensures) ∙ ap numberAnswer (c .before .number .given .1) in
+    let e = sym (after-relative-decode .relative-decode .ensures) ∙ ap numberAnswer (c .before .number .given .1) in
     omega (arith, number-bounded 8 _ (a .canonic) .bound (drop (a .start + 1) m) _ _ e, length-drop (a .start + 1) m)
 
 returns-3 : tie.Need-returns-3
-returns-3 c = sym (told (c .before .before .before) ∙ ap (λ x. shift 1 (numberAnswer x)) (c .before .number .given .1))
+returns-3 c =
+    let after-relative-decode : tie.After-relative-decode = search in
+    sym (told after-relative-decode ∙ ap (λ x. shift 1 (numberAnswer x)) (c .before .number .given .1))
 
 pub decode-spec : {M : Type 1} → statement M
 decode-spec =

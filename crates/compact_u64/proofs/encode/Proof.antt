@@ -11,7 +11,9 @@ use Rattle.compact_u64.proofs.encode.Statement.{statement}
 use Rattle.compact_u64.proofs.encode.Tie as tie
 
 returns : tie.Need-returns
-returns c = put-full allowed (standaloneBytes (c .before .before .before .args .value)) (now (c .before .before .before .args .buffer)) refl _ (c .before .len-of-encoding .ensures .0) (c .if1 .taken)
+returns c =
+    let start : tie.Start = search in
+    put-full allowed (standaloneBytes (start .args .value)) (now (start .args .buffer)) refl _ (c .before .len-of-encoding .ensures .0) (c .if1 .taken)
 
 sub-relative-encode : tie.Need-sub-relative-encode
 sub-relative-encode c = simp length-set (omega arith)
@@ -21,15 +23,21 @@ part-relative-encode-start c = simp length-set (omega arith)
 
 same-length : tie.Need-same-length
 same-length c =
-    let l = set (now (c .before .before .before .before .before .before .before .before .args .buffer)) 0 (c .before .before .before .before .min-tag .result) in
+    let after-min-tag : tie.After-min-tag = search in
+    let start : tie.Start = search in
+    let l = set (now (start .args .buffer)) 0 (after-min-tag .min-tag .result) in
     put-end-long 1 l (c .before .before .relative-encode .last .0) (simp length-set (omega arith)) (c .before .before .relative-encode .kept .0) ∙ simp length-set
 
 returns-2 : tie.Need-returns-2
 returns-2 c =
-    let a = c .before .before .before .before .before .before .before .before .args in
-    let n = c .before .before .before .before .before .before .len-of-encoding in
-    let tag = c .before .before .before .before .min-tag in
-    let room = c .before .before .before .before .before .if1 .left in
+    let after-min-tag : tie.After-min-tag = search in
+    let else1 : tie.Else1 = search in
+    let after-len-of-encoding : tie.After-len-of-encoding = search in
+    let start : tie.Start = search in
+    let a = start .args in
+    let n = after-len-of-encoding .len-of-encoding in
+    let tag = after-min-tag .min-tag in
+    let room = else1 .if1 .left in
     let l = set (now (a .buffer)) 0 (tag .result) in
     let p = rw (to-end 1 l) at (c .before .before .relative-encode .ensures .1) in
     let f = put-fits allowed (standaloneBytes (a .value)) (now (a .buffer)) refl (n .result) (n .ensures .0) room in (

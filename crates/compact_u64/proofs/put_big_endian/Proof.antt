@@ -29,9 +29,10 @@ loop-holds c =
 
 loop-again : tie.Need-loop-again Inv-loop μ-loop
 loop-again c =
+    let start : tie.Start Inv-loop μ-loop = search in
     let l = c .before .loop in
-    let n = c .before .before .before .args .n in
-    let v = c .before .before .before .args .value in
+    let n = start .args .n in
+    let v = start .args .value in
     let e : n - (l .i - 1) ≡ (n - l .i) + 1 = omega arith in
     let i' : (l .i - 1) + 1 ≡ l .i = omega arith in (
       omega arith,
@@ -42,8 +43,9 @@ loop-again c =
 
 returns-2 : tie.Need-returns-2 Inv-loop μ-loop
 returns-2 c =
+    let start : tie.Start Inv-loop μ-loop = search in
     let l = c .before .loop in
-    let a = c .before .before .before .args in
+    let a = start .args in
     let z : l .i ≡ 0 = omega arith in
     let m : a .n - 0 ≡ a .n = omega arith in
     let long = length-bigEndian (a .n) (a .value) in

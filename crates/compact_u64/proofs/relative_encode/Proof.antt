@@ -6,8 +6,10 @@ use Rattle.compact_u64.proofs.relative_encode.Tie as tie
 
 returns : tie.Need-returns
 returns c =
-    let a = c .before .before .before .before .before .before .args in
-    let n = c .before .before .before .relative-len-of-encoding in
+    let after-relative-len-of-encoding : tie.After-relative-len-of-encoding = search in
+    let start : tie.Start = search in
+    let a = start .args in
+    let n = after-relative-len-of-encoding .relative-len-of-encoding in
     rw (number-bytes (bits (a .width)) (a .value) (n .result) (n .ensures .0)) at (c .before .before .put-big-endian .ensures)
 
 pub relative-encode-spec : {M : Type 1} → statement M

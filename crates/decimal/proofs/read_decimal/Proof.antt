@@ -20,25 +20,35 @@ returns : tie.Need-returns Inv-loop μ-loop
 returns c = sym (read-empty (now (c .before .before .args .s)) (c .if1 .taken))
 
 returns-2 : tie.Need-returns-2 Inv-loop μ-loop
-returns-2 c = sym (read-zero (now (c .before .before .before .before .before .args .s)) (c .before .if2 .taken) (omega arith))
+returns-2 c =
+    let start : tie.Start Inv-loop μ-loop = search in
+    sym (read-zero (now (start .args .s)) (c .before .if2 .taken) (omega arith))
 
 returns-3 : tie.Need-returns-3 Inv-loop μ-loop
-returns-3 c = sym (read-leading-zero (now (c .before .before .before .before .before .args .s)) (omega arith) (c .before .if2 .taken))
+returns-3 c =
+    let start : tie.Start Inv-loop μ-loop = search in
+    sym (read-leading-zero (now (start .args .s)) (omega arith) (c .before .if2 .taken))
 
 loop-holds : tie.Need-loop-holds Inv-loop μ-loop
-loop-holds c = (omega arith, other-start (now (c .before .before .before .before .args .s)) (omega arith) (c .if2 .left), refl, omega arith)
+loop-holds c =
+    let start : tie.Start Inv-loop μ-loop = search in
+    (omega arith, other-start (now (start .args .s)) (omega arith) (c .if2 .left), refl, omega arith)
 
 returns-4 : tie.Need-returns-4 Inv-loop μ-loop
 returns-4 c =
-    let s = now (c .before .before .before .before .before .before .before .before .before .args .s) in
-    let l = c .before .before .before .before .loop in
+    let at-loop : tie.At-loop Inv-loop μ-loop = search in
+    let start : tie.Start Inv-loop μ-loop = search in
+    let s = now (start .args .s) in
+    let l = at-loop .loop in
     let d = c .before .decimal-value in
     sym (read-no-decimal s (l .inv .1 ∙ allDigits-next s (l .i) (omega arith) ∙ rw (← (d .ensures), le-ltb (d .result) 10 (omega arith))))
 
 returns-5 : tie.Need-returns-5 Inv-loop μ-loop
 returns-5 c =
-    let s = now (c .before .before .before .before .before .before .before .before .before .before .args .s) in
-    let l = c .before .before .before .before .before .loop in
+    let at-loop : tie.At-loop Inv-loop μ-loop = search in
+    let start : tie.Start Inv-loop μ-loop = search in
+    let s = now (start .args .s) in
+    let l = at-loop .loop in
     let d = c .before .before .decimal-value in
     let e = digits-next (l .v) s (l .i) (omega arith) in
     let g = digits-grow (l .v * 10 + d .result) (drop (l .i + 1) s) in
@@ -46,8 +56,10 @@ returns-5 c =
 
 loop-again : tie.Need-loop-again Inv-loop μ-loop
 loop-again c =
-    let s = now (c .before .before .before .before .before .before .before .before .before .before .args .s) in
-    let l = c .before .before .before .before .before .loop in
+    let at-loop : tie.At-loop Inv-loop μ-loop = search in
+    let start : tie.Start Inv-loop μ-loop = search in
+    let s = now (start .args .s) in
+    let l = at-loop .loop in
     let d = c .before .before .decimal-value in (
       omega arith,
       l .inv .1 ∙ allDigits-next s (l .i) (omega arith) ∙ rw (← (d .ensures), lt-ltb (d .result) 10 (omega arith)),
@@ -57,7 +69,8 @@ loop-again c =
 
 returns-6 : tie.Need-returns-6 Inv-loop μ-loop
 returns-6 c =
-    let s = now (c .before .before .before .before .before .before .args .s) in
+    let start : tie.Start Inv-loop μ-loop = search in
+    let s = now (start .args .s) in
     let l = c .before .loop in
     sym (read-value s (l .v) (l .inv .1 ∙ allDigits-end s (l .i) (omega arith)) (l .inv .2 ∙ digits-end (l .v) s (l .i) (omega arith)) (omega arith))
 

@@ -19,42 +19,61 @@ use Rattle.entry_end.proofs.relative_decode.Tie as tie
 
 time-is : (c : tie.After-known-told) → let a = c .before .before .before .before .before .args in let x = c .before .first .given .0 in
     readIncluded (a .canonic) (a .times) (a .header .«time_added») (a .header .«time_tag») (now (a .message)) ≡ accepted (x .0) (x .1 .0)
-time-is c = sym (c .before .before .before .decode-included .ensures) ∙ ap numberAnswer (c .before .first .given .1)
+time-is c =
+    let after-decode-included : tie.After-decode-included = search in
+    sym (after-decode-included .decode-included .ensures) ∙ ap numberAnswer (c .before .first .given .1)
 
 size-is : (c : tie.After-known-told2) → let a = c .before .before .before .before .before .before .before .before .before .args in let x = c .before .second .given .0 in
     readNumber (a .canonic) 2 (a .header .«length_tag») (drop (c .before .before .before .before .before .first .given .0 .1 .0) (now (a .message))) ≡ accepted (x .0) (x .1 .0)
-size-is c = sym (c .before .before .before .relative-decode .ensures) ∙ ap numberAnswer (c .before .second .given .1)
+size-is c =
+    let after-relative-decode : tie.After-relative-decode = search in
+    sym (after-relative-decode .relative-decode .ensures) ∙ ap numberAnswer (c .before .second .given .1)
 
 digest-is : (c : tie.After-known-told3) → someBytes 32 (drop (c .before .before .before .before .before .before .before .before .before .first .given .0 .1 .0 + c .before .before .before .before .before .second .given .0 .1 .0) (now (c .before .before .before .before .before .before .before .before .before .before .before .before .before .args .message))) ≡ accepted (c .before .before .before .decode-id .result .id) (c .before .answer .given .0 .0)
-digest-is c = sym (c .before .before .before .decode-id .ensures .answer) ∙ ap (λ (d : Decoded). answerOf d (c .before .before .before .decode-id .result .id)) (c .before .answer .given .1)
+digest-is c =
+    let after-decode-id : tie.After-decode-id = search in
+    sym (after-decode-id .decode-id .ensures .answer) ∙ ap (λ (d : Decoded). answerOf d (after-decode-id .decode-id .result .id)) (c .before .answer .given .1)
 
 inside : (c : tie.After-known-told3) → c .before .before .before .before .before .before .before .before .before .first .given .0 .1 .0 + (c .before .before .before .before .before .second .given .0 .1 .0 + c .before .answer .given .0 .0) ≤ length (now (c .before .before .before .before .before .before .before .before .before .before .before .before .before .args .message))
 inside c =
-    let a = c .before .before .before .before .before .before .before .before .before .before .before .before .before .args in
-    digest-inside (a .canonic) (a .times) (a .header) (now (a .message)) _ _ (time-is (c .before .before .before .before .before .before .before .before)) _ _ (size-is (c .before .before .before .before)) _ _ (digest-is c)
+    let after-known-told2 : tie.After-known-told2 = search in
+    let after-known-told : tie.After-known-told = search in
+    let start : tie.Start = search in
+    let a = start .args in
+    digest-inside (a .canonic) (a .times) (a .header) (now (a .message)) _ _ (time-is after-known-told) _ _ (size-is after-known-told2) _ _ (digest-is c)
 
 returns : tie.Need-returns
 returns c =
-    let a = c .before .before .before .before .before .args in
-    let x = refused-number noEnd (c .before .before .before .decode-included .result) (c .before .before .match .keys2) in
-    rw (c .refuse .ensures .0, c .refuse .ensures .1, c .before .refusal .ensures) (gives-refused (x .why) (x .whole) (end-time (a .canonic) (a .times) (a .header) (now (a .message)) (x .why) (sym (c .before .before .before .decode-included .ensures) ∙ x .number)))
+    let after-decode-included : tie.After-decode-included = search in
+    let start : tie.Start = search in
+    let a = start .args in
+    let x = refused-number noEnd (after-decode-included .decode-included .result) (c .before .before .match .keys2) in
+    rw (c .refuse .ensures .0, c .refuse .ensures .1, c .before .refusal .ensures) (gives-refused (x .why) (x .whole) (end-time (a .canonic) (a .times) (a .header) (now (a .message)) (x .why) (sym (after-decode-included .decode-included .ensures) ∙ x .number)))
 
 returns-2 : tie.Need-returns-2
 returns-2 c =
-    let a = c .before .before .before .before .before .before .before .before .before .args in
-    let x = refused-number noEnd (c .before .before .before .relative-decode .result) (c .before .before .match2 .keys2) in
-    rw (c .refuse2 .ensures .0, c .refuse2 .ensures .1, c .before .refusal2 .ensures) (gives-refused (x .why) (x .whole) (end-size (a .canonic) (a .times) (a .header) (now (a .message)) _ _ (time-is (c .before .before .before .before)) (x .why) (sym (c .before .before .before .relative-decode .ensures) ∙ x .number)))
+    let after-relative-decode : tie.After-relative-decode = search in
+    let after-known-told : tie.After-known-told = search in
+    let start : tie.Start = search in
+    let a = start .args in
+    let x = refused-number noEnd (after-relative-decode .relative-decode .result) (c .before .before .match2 .keys2) in
+    rw (c .refuse2 .ensures .0, c .refuse2 .ensures .1, c .before .refusal2 .ensures) (gives-refused (x .why) (x .whole) (end-size (a .canonic) (a .times) (a .header) (now (a .message)) _ _ (time-is after-known-told) (x .why) (sym (after-relative-decode .relative-decode .ensures) ∙ x .number)))
 
 add-at : tie.Need-add-at
 add-at c =
-    let a = c .before .before .before .before .before .before .before .before .before .args in
-    omega (arith, end-inside (a .canonic) (a .times) (a .header) (now (a .message)) _ _ (time-is (c .before .before .before .before)) _ _ (size-is c))
+    let after-known-told : tie.After-known-told = search in
+    let start : tie.Start = search in
+    let a = start .args in
+    omega (arith, end-inside (a .canonic) (a .times) (a .header) (now (a .message)) _ _ (time-is after-known-told) _ _ (size-is c))
 
 returns-3 : tie.Need-returns-3
 returns-3 c =
-    let a = c .before .before .before .before .before .before .before .before .before .before .before .before .args in
+    let after-known-told2 : tie.After-known-told2 = search in
+    let after-known-told : tie.After-known-told = search in
+    let start : tie.Start = search in
+    let a = start .args in
     let x = no-value (c .before .before .decode-id .result .answer) (c .before .match3 .keys2) in
-    rw (c .refuse3 .ensures .0, c .refuse3 .ensures .1) (gives-refused (x .why) (x .beside _) (end-digest (a .canonic) (a .times) (a .header) (now (a .message)) _ _ (time-is (c .before .before .before .before .before .before .before)) _ _ (size-is (c .before .before .before)) (x .why) (sym (c .before .before .decode-id .ensures .answer) ∙ x .beside _)))
+    rw (c .refuse3 .ensures .0, c .refuse3 .ensures .1) (gives-refused (x .why) (x .beside _) (end-digest (a .canonic) (a .times) (a .header) (now (a .message)) _ _ (time-is after-known-told) _ _ (size-is after-known-told2) (x .why) (sym (c .before .before .decode-id .ensures .answer) ∙ x .beside _)))
 
 add-t19 : tie.Need-add-t19
 add-t19 c = omega (arith, inside (c .before))
@@ -64,8 +83,11 @@ add-t20 c = omega (arith, inside (c .before))
 
 returns-4 : tie.Need-returns-4
 returns-4 c =
-    let a = c .before .before .before .before .before .before .before .before .before .before .before .before .before .before .args in
-    gives-accepted (end-read (a .canonic) (a .times) (a .header) (now (a .message)) _ _ (time-is (c .before .before .before .before .before .before .before .before .before)) _ _ (size-is (c .before .before .before .before .before)) _ _ (digest-is (c .before)))
+    let after-known-told2 : tie.After-known-told2 = search in
+    let after-known-told : tie.After-known-told = search in
+    let start : tie.Start = search in
+    let a = start .args in
+    gives-accepted (end-read (a .canonic) (a .times) (a .header) (now (a .message)) _ _ (time-is after-known-told) _ _ (size-is after-known-told2) _ _ (digest-is (c .before)))
 
 pub relative-decode-spec : {M : Type 1} → statement M
 relative-decode-spec =

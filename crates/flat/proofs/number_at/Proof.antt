@@ -12,8 +12,9 @@ use Rattle.flat.proofs.number_at.Tie as tie
 
 returns : tie.Need-returns
 returns c =
-    let a = c .before .before .before .args in
-    let e = c .before .relative-decode .ensures ∙ number-there (drop (a .at) (now (a .flat))) (from-room (now (a .flat)) (a .at) 8 (c .before .before .before .pre)) in
+    let start : tie.Start = search in
+    let a = start .args in
+    let e = c .before .relative-decode .ensures ∙ number-there (drop (a .at) (now (a .flat))) (from-room (now (a .flat)) (a .at) 8 (start .pre)) in
     let r = refused-number {A = ℕ} 0 (c .before .relative-decode .result) (c .match .keys2) in
     let f = sym (r .number) ∙ e in
     let z : _≡_ {A = ℕ} 0 1 = cc in
@@ -21,8 +22,10 @@ returns c =
 
 returns-2 : tie.Need-returns-2
 returns-2 c =
-    let a = c .before .before .before .before .before .args in
-    let e = c .before .before .before .relative-decode .ensures ∙ number-there (drop (a .at) (now (a .flat))) (from-room (now (a .flat)) (a .at) 8 (c .before .before .before .before .before .pre)) in
+    let after-relative-decode : tie.After-relative-decode = search in
+    let start : tie.Start = search in
+    let a = start .args in
+    let e = after-relative-decode .relative-decode .ensures ∙ number-there (drop (a .at) (now (a .flat))) (from-room (now (a .flat)) (a .at) 8 (start .pre)) in
     let f = sym (ap numberAnswer (c .before .read .given .1)) ∙ e in
     cc
 

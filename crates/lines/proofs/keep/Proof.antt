@@ -15,16 +15,19 @@ returns c =
 
 returns-2 : tie.Need-returns-2
 returns-2 c =
-    let a = c .before .before .before .args in
+    let start : tie.Start = search in
+    let a = start .args in
     let e = kept-none (a .limit) (a .at) (a .end) (now (a .buf)) (c .if2 .taken) in
     (rw e, rw e, omega arith, omega arith)
 
 returns-3 : tie.Need-returns-3
 returns-3 c =
-    let a = c .before .before .before .before .before .before .before .before .args in
+    let after-smaller : tie.After-smaller = search in
+    let start : tie.Start = search in
+    let a = start .args in
     let e = kept-is (a .limit) (a .at) (a .end) (now (a .buf)) (omega arith) (omega arith) in
     let k = kept-long (a .limit) (a .at) (a .end) (now (a .buf)) (omega arith) (omega arith) in
-    let n = c .before .before .before .before .smaller .ensures in
+    let n = after-smaller .smaller .ensures in
     (omega (arith, n, ap length e, k), rw (e, ← n) (c .before .before .move-down .ensures), omega (arith, n), omega (arith, n))
 
 pub keep-spec : {M : Type 1} → statement M

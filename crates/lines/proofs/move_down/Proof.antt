@@ -25,8 +25,9 @@ loop-holds c = (omega arith, refl, refl, sym (overAt-start _ _))
 
 loop-again : tie.Need-loop-again Inv-loop μ-loop
 loop-again c =
+    let start : tie.Start Inv-loop μ-loop = search in
     let l = c .before .before .loop in
-    let a = c .before .before .before .args in
+    let a = start .args in
     let b = now (a .buf) in (
       omega arith,
       rw length-set (l .inv .1),

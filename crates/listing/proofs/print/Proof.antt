@@ -16,8 +16,14 @@ use Rattle.listing.proofs.print.Tie as tie
 
 returns : tie.Need-returns
 returns c =
-    let a = c .before .before .before .before .before .before .before .before .before .before .before .before .before .before .before .before .before .before .before .args .area in
-    let t = typed-area a (c .before .before .before .before .before .before .before .before .before .before .before .before .before .before .before .before .before .before .before .good .0) in
+    let after-put-decimal : tie.After-put-decimal = search in
+    let after-put-bytes2 : tie.After-put-bytes2 = search in
+    let after-put-components : tie.After-put-components = search in
+    let after-put-bytes : tie.After-put-bytes = search in
+    let after-put-subspace : tie.After-put-subspace = search in
+    let start : tie.Start = search in
+    let a = start .args .area in
+    let t = typed-area a (start .good .0) in
     let s = subspaceText (a .subspace) in
     let p = componentsTextOf (a .path) in
     let d = decimalText (a .times .start) in
@@ -31,9 +37,9 @@ returns c =
     puts-tab
     (puts-tab
     (puts-tab
-    (puts-fits s (omega arith) (c .before .before .before .before .before .before .before .before .before .before .before .before .before .before .before .put-subspace .ensures))
-    p (omega arith) (c .before .before .before .before .before .before .before .before .before .before .before .before .put-bytes .ensures) (c .before .before .before .before .before .before .before .before .before .before .put-components .ensures))
-    d (omega arith) (c .before .before .before .before .before .before .before .put-bytes2 .ensures) (c .before .before .before .before .before .put-decimal .ensures))
+    (puts-fits s (omega arith) (after-put-subspace .put-subspace .ensures))
+    p (omega arith) (after-put-bytes .put-bytes .ensures) (after-put-components .put-components .ensures))
+    d (omega arith) (after-put-bytes2 .put-bytes2 .ensures) (after-put-decimal .put-decimal .ensures))
     e (omega arith) (c .before .before .put-bytes3 .ensures) (c .put-end .ensures)
 
 pub print-spec : {M : Type 1} → statement M

@@ -36,37 +36,79 @@ says-as-no e s = says-as s (sym e)
 
 returns : tie.Need-returns
 returns c =
-    let line = now (c .before .before .before .before .before .before .args .line) in
-    says-as-no (c .no-area .ensures) (says-none (subspace-of line) _ (field-says readSubspaceText (λ r. r .ok) (λ r. r .subspace) 1 line (c .before .before .before .before .part .ensures) (c .before .before .before .read-subspace .ensures) false (not-true _ (c .before .if1 .taken))))
+    let after-read-subspace : tie.After-read-subspace = search in
+    let after-part : tie.After-part = search in
+    let start : tie.Start = search in
+    let line = now (start .args .line) in
+    says-as-no (c .no-area .ensures) (says-none (subspace-of line) _ (field-says readSubspaceText (λ r. r .ok) (λ r. r .subspace) 1 line (after-part .part .ensures) (after-read-subspace .read-subspace .ensures) false (not-true _ (c .before .if1 .taken))))
 
 returns-2 : tie.Need-returns-2
 returns-2 c =
-    let line = now (c .before .before .before .before .before .before .before .before .before .before .args .line) in
-    let first = field-says readSubspaceText (λ r. r .ok) (λ r. r .subspace) 1 line (c .before .before .before .before .before .before .before .before .part .ensures) (c .before .before .before .before .before .before .before .read-subspace .ensures) true (not-false _ (c .before .before .before .before .before .if1 .left)) in
-    says-as-no (c .no-area2 .ensures) (says-then (subspace-of line) first (says-none (path-of line _) _ (path-says-no line (c .before .before .before .before .part2 .ensures) (c .before .before .before .read-path .ensures) (c .before .enum-told2 .given .1))))
+    let after-read-path : tie.After-read-path = search in
+    let after-part2 : tie.After-part2 = search in
+    let else1 : tie.Else1 = search in
+    let after-read-subspace : tie.After-read-subspace = search in
+    let after-part : tie.After-part = search in
+    let start : tie.Start = search in
+    let line = now (start .args .line) in
+    let first = field-says readSubspaceText (λ r. r .ok) (λ r. r .subspace) 1 line (after-part .part .ensures) (after-read-subspace .read-subspace .ensures) true (not-false _ (else1 .if1 .left)) in
+    says-as-no (c .no-area2 .ensures) (says-then (subspace-of line) first (says-none (path-of line _) _ (path-says-no line (after-part2 .part2 .ensures) (after-read-path .read-path .ensures) (c .before .enum-told2 .given .1))))
 
 returns-3 : tie.Need-returns-3
 returns-3 c =
-    let line = now (c .before .before .before .before .before .before .before .before .before .before .before .before .before .before .args .line) in
-    let first = field-says readSubspaceText (λ r. r .ok) (λ r. r .subspace) 1 line (c .before .before .before .before .before .before .before .before .before .before .before .before .part .ensures) (c .before .before .before .before .before .before .before .before .before .before .before .read-subspace .ensures) true (not-false _ (c .before .before .before .before .before .before .before .before .before .if1 .left)) in
-    let second = path-says line (c .before .before .before .before .before .before .before .before .part2 .ensures) (c .before .before .before .before .before .before .before .read-path .ensures) (c .before .before .before .before .before .enum-told .given .1) in
-    says-as-no (c .no-area3 .ensures) (says-then (subspace-of line) first (says-then (path-of line _) second (says-none (start-of line _ _) _ (decimal-says-no 3 line (c .before .before .before .before .part3 .ensures) (c .before .before .before .read-decimal .ensures) (c .before .enum-told3 .given .1)))))
+    let after-read-decimal : tie.After-read-decimal = search in
+    let after-part3 : tie.After-part3 = search in
+    let after-enum-told : tie.After-enum-told = search in
+    let after-read-path : tie.After-read-path = search in
+    let after-part2 : tie.After-part2 = search in
+    let else1 : tie.Else1 = search in
+    let after-read-subspace : tie.After-read-subspace = search in
+    let after-part : tie.After-part = search in
+    let start : tie.Start = search in
+    let line = now (start .args .line) in
+    let first = field-says readSubspaceText (λ r. r .ok) (λ r. r .subspace) 1 line (after-part .part .ensures) (after-read-subspace .read-subspace .ensures) true (not-false _ (else1 .if1 .left)) in
+    let second = path-says line (after-part2 .part2 .ensures) (after-read-path .read-path .ensures) (after-enum-told .enum-told .given .1) in
+    says-as-no (c .no-area3 .ensures) (says-then (subspace-of line) first (says-then (path-of line _) second (says-none (start-of line _ _) _ (decimal-says-no 3 line (after-part3 .part3 .ensures) (after-read-decimal .read-decimal .ensures) (c .before .enum-told3 .given .1)))))
 
 returns-4 : tie.Need-returns-4
 returns-4 c =
-    let line = now (c .before .before .before .before .before .before .before .before .before .before .before .before .before .before .before .before .before .before .before .args .line) in
-    let first = field-says readSubspaceText (λ r. r .ok) (λ r. r .subspace) 1 line (c .before .before .before .before .before .before .before .before .before .before .before .before .before .before .before .before .before .part .ensures) (c .before .before .before .before .before .before .before .before .before .before .before .before .before .before .before .before .read-subspace .ensures) true (not-false _ (c .before .before .before .before .before .before .before .before .before .before .before .before .before .before .if1 .left)) in
-    let second = path-says line (c .before .before .before .before .before .before .before .before .before .before .before .before .before .part2 .ensures) (c .before .before .before .before .before .before .before .before .before .before .before .before .read-path .ensures) (c .before .before .before .before .before .before .before .before .before .before .enum-told .given .1) in
-    let third = decimal-says 3 line (c .before .before .before .before .before .before .before .before .before .part3 .ensures) (c .before .before .before .before .before .before .before .before .read-decimal .ensures) (c .before .before .before .before .before .before .third .given .1) in
-    says-as-no (c .no-area4 .ensures) (says-then (subspace-of line) first (says-then (path-of line _) second (says-then (start-of line _ _) third (says-none (end-of _ _ _) _ (field-says readEndText (λ r. r .ok) (λ r. r .end) 4 line (c .before .before .before .before .part4 .ensures) (c .before .before .before .read-end .ensures) false (not-true _ (c .before .if2 .taken)))))))
+    let after-read-end : tie.After-read-end = search in
+    let after-part4 : tie.After-part4 = search in
+    let after-third : tie.After-third = search in
+    let after-read-decimal : tie.After-read-decimal = search in
+    let after-part3 : tie.After-part3 = search in
+    let after-enum-told : tie.After-enum-told = search in
+    let after-read-path : tie.After-read-path = search in
+    let after-part2 : tie.After-part2 = search in
+    let else1 : tie.Else1 = search in
+    let after-read-subspace : tie.After-read-subspace = search in
+    let after-part : tie.After-part = search in
+    let start : tie.Start = search in
+    let line = now (start .args .line) in
+    let first = field-says readSubspaceText (λ r. r .ok) (λ r. r .subspace) 1 line (after-part .part .ensures) (after-read-subspace .read-subspace .ensures) true (not-false _ (else1 .if1 .left)) in
+    let second = path-says line (after-part2 .part2 .ensures) (after-read-path .read-path .ensures) (after-enum-told .enum-told .given .1) in
+    let third = decimal-says 3 line (after-part3 .part3 .ensures) (after-read-decimal .read-decimal .ensures) (after-third .third .given .1) in
+    says-as-no (c .no-area4 .ensures) (says-then (subspace-of line) first (says-then (path-of line _) second (says-then (start-of line _ _) third (says-none (end-of _ _ _) _ (field-says readEndText (λ r. r .ok) (λ r. r .end) 4 line (after-part4 .part4 .ensures) (after-read-end .read-end .ensures) false (not-true _ (c .before .if2 .taken)))))))
 
 returns-5 : tie.Need-returns-5
 returns-5 c =
-    let line = now (c .before .before .before .before .before .before .before .before .before .before .before .before .before .before .before .before .before .before .before .before .args .line) in
-    let first = field-says readSubspaceText (λ r. r .ok) (λ r. r .subspace) 1 line (c .before .before .before .before .before .before .before .before .before .before .before .before .before .before .before .before .before .before .part .ensures) (c .before .before .before .before .before .before .before .before .before .before .before .before .before .before .before .before .before .read-subspace .ensures) true (not-false _ (c .before .before .before .before .before .before .before .before .before .before .before .before .before .before .before .if1 .left)) in
-    let second = path-says line (c .before .before .before .before .before .before .before .before .before .before .before .before .before .before .part2 .ensures) (c .before .before .before .before .before .before .before .before .before .before .before .before .before .read-path .ensures) (c .before .before .before .before .before .before .before .before .before .before .before .enum-told .given .1) in
-    let third = decimal-says 3 line (c .before .before .before .before .before .before .before .before .before .before .part3 .ensures) (c .before .before .before .before .before .before .before .before .before .read-decimal .ensures) (c .before .before .before .before .before .before .before .third .given .1) in
-    says-then (subspace-of line) first (says-then (path-of line _) second (says-then (start-of line _ _) third (says-then (end-of _ _ _) (field-says readEndText (λ r. r .ok) (λ r. r .end) 4 line (c .before .before .before .before .before .part4 .ensures) (c .before .before .before .before .read-end .ensures) true (not-false _ (c .before .before .if2 .left))) (record { said = λ k. refl }))))
+    let after-read-end : tie.After-read-end = search in
+    let after-part4 : tie.After-part4 = search in
+    let after-third : tie.After-third = search in
+    let after-read-decimal : tie.After-read-decimal = search in
+    let after-part3 : tie.After-part3 = search in
+    let after-enum-told : tie.After-enum-told = search in
+    let after-read-path : tie.After-read-path = search in
+    let after-part2 : tie.After-part2 = search in
+    let else1 : tie.Else1 = search in
+    let after-read-subspace : tie.After-read-subspace = search in
+    let after-part : tie.After-part = search in
+    let start : tie.Start = search in
+    let line = now (start .args .line) in
+    let first = field-says readSubspaceText (λ r. r .ok) (λ r. r .subspace) 1 line (after-part .part .ensures) (after-read-subspace .read-subspace .ensures) true (not-false _ (else1 .if1 .left)) in
+    let second = path-says line (after-part2 .part2 .ensures) (after-read-path .read-path .ensures) (after-enum-told .enum-told .given .1) in
+    let third = decimal-says 3 line (after-part3 .part3 .ensures) (after-read-decimal .read-decimal .ensures) (after-third .third .given .1) in
+    says-then (subspace-of line) first (says-then (path-of line _) second (says-then (start-of line _ _) third (says-then (end-of _ _ _) (field-says readEndText (λ r. r .ok) (λ r. r .end) 4 line (after-part4 .part4 .ensures) (after-read-end .read-end .ensures) true (not-false _ (c .before .before .if2 .left))) (record { said = λ k. refl }))))
 
 pub read-area-spec : {M : Type 1} → statement M
 read-area-spec =

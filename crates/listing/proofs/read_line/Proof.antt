@@ -22,42 +22,72 @@ said canonic r message = readText areaText (readAgainstArea canonic r message)
 
 returns : tie.Need-returns
 returns c =
-    let a = c .before .before .before .before .before .before .before .before .args in
-    puts (fields-not (now (a .line)) (c .before .before .before .before .before .part-count .ensures) 6 _ (c .before .before .before .before .if1 .taken)) (c .before .before .refuse .ensures)
+    let then1 : tie.Then1 = search in
+    let after-part-count : tie.After-part-count = search in
+    let start : tie.Start = search in
+    let a = start .args in
+    puts (fields-not (now (a .line)) (after-part-count .part-count .ensures) 6 _ (then1 .if1 .taken)) (c .before .before .refuse .ensures)
 
 returns-2 : tie.Need-returns-2
 returns-2 c =
-    let a = c .before .before .before .before .before .before .before .before .before .before .before .args in
+    let then2 : tie.Then2 = search in
+    let after-read-area : tie.After-read-area = search in
+    let else1 : tie.Else1 = search in
+    let after-part-count : tie.After-part-count = search in
+    let start : tie.Start = search in
+    let a = start .args in
     let line = now (a .line) in
-    puts (fields-are line (c .before .before .before .before .before .before .before .before .part-count .ensures) 6 _ (c .before .before .before .before .before .before .before .if1 .left) ∙ says-refused (c .before .before .before .before .before .before .read-area .ensures) (not-true _ (c .before .before .before .before .if2 .taken)) (λ r. hexField 5 line (said (a .canonic) r))) (c .before .before .refuse2 .ensures)
+    puts (fields-are line (after-part-count .part-count .ensures) 6 _ (else1 .if1 .left) ∙ says-refused (after-read-area .read-area .ensures) (not-true _ (then2 .if2 .taken)) (λ r. hexField 5 line (said (a .canonic) r))) (c .before .before .refuse2 .ensures)
 
 returns-3 : tie.Need-returns-3
 returns-3 c =
-    let a = c .before .before .before .before .before .before .before .before .before .before .before .before .before .before .before .before .before .args in
+    let after-enum-told : tie.After-enum-told = search in
+    let after-hex : tie.After-hex = search in
+    let else2 : tie.Else2 = search in
+    let after-read-area : tie.After-read-area = search in
+    let else1 : tie.Else1 = search in
+    let after-part-count : tie.After-part-count = search in
+    let start : tie.Start = search in
+    let a = start .args in
     let line = now (a .line) in
-    let r = c .before .before .before .before .before .before .before .before .before .before .before .before .read-area .result .area in
-    let area = says-value (c .before .before .before .before .before .before .before .before .before .before .before .before .read-area .ensures) (not-false _ (c .before .before .before .before .before .before .before .before .before .before .if2 .left)) in
-    puts (fields-are line (c .before .before .before .before .before .before .before .before .before .before .before .before .before .before .part-count .ensures) 6 _ (c .before .before .before .before .before .before .before .before .before .before .before .before .before .if1 .left) ∙ area (λ r. hexField 5 line (said (a .canonic) r)) ∙ hex-refused 5 line (c .before .before .before .before .before .before .before .hex .ensures) (said (a .canonic) r) (c .before .before .before .before .enum-told .given .1)) (c .before .before .refuse3 .ensures)
+    let r = after-read-area .read-area .result .area in
+    let area = says-value (after-read-area .read-area .ensures) (not-false _ (else2 .if2 .left)) in
+    puts (fields-are line (after-part-count .part-count .ensures) 6 _ (else1 .if1 .left) ∙ area (λ r. hexField 5 line (said (a .canonic) r)) ∙ hex-refused 5 line (after-hex .hex .ensures) (said (a .canonic) r) (after-enum-told .enum-told .given .1)) (c .before .before .refuse3 .ensures)
 
 array-share-prefix-bytes : tie.Need-array-share-prefix-bytes
-array-share-prefix-bytes c = hex-inside 5 (now (c .before .before .before .before .before .before .before .before .before .before .before .before .before .before .args .line)) (c .before .before .before .before .hex .ensures) (c .before .hex2 .given .1)
+array-share-prefix-bytes c =
+    let after-hex : tie.After-hex = search in
+    let start : tie.Start = search in
+    hex-inside 5 (now (start .args .line)) (after-hex .hex .ensures) (c .before .hex2 .given .1)
 
 slice-aggregate-relative-decode : tie.Need-slice-aggregate-relative-decode
-slice-aggregate-relative-decode c = sym (hex-long 5 (now (c .before .before .before .before .before .before .before .before .before .before .before .before .before .before .before .args .line)) (c .before .before .before .before .before .hex .ensures) (c .before .before .hex2 .given .1))
+slice-aggregate-relative-decode c =
+    let after-hex : tie.After-hex = search in
+    let start : tie.Start = search in
+    sym (hex-long 5 (now (start .args .line)) (after-hex .hex .ensures) (c .before .before .hex2 .given .1))
 
 returns-4 : tie.Need-returns-4
 returns-4 c =
-    let a = c .before .before .before .before .before .before .before .before .before .before .before .before .before .before .before .before .before .before .before .before .before .before .before .args in
+    let after-print : tie.After-print = search in
+    let after-relative-decode : tie.After-relative-decode = search in
+    let after-hex2 : tie.After-hex2 = search in
+    let after-hex : tie.After-hex = search in
+    let else2 : tie.Else2 = search in
+    let after-read-area : tie.After-read-area = search in
+    let else1 : tie.Else1 = search in
+    let after-part-count : tie.After-part-count = search in
+    let start : tie.Start = search in
+    let a = start .args in
     let line = now (a .line) in
-    let r = c .before .before .before .before .before .before .before .before .before .before .before .before .before .before .before .before .before .before .read-area .result .area in
-    let read = c .before .before .before .before .before .before .before .relative-decode in
-    let area = says-value (c .before .before .before .before .before .before .before .before .before .before .before .before .before .before .before .before .before .before .read-area .ensures) (not-false _ (c .before .before .before .before .before .before .before .before .before .before .before .before .before .before .before .before .if2 .left)) in
+    let r = after-read-area .read-area .result .area in
+    let read = after-relative-decode .relative-decode in
+    let area = says-value (after-read-area .read-area .ensures) (not-false _ (else2 .if2 .left)) in
     puts
-    (fields-are line (c .before .before .before .before .before .before .before .before .before .before .before .before .before .before .before .before .before .before .before .before .part-count .ensures) 6 _ (c .before .before .before .before .before .before .before .before .before .before .before .before .before .before .before .before .before .before .before .if1 .left)
+    (fields-are line (after-part-count .part-count .ensures) 6 _ (else1 .if1 .left)
     ∙ area (λ r. hexField 5 line (said (a .canonic) r))
-    ∙ hex-bytes 5 line (c .before .before .before .before .before .before .before .before .before .before .before .before .before .hex .ensures) (c .before .before .before .before .before .before .before .before .before .before .hex2 .given .1) (said (a .canonic) r)
+    ∙ hex-bytes 5 line (after-hex .hex .ensures) (after-hex2 .hex2 .given .1) (said (a .canonic) r)
     ∙ ap (readText areaText) (sym (read .ensures .answer))
-    ∙ read-printed areaText (read .result .answer) (read .result .area) (puts-first (c .before .before .before .before .before .print .ensures)))
+    ∙ read-printed areaText (read .result .answer) (read .result .area) (puts-first (after-print .print .ensures)))
     (c .before .before .value .ensures)
 
 pub read-line-spec : {M : Type 1} → statement M

@@ -22,8 +22,10 @@ loop-holds c = (omega arith, sym (and-true _))
 
 loop-again : tie.Need-loop-again Inv-loop μ-loop
 loop-again c =
-    let l = c .before .before .before .loop in
-    let a = c .before .before .before .before .args in
+    let at-loop : tie.At-loop Inv-loop μ-loop = search in
+    let start : tie.Start Inv-loop μ-loop = search in
+    let l = at-loop .loop in
+    let a = start .args in
     let e = at-most-next 0 (now (a .s)) (l .i) (omega arith) in (
       omega arith,
       l .inv .1 ∙ ⊎-elim

@@ -42,10 +42,14 @@ short : (c : tie.Else2) → allAtMost 300 (used (path (start2 c))) ≡ true
 short c = sym (c .before .all-at-most .ensures) ∙ not-false _ (c .if2 .left)
 
 lengths-passed : (c : tie.Else2) → wellFormed (path (start2 c)) ≡ (leb (sumOf (used (path (start2 c)))) 600 && zeros (path (start2 c)))
-lengths-passed c = count-passed (c .before .before .before) ∙ rw (short c)
+lengths-passed c =
+    let else1 : tie.Else1 = search in
+    count-passed else1 ∙ rw (short c)
 
 sum-passed : (c : tie.Else3) → wellFormed (path (start3 c)) ≡ zeros (path (start3 c))
-sum-passed c = lengths-passed (c .before .before .before) ∙ rw (← (c .before .sum .ensures), le-leb _ _ (c .if3 .left))
+sum-passed c =
+    let else2 : tie.Else2 = search in
+    lengths-passed else2 ∙ rw (← (c .before .sum .ensures), le-leb _ _ (c .if3 .left))
 
 rest : (c : tie.After-all-at-most2) → allAtMost 0 (drop (path (start4 c) .count) (path (start4 c) .lengths)) ≡ c .all-at-most2 .result
 rest c = sym (c .all-at-most2 .ensures ∙ ap (allAtMost 0) (to-end (path (start4 c) .count) (path (start4 c) .lengths)))
@@ -54,18 +58,25 @@ rest c = sym (c .all-at-most2 .ensures ∙ ap (allAtMost 0) (to-end (path (start
 
 returns : tie.Need-returns
 unfolding wellFormed
-returns c = rw (eq-eqb _ _ (c .before .before .before .pre .0), eq-eqb _ _ (c .before .before .before .pre .1), lt-leb _ _ (c .if1 .taken))
+returns c =
+    let start : tie.Start = search in
+    rw (eq-eqb _ _ (start .pre .0), eq-eqb _ _ (start .pre .1), lt-leb _ _ (c .if1 .taken))
 
 slice-aggregate-all-at-most : tie.Need-slice-aggregate-all-at-most
-slice-aggregate-all-at-most c = sym (length-take-le _ _ (omega (arith, c .before .before .before .before .pre .1)))
+slice-aggregate-all-at-most c =
+    let start : tie.Start = search in
+    sym (length-take-le _ _ (omega (arith, start .pre .1)))
 
 returns-2 : tie.Need-returns-2
 returns-2 c =
-    let some : allAtMost 300 (used (path (start1 (c .before .before .before)))) ≡ false = sym (c .before .all-at-most .ensures) ∙ not-true _ (c .if2 .taken) in
-    sym (count-passed (c .before .before .before) ∙ rw some)
+    let else1 : tie.Else1 = search in
+    let some : allAtMost 300 (used (path (start1 else1))) ≡ false = sym (c .before .all-at-most .ensures) ∙ not-true _ (c .if2 .taken) in
+    sym (count-passed else1 ∙ rw some)
 
 slice-aggregate-sum : tie.Need-slice-aggregate-sum
-slice-aggregate-sum c = sym (length-take-le _ _ (omega (arith, c .before .before .before .before .before .before .before .pre .1)))
+slice-aggregate-sum c =
+    let start : tie.Start = search in
+    sym (length-take-le _ _ (omega (arith, start .pre .1)))
 
 sum-requires : tie.Need-sum-requires
 sum-requires c κs =
@@ -75,10 +86,14 @@ sum-requires c κs =
     omega (arith, bounded-sum 300 (used p) (short (c .before)))
 
 returns-3 : tie.Need-returns-3
-returns-3 c = sym (lengths-passed (c .before .before .before) ∙ rw (← (c .before .sum .ensures), lt-leb _ _ (c .if3 .taken)))
+returns-3 c =
+    let else2 : tie.Else2 = search in
+    sym (lengths-passed else2 ∙ rw (← (c .before .sum .ensures), lt-leb _ _ (c .if3 .taken)))
 
 returns-4 : tie.Need-returns-4
-returns-4 c = sym (sum-passed (c .before .before .before) ∙ rw (rest (c .before), not-true (c .before .all-at-most2 .result) (c .if4 .taken)))
+returns-4 c =
+    let else3 : tie.Else3 = search in
+    sym (sum-passed else3 ∙ rw (rest (c .before), not-true (c .before .all-at-most2 .result) (c .if4 .taken)))
 
 returns-5 : tie.Need-returns-5
 returns-5 c =

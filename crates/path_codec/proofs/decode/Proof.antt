@@ -20,26 +20,33 @@ use Rattle.path_codec.proofs.decode.Tie as tie
 -- the sizes, and where the components begin
 sizes-are : (c : tie.After-known-told) → let a = c .before .before .before .before .before .args in let h = c .before .sizes .given .0 in
     readSizes (a .canonic) (drop (a .start) (now (a .message))) ≡ accepted (sizesFrom (h .0) (h .1 .0)) (h .1 .1 .0)
-sizes-are c = sym (c .before .before .before .decode-sizes .ensures) ∙ ap sizesAnswer (c .before .sizes .given .1)
+sizes-are c =
+    let after-decode-sizes : tie.After-decode-sizes = search in
+    sym (after-decode-sizes .decode-sizes .ensures) ∙ ap sizesAnswer (c .before .sizes .given .1)
 
 begins : (c : tie.After-known-told) → c .before .before .before .before .before .args .start + c .before .sizes .given .0 .1 .1 .0 ≤ length (now (c .before .before .before .before .before .args .message))
 begins c =
-    let a = c .before .before .before .before .before .args in
+    let start : tie.Start = search in
+    let a = start .args in
     sizes-inside (a .canonic) (now (a .message)) (a .start) _ _ (sizes-are c)
 
 -- the components, read after none
 components-are : (c : tie.After-decode-after) → let a = c .before .before .before .before .before .before .before .before .before .args in let h = c .before .before .before .before .before .sizes .given .0 in
     GivesPath (c .decode-after .result) (readAfter (a .canonic) [] [] (h .0) (h .1 .0) (drop (a .start + h .1 .1 .0) (now (a .message))))
 components-are c =
-    let a = c .before .before .before .before .before .before .before .before .before .args in
-    let at = a .start + c .before .before .before .before .before .sizes .given .0 .1 .1 .0 in
+    let after-sizes : tie.After-sizes = search in
+    let start : tie.Start = search in
+    let a = start .args in
+    let at = a .start + after-sizes .sizes .given .0 .1 .1 .0 in
     rw (to-end at (now (a .message))) at (c .decode-after .ensures)
 
 returns : tie.Need-returns
 returns c =
-    let a = c .before .before .before .before .before .args in
-    let x = no-sizes (c .before .before .before .decode-sizes .result) (c .before .before .match .keys2) in
-    rw (c .refuse .ensures, c .before .sizes-refusal .ensures) (gives-refused (x .why) (x .path) (path-refused (a .canonic) (now (a .message)) (a .start) (x .why) (sym (c .before .before .before .decode-sizes .ensures) ∙ x .sizes)))
+    let after-decode-sizes : tie.After-decode-sizes = search in
+    let start : tie.Start = search in
+    let a = start .args in
+    let x = no-sizes (after-decode-sizes .decode-sizes .result) (c .before .before .match .keys2) in
+    rw (c .refuse .ensures, c .before .sizes-refusal .ensures) (gives-refused (x .why) (x .path) (path-refused (a .canonic) (now (a .message)) (a .start) (x .why) (sym (after-decode-sizes .decode-sizes .ensures) ∙ x .sizes)))
 
 add-at : tie.Need-add-at
 add-at c = omega (arith, begins c)
@@ -52,21 +59,30 @@ part-decode-after-start c = omega (arith, begins c)
 
 returns-2 : tie.Need-returns-2
 returns-2 c =
-    let a = c .before .before .before .before .before .before .before .before .before .before .args in
-    rw (path-after (a .canonic) (now (a .message)) (a .start) _ _ _ (sizes-are (c .before .before .before .before .before))) (later-refused _ _ (c .match2 .keys2) (components-are (c .before)))
+    let after-known-told : tie.After-known-told = search in
+    let start : tie.Start = search in
+    let a = start .args in
+    rw (path-after (a .canonic) (now (a .message)) (a .start) _ _ _ (sizes-are after-known-told)) (later-refused _ _ (c .match2 .keys2) (components-are (c .before)))
 
 add-t16 : tie.Need-add-t16
 add-t16 c =
-    let a = c .before .before .before .before .before .before .before .before .before .before .before .before .before .args in
-    let n = c .before .before .before .before .before .before .before .before .before .sizes .given .0 .1 .1 .0 in
-    let g = components-are (c .before .before .before .before) in
-    let e = sym (g .answer) ∙ ap (λ (d : Decoded). answerOf d (c .before .before .before .before .decode-after .result .path)) (c .before .before .answer .given .1) in
-    omega (arith, begins (c .before .before .before .before .before .before .before .before), after-bounded (a .canonic) [] [] _ _ .bound (drop (a .start + n) (now (a .message))) _ _ e, length-drop (a .start + n) (now (a .message)))
+    let after-decode-after : tie.After-decode-after = search in
+    let after-known-told : tie.After-known-told = search in
+    let after-sizes : tie.After-sizes = search in
+    let start : tie.Start = search in
+    let a = start .args in
+    let n = after-sizes .sizes .given .0 .1 .1 .0 in
+    let g = components-are after-decode-after in
+    let e = sym (g .answer) ∙ ap (λ (d : Decoded). answerOf d (after-decode-after .decode-after .result .path)) (c .before .before .answer .given .1) in
+    omega (arith, begins after-known-told, after-bounded (a .canonic) [] [] _ _ .bound (drop (a .start + n) (now (a .message))) _ _ e, length-drop (a .start + n) (now (a .message)))
 
 returns-3 : tie.Need-returns-3
 returns-3 c =
-    let a = c .before .before .before .before .before .before .before .before .before .before .before .before .before .args in
-    rw (path-after (a .canonic) (now (a .message)) (a .start) _ _ _ (sizes-are (c .before .before .before .before .before .before .before .before))) (later-accepted _ _ _ (c .before .before .answer .given .1) (components-are (c .before .before .before .before)))
+    let after-decode-after : tie.After-decode-after = search in
+    let after-known-told : tie.After-known-told = search in
+    let start : tie.Start = search in
+    let a = start .args in
+    rw (path-after (a .canonic) (now (a .message)) (a .start) _ _ _ (sizes-are after-known-told)) (later-accepted _ _ _ (c .before .before .answer .given .1) (components-are after-decode-after))
 
 pub decode-spec : {M : Type 1} → statement M
 decode-spec =

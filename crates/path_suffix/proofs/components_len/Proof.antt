@@ -22,10 +22,14 @@ small c = omega (arith, lengths-short (now (c .args .lengths)), c .pre .few, c .
 -- one component of more, and the last
 turn : (c : tie.In-loop Inv-loop μ-loop) → let ls = now (c .before .before .before .before .args .lengths) in let i = c .before .loop .i in
     componentsLength (drop i ls) ≡ length (standaloneBytes (getD ls i 0)) + getD ls i 0 + componentsLength (drop (i + 1) ls)
-turn c = length-turn (now (c .before .before .before .before .args .lengths)) (c .before .loop .i) (omega arith) (c .loop-test .taken)
+turn c =
+    let start : tie.Start Inv-loop μ-loop = search in
+    length-turn (now (start .args .lengths)) (c .before .loop .i) (omega arith) (c .loop-test .taken)
 
 last : (c : tie.After-loop Inv-loop μ-loop) → componentsLength (drop (c .before .loop .i) (now (c .before .before .before .before .args .lengths))) ≡ getD (now (c .before .before .before .before .args .lengths)) (c .before .loop .i) 0
-last c = length-last (now (c .before .before .before .before .args .lengths)) (c .before .loop .i) (omega arith) (c .loop-test .left)
+last c =
+    let start : tie.Start Inv-loop μ-loop = search in
+    length-last (now (start .args .lengths)) (c .before .loop .i) (omega arith) (c .loop-test .left)
 
 returns : tie.Need-returns Inv-loop μ-loop
 returns c = sym (length-none _ (c .if1 .taken))
@@ -34,28 +38,42 @@ loop-holds : tie.Need-loop-holds Inv-loop μ-loop
 loop-holds c = (omega arith, omega arith)
 
 add-loop : tie.Need-add-loop Inv-loop μ-loop
-add-loop c = omega (arith, c .before .before .before .pre .few)
+add-loop c =
+    let start : tie.Start Inv-loop μ-loop = search in
+    omega (arith, start .pre .few)
 
 mul-len : tie.Need-mul-len Inv-loop μ-loop
-mul-len c = omega (arith, c .before .before .before .before .pre .few)
+mul-len c =
+    let start : tie.Start Inv-loop μ-loop = search in
+    omega (arith, start .pre .few)
 
 add-t : tie.Need-add-t Inv-loop μ-loop
-add-t c = omega (arith, turn (c .before .before), small (c .before .before .before .before .before .before), c .len-of-encoding .ensures .0)
+add-t c =
+    let start : tie.Start Inv-loop μ-loop = search in
+    omega (arith, turn (c .before .before), small start, c .len-of-encoding .ensures .0)
 
 add-t-2 : tie.Need-add-t-2 Inv-loop μ-loop
-add-t-2 c = omega (arith, turn (c .before .before), small (c .before .before .before .before .before .before), c .len-of-encoding .ensures .0)
+add-t-2 c =
+    let start : tie.Start Inv-loop μ-loop = search in
+    omega (arith, turn (c .before .before), small start, c .len-of-encoding .ensures .0)
 
 add-i : tie.Need-add-i Inv-loop μ-loop
-add-i c = omega (arith, c .before .before .before .before .before .before .pre .few)
+add-i c =
+    let start : tie.Start Inv-loop μ-loop = search in
+    omega (arith, start .pre .few)
 
 loop-again : tie.Need-loop-again Inv-loop μ-loop
 loop-again c = (omega arith, omega (arith, turn (c .before .before), c .len-of-encoding .ensures .0))
 
 mul-result : tie.Need-mul-result Inv-loop μ-loop
-mul-result c = omega (arith, c .before .before .before .before .pre .few)
+mul-result c =
+    let start : tie.Start Inv-loop μ-loop = search in
+    omega (arith, start .pre .few)
 
 add-result : tie.Need-add-result Inv-loop μ-loop
-add-result c = omega (arith, last (c .before), small (c .before .before .before .before .before))
+add-result c =
+    let start : tie.Start Inv-loop μ-loop = search in
+    omega (arith, last (c .before), small start)
 
 returns-2 : tie.Need-returns-2 Inv-loop μ-loop
 returns-2 c = omega (arith, last (c .before))

@@ -11,14 +11,17 @@ use Rattle.path_suffix.proofs.len_of.Statement.{statement}
 use Rattle.path_suffix.proofs.len_of.Tie as tie
 
 add-result-3 : tie.Need-add-result-3
-add-result-3 c = let s = c .before .before .before .before .before in omega (arith, lengths-short (now (s .args .lengths)), s .pre .few, s .pre .total, c .components-len .ensures)
+add-result-3 c =
+    let s : tie.Start = search in
+    omega (arith, lengths-short (now (s .args .lengths)), s .pre .few, s .pre .total, c .components-len .ensures)
 
 returns : tie.Need-returns
 unfolding suffixLength
 returns c =
-    let s = c .before .before .before .before .before in
+    let after-total-of : tie.After-total-of = search in
+    let s : tie.Start = search in
     let ls = now (s .args .lengths) in
-    let total = rw (c .before .before .before .total-of .ensures) at (c .before .before .relative-len-of-encoding .ensures .0) in
+    let total = rw (after-total-of .total-of .ensures) at (c .before .before .relative-len-of-encoding .ensures .0) in
     let count = c .before .relative-len-of-encoding2 .ensures .0 in
     (omega (arith, sizes-long (sizesFrom (sumOf ls) (length ls)), total, count, c .components-len .ensures), omega (arith, lengths-short ls, s .pre .few, s .pre .total, c .components-len .ensures))
 

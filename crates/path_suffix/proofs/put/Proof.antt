@@ -7,7 +7,9 @@ use Rattle.path_suffix.proofs.put.Statement.{statement}
 use Rattle.path_suffix.proofs.put.Tie as tie
 
 returns : tie.Need-returns
-returns c = (refl, c .before .before .put-bytes .ensures .1 ∙ put-over (now (c .before .before .before .before .before .before .args .s)) (now (c .before .before .before .before .before .before .args .buffer)) (omega arith))
+returns c =
+    let start : tie.Start = search in
+    (refl, c .before .before .put-bytes .ensures .1 ∙ put-over (now (start .args .s)) (now (start .args .buffer)) (omega arith))
 
 pub put-spec : {M : Type 1} → statement M
 put-spec = tie.close (tie.spec (λ c κs. search needs) (λ c. search needs) returns)

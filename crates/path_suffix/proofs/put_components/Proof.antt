@@ -27,10 +27,14 @@ abbrev μ-loop : tie.MeasureT-loop
 
 -- what is left fits, and the next component stands in the bytes
 fits : (c : tie.At-loop Inv-loop μ-loop) → c .loop .at + length (bytesFrom (now (c .before .before .before .before .before .args .lengths)) (now (c .before .before .before .before .before .args .bytes)) (c .loop .i) (c .loop .from)) ≤ length (c .loop .buffer)
-fits c = omega (arith, c .loop .inv .2, c .loop .inv .3, c .before .before .before .before .before .pre .1)
+fits c =
+    let start : tie.Start Inv-loop μ-loop = search in
+    omega (arith, c .loop .inv .2, c .loop .inv .3, start .pre .1)
 
 ends : (c : tie.At-loop Inv-loop μ-loop) → c .loop .from + getD (now (c .before .before .before .before .before .args .lengths)) (c .loop .i) 0 ≤ length (now (c .before .before .before .before .before .args .bytes))
-ends c = omega (arith, sum-next (now (c .before .before .before .before .before .args .lengths)) (c .loop .i) (omega arith), c .loop .inv .1, c .before .before .before .before .before .pre .0 .there)
+ends c =
+    let start : tie.Start Inv-loop μ-loop = search in
+    omega (arith, sum-next (now (start .args .lengths)) (c .loop .i) (omega arith), c .loop .inv .1, start .pre .0 .there)
 
 part : (c : tie.At-loop Inv-loop μ-loop) → let n = getD (now (c .before .before .before .before .before .args .lengths)) (c .loop .i) 0 in c .loop .from + n - c .loop .from ≡ n
 part c = omega arith
@@ -38,26 +42,38 @@ part c = omega arith
 -- one component of more, and the last
 room : (c : tie.In-loop Inv-loop μ-loop) → let ls = now (c .before .before .before .before .before .before .args .lengths) in let bs = now (c .before .before .before .before .before .before .args .bytes) in let l = c .before .loop in
     length (bytesFrom ls bs (l .i) (l .from)) ≡ length (sizedBytes (take (getD ls (l .i) 0) (drop (l .from) bs))) + length (bytesFrom ls bs (l .i + 1) (l .from + getD ls (l .i) 0))
-room c = room-turn (now (c .before .before .before .before .before .before .args .lengths)) (now (c .before .before .before .before .before .before .args .bytes)) (c .before .loop .i) (c .before .loop .from) (omega arith) (c .loop-test .taken)
+room c =
+    let start : tie.Start Inv-loop μ-loop = search in
+    room-turn (now (start .args .lengths)) (now (start .args .bytes)) (c .before .loop .i) (c .before .loop .from) (omega arith) (c .loop-test .taken)
 
 last : (c : tie.After-loop Inv-loop μ-loop) → let ls = now (c .before .before .before .before .before .before .args .lengths) in let bs = now (c .before .before .before .before .before .before .args .bytes) in let l = c .before .loop in
     bytesFrom ls bs (l .i) (l .from) ≡ take (getD ls (l .i) 0) (drop (l .from) bs)
-last c = bytes-last (now (c .before .before .before .before .before .before .args .lengths)) (now (c .before .before .before .before .before .before .args .bytes)) (c .before .loop .i) (c .before .loop .from) (omega arith) (c .loop-test .left)
+last c =
+    let start : tie.Start Inv-loop μ-loop = search in
+    bytes-last (now (start .args .lengths)) (now (start .args .bytes)) (c .before .loop .i) (c .before .loop .from) (omega arith) (c .loop-test .left)
 
 returns : tie.Need-returns Inv-loop μ-loop
-returns c = let e = bytes-none (now (c .before .before .before .before .args .lengths)) (now (c .before .before .before .before .args .bytes)) (c .if1 .taken) in (ap length (sym e), rw e)
+returns c =
+    let start : tie.Start Inv-loop μ-loop = search in
+    let e = bytes-none (now (start .args .lengths)) (now (start .args .bytes)) (c .if1 .taken) in (ap length (sym e), rw e)
 
 loop-holds : tie.Need-loop-holds Inv-loop μ-loop
 loop-holds c = (omega arith, omega arith, refl, omega arith, refl)
 
 add-loop : tie.Need-add-loop Inv-loop μ-loop
-add-loop c = omega (arith, c .before .before .before .before .before .pre .0 .lengths .few)
+add-loop c =
+    let start : tie.Start Inv-loop μ-loop = search in
+    omega (arith, start .pre .0 .lengths .few)
 
 mul-to : tie.Need-mul-to Inv-loop μ-loop
-mul-to c = omega (arith, c .before .before .before .before .before .before .pre .0 .lengths .few)
+mul-to c =
+    let start : tie.Start Inv-loop μ-loop = search in
+    omega (arith, start .pre .0 .lengths .few)
 
 add-to : tie.Need-add-to Inv-loop μ-loop
-add-to c = omega (arith, ends (c .before .before), c .before .before .before .before .before .before .before .pre .0 .lengths .total)
+add-to c =
+    let start : tie.Start Inv-loop μ-loop = search in
+    omega (arith, ends (c .before .before), start .pre .0 .lengths .total)
 
 sub-put-sized : tie.Need-sub-put-sized Inv-loop μ-loop
 sub-put-sized c = omega (arith, fits (c .before .before))
@@ -66,36 +82,50 @@ part-put-sized-start : tie.Need-part-put-sized-start Inv-loop μ-loop
 part-put-sized-start c = omega (arith, fits (c .before .before))
 
 part-put-sized-end-2 : tie.Need-part-put-sized-end-2 Inv-loop μ-loop
-part-put-sized-end-2 c = omega (arith, ends (c .before .before .before))
+part-put-sized-end-2 c =
+    let at-loop : tie.At-loop Inv-loop μ-loop = search in
+    omega (arith, ends at-loop)
 
 put-sized-requires : tie.Need-put-sized-requires Inv-loop μ-loop
 put-sized-requires c κs =
-    let l = c .before .before .before .before .loop in
-    rw (part (c .before .before .before .before), to-end (l .at) (l .buffer), length-drop) (omega (arith, fits (c .before .before .before .before), room (c .before .before .before)))
+    let in-loop : tie.In-loop Inv-loop μ-loop = search in
+    let at-loop : tie.At-loop Inv-loop μ-loop = search in
+    let l = at-loop .loop in
+    rw (part at-loop, to-end (l .at) (l .buffer), length-drop) (omega (arith, fits at-loop, room in-loop))
 
 add-at : tie.Need-add-at Inv-loop μ-loop
-add-at c = omega (arith, rw (part (c .before .before .before .before .before .before .before)) at (c .before .before .put-sized .ensures .0), fits (c .before .before .before .before .before .before .before), room (c .before .before .before .before .before .before))
+add-at c =
+    let in-loop : tie.In-loop Inv-loop μ-loop = search in
+    let at-loop : tie.At-loop Inv-loop μ-loop = search in
+    omega (arith, rw (part at-loop) at (c .before .before .put-sized .ensures .0), fits at-loop, room in-loop)
 
 loop-again : tie.Need-loop-again Inv-loop μ-loop
 loop-again c =
-    let l = c .before .before .before .before .before .before .before .loop in
-    let a = c .before .before .before .before .before .before .before .before .before .before .before .before .args in
+    let in-loop : tie.In-loop Inv-loop μ-loop = search in
+    let at-loop : tie.At-loop Inv-loop μ-loop = search in
+    let start : tie.Start Inv-loop μ-loop = search in
+    let l = at-loop .loop in
+    let a = start .args in
     let w = c .before .before .put-sized in
-    let n = rw (part (c .before .before .before .before .before .before .before)) at (w .ensures .0) in
-    let bytes = rw (part (c .before .before .before .before .before .before .before), to-end (l .at) (l .buffer)) at (w .ensures .1) in
-    let inside : l .at ≤ length (l .buffer) = omega (arith, fits (c .before .before .before .before .before .before .before)) in (
+    let n = rw (part at-loop) at (w .ensures .0) in
+    let bytes = rw (part at-loop, to-end (l .at) (l .buffer)) at (w .ensures .1) in
+    let inside : l .at ≤ length (l .buffer) = omega (arith, fits at-loop) in (
       omega arith,
       omega (arith, sum-next (now (a .lengths)) (l .i) (omega arith), l .inv .1),
       put-end-long (l .at) (l .buffer) (w .last .0) inside (w .kept .0) ∙ l .inv .2,
-      omega (arith, n, room (c .before .before .before .before .before .before), l .inv .3),
-      l .inv .4 ∙ rw (put-end (l .at) (l .buffer) (w .last .0), bytes, n) (write-turn (now (a .lengths)) (now (a .bytes)) (l .i) (l .from) (omega arith) (l .buffer) (l .at) inside (c .before .before .before .before .before .before .loop-test .taken)),
+      omega (arith, n, room in-loop, l .inv .3),
+      l .inv .4 ∙ rw (put-end (l .at) (l .buffer) (w .last .0), bytes, n) (write-turn (now (a .lengths)) (now (a .bytes)) (l .i) (l .from) (omega arith) (l .buffer) (l .at) inside (in-loop .loop-test .taken)),
     )
 
 mul-to-2 : tie.Need-mul-to-2 Inv-loop μ-loop
-mul-to-2 c = omega (arith, c .before .before .before .before .before .before .pre .0 .lengths .few)
+mul-to-2 c =
+    let start : tie.Start Inv-loop μ-loop = search in
+    omega (arith, start .pre .0 .lengths .few)
 
 add-to-2 : tie.Need-add-to-2 Inv-loop μ-loop
-add-to-2 c = omega (arith, ends (c .before .before), c .before .before .before .before .before .before .before .pre .0 .lengths .total)
+add-to-2 c =
+    let start : tie.Start Inv-loop μ-loop = search in
+    omega (arith, ends (c .before .before), start .pre .0 .lengths .total)
 
 sub-put : tie.Need-sub-put Inv-loop μ-loop
 sub-put c = omega (arith, fits (c .before .before))
@@ -104,24 +134,33 @@ part-put-start : tie.Need-part-put-start Inv-loop μ-loop
 part-put-start c = omega (arith, fits (c .before .before))
 
 part-put-end-2 : tie.Need-part-put-end-2 Inv-loop μ-loop
-part-put-end-2 c = omega (arith, ends (c .before .before .before))
+part-put-end-2 c =
+    let at-loop : tie.At-loop Inv-loop μ-loop = search in
+    omega (arith, ends at-loop)
 
 put-requires : tie.Need-put-requires Inv-loop μ-loop
 put-requires c κs =
-    let l = c .before .before .before .before .loop in
-    rw (part (c .before .before .before .before), to-end (l .at) (l .buffer), length-drop) (omega (arith, fits (c .before .before .before .before), ap length (last (c .before .before .before))))
+    let after-loop : tie.After-loop Inv-loop μ-loop = search in
+    let at-loop : tie.At-loop Inv-loop μ-loop = search in
+    let l = at-loop .loop in
+    rw (part at-loop, to-end (l .at) (l .buffer), length-drop) (omega (arith, fits at-loop, ap length (last after-loop)))
 
 add-result : tie.Need-add-result Inv-loop μ-loop
-add-result c = omega (arith, rw (part (c .before .before .before .before .before .before .before)) at (c .before .before .put .ensures .0), fits (c .before .before .before .before .before .before .before), ap length (last (c .before .before .before .before .before .before)))
+add-result c =
+    let after-loop : tie.After-loop Inv-loop μ-loop = search in
+    let at-loop : tie.At-loop Inv-loop μ-loop = search in
+    omega (arith, rw (part at-loop) at (c .before .before .put .ensures .0), fits at-loop, ap length (last after-loop))
 
 returns-2 : tie.Need-returns-2 Inv-loop μ-loop
 returns-2 c =
-    let l = c .before .before .before .before .before .before .before .loop in
+    let after-loop : tie.After-loop Inv-loop μ-loop = search in
+    let at-loop : tie.At-loop Inv-loop μ-loop = search in
+    let l = at-loop .loop in
     let w = c .before .before .put in
-    let n = rw (part (c .before .before .before .before .before .before .before)) at (w .ensures .0) in
-    let bytes = rw (part (c .before .before .before .before .before .before .before), to-end (l .at) (l .buffer)) at (w .ensures .1) in (
-      omega (arith, n, ap length (last (c .before .before .before .before .before .before)), l .inv .3),
-      put-end (l .at) (l .buffer) (w .last .0) ∙ rw bytes (sym (l .inv .4 ∙ rw (last (c .before .before .before .before .before .before)))),
+    let n = rw (part at-loop) at (w .ensures .0) in
+    let bytes = rw (part at-loop, to-end (l .at) (l .buffer)) at (w .ensures .1) in (
+      omega (arith, n, ap length (last after-loop), l .inv .3),
+      put-end (l .at) (l .buffer) (w .last .0) ∙ rw bytes (sym (l .inv .4 ∙ rw (last after-loop))),
     )
 
 pub put-components-spec : {M : Type 1} → statement M

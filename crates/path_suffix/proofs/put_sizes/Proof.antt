@@ -28,7 +28,10 @@ abbrev first : tie.After-slice-known2 → List ℕ
 first c = putMid 1 (length (headed (c .before .before .before .before)) - 1) (headed (c .before .before .before .before)) (c .before .before .relative-encode .last .0)
 
 first-long : (c : tie.After-slice-known2) → length (first c) ≡ length (now (c .before .before .before .before .before .before .before .before .before .before .args .buffer))
-first-long c = put-end-long 1 (headed (c .before .before .before .before)) (c .before .before .relative-encode .last .0) (simp length-set (omega (arith, room (c .before .before .before .before .before .before .before .before .before .before)))) (c .before .before .relative-encode .kept .0) ∙ simp length-set
+first-long c =
+    let after-pack-tags : tie.After-pack-tags = search in
+    let start : tie.Start = search in
+    put-end-long 1 (headed after-pack-tags) (c .before .before .relative-encode .last .0) (simp length-set (omega (arith, room start))) (c .before .before .relative-encode .kept .0) ∙ simp length-set
 
 first-is : (c : tie.After-slice-known2)
     → first c ≡ over (packTags (tagsOf (sizesFrom (c .before .before .before .before .before .before .before .before .before .before .args .total) (c .before .before .before .before .before .before .before .before .before .before .args .count))) ∷ numberBytes 4 (c .before .before .before .before .before .before .before .before .before .before .args .total)) (now (c .before .before .before .before .before .before .before .before .before .before .args .buffer))
@@ -40,39 +43,60 @@ first-is c =
     put-end 1 (headed (c .before .before .before .before)) (w .last .0) ∙ rw (number, ← tags) (cons-put (now (a .buffer)) (numberBytes 4 (a .total)) (c .before .before .before .before .pack-tags .result) (omega (arith, room (c .before .before .before .before .before .before .before .before .before .before))))
 
 pack-tags-requires : tie.Need-pack-tags-requires
-pack-tags-requires c κs = record { total = omega (arith, c .before .min-tag .ensures, min-tag-fits 4 (c .before .before .before .before .before .args .total) (omega arith)); count = omega (arith, c .min-tag2 .ensures, min-tag-fits 4 (c .before .before .before .before .before .args .count) (omega arith)) }
+pack-tags-requires c κs =
+    let start : tie.Start = search in
+    record { total = omega (arith, c .before .min-tag .ensures, min-tag-fits 4 (start .args .total) (omega arith)); count = omega (arith, c .min-tag2 .ensures, min-tag-fits 4 (start .args .count) (omega arith)) }
 
 slice-write-buffer : tie.Need-slice-write-buffer
-slice-write-buffer c = omega (arith, room (c .before .before .before .before .before .before))
+slice-write-buffer c =
+    let start : tie.Start = search in
+    omega (arith, room start)
 
 sub-relative-encode : tie.Need-sub-relative-encode
-sub-relative-encode c = simp length-set (omega (arith, room (c .before .before .before .before .before .before)))
+sub-relative-encode c =
+    let start : tie.Start = search in
+    simp length-set (omega (arith, room start))
 
 part-relative-encode-start : tie.Need-part-relative-encode-start
-part-relative-encode-start c = simp length-set (omega (arith, room (c .before .before .before .before .before .before)))
+part-relative-encode-start c =
+    let start : tie.Start = search in
+    simp length-set (omega (arith, room start))
 
 sub-relative-encode-2 : tie.Need-sub-relative-encode-2
-sub-relative-encode-2 c = omega (arith, first-long c, room (c .before .before .before .before .before .before .before .before .before .before), c .before .before .before .before .before .before .before .before .relative-len-of-encoding .ensures .0)
+sub-relative-encode-2 c =
+    let after-relative-len-of-encoding : tie.After-relative-len-of-encoding = search in
+    let start : tie.Start = search in
+    omega (arith, first-long c, room start, after-relative-len-of-encoding .relative-len-of-encoding .ensures .0)
 
 part-relative-encode-start-2 : tie.Need-part-relative-encode-start-2
-part-relative-encode-start-2 c = omega (arith, first-long c, room (c .before .before .before .before .before .before .before .before .before .before), c .before .before .before .before .before .before .before .before .relative-len-of-encoding .ensures .0)
+part-relative-encode-start-2 c =
+    let after-relative-len-of-encoding : tie.After-relative-len-of-encoding = search in
+    let start : tie.Start = search in
+    omega (arith, first-long c, room start, after-relative-len-of-encoding .relative-len-of-encoding .ensures .0)
 
 same-length : tie.Need-same-length
 same-length c =
-    let n = c .before .before .before .before .before .before .before .before .before .before .before .before .relative-len-of-encoding in
-    let inside : 1 + n .result ≤ length (first (c .before .before .before .before)) = omega (arith, first-long (c .before .before .before .before), room (c .before .before .before .before .before .before .before .before .before .before .before .before .before .before), n .ensures .0) in
-    put-end-long (1 + n .result) (first (c .before .before .before .before)) (c .before .before .relative-encode2 .last .0) inside (c .before .before .relative-encode2 .kept .0) ∙ first-long (c .before .before .before .before)
+    let after-slice-known2 : tie.After-slice-known2 = search in
+    let after-relative-len-of-encoding : tie.After-relative-len-of-encoding = search in
+    let start : tie.Start = search in
+    let n = after-relative-len-of-encoding .relative-len-of-encoding in
+    let inside : 1 + n .result ≤ length (first after-slice-known2) = omega (arith, first-long after-slice-known2, room start, n .ensures .0) in
+    put-end-long (1 + n .result) (first after-slice-known2) (c .before .before .relative-encode2 .last .0) inside (c .before .before .relative-encode2 .kept .0) ∙ first-long after-slice-known2
 
 returns : tie.Need-returns
 returns c =
-    let a = c .before .before .before .before .before .before .before .before .before .before .before .before .before .before .args in
-    let n = c .before .before .before .before .before .before .before .before .before .before .before .before .relative-len-of-encoding in
-    let m = c .before .before .before .before .before .before .before .before .before .before .before .relative-len-of-encoding2 in
+    let after-slice-known2 : tie.After-slice-known2 = search in
+    let after-relative-len-of-encoding2 : tie.After-relative-len-of-encoding2 = search in
+    let after-relative-len-of-encoding : tie.After-relative-len-of-encoding = search in
+    let start : tie.Start = search in
+    let a = start .args in
+    let n = after-relative-len-of-encoding .relative-len-of-encoding in
+    let m = after-relative-len-of-encoding2 .relative-len-of-encoding2 in
     let at = 1 + n .result in
     let w = c .before .before .relative-encode2 in
-    let second = rw (to-end at (first (c .before .before .before .before))) at (w .ensures .1) in (
+    let second = rw (to-end at (first after-slice-known2)) at (w .ensures .1) in (
       omega (arith, sizes-long (sizesFrom (a .total) (a .count)), n .ensures .0, m .ensures .0),
-      put-end at (first (c .before .before .before .before)) (w .last .0) ∙ rw (second, first-is (c .before .before .before .before)) (sizes-put (now (a .buffer)) (a .total) (a .count) at (omega (arith, n .ensures .0)) (c .before .before .before .before .before .before .before .before .before .before .before .before .before .before .pre)),
+      put-end at (first after-slice-known2) (w .last .0) ∙ rw (second, first-is after-slice-known2) (sizes-put (now (a .buffer)) (a .total) (a .count) at (omega (arith, n .ensures .0)) (start .pre)),
     )
 
 pub put-sizes-spec : {M : Type 1} → statement M

@@ -19,7 +19,9 @@ suffix c = cutUp (now (c .args .lengths)) (now (c .args .bytes))
 
 -- the sizes are those of the components
 sizes : (c : tie.After-total-of) → sizesFrom (c .total-of .result) (length (now (c .before .before .before .before .args .lengths))) ≡ sizesOf (suffix (c .before .before .before .before))
-sizes c = rw (c .total-of .ensures) (sizes-cut (now (c .before .before .before .before .args .lengths)) (now (c .before .before .before .before .args .bytes)) (c .before .before .before .before .pre .0 .there))
+sizes c =
+    let start : tie.Start = search in
+    rw (c .total-of .ensures) (sizes-cut (now (start .args .lengths)) (now (start .args .bytes)) (start .pre .0 .there))
 
 first : (c : tie.After-put-sizes) → c .put-sizes .result ≡ length (sizesBytes (sizesOf (suffix (c .before .before .before .before .before .before))))
 first c = c .put-sizes .ensures .0 ∙ ap (λ (h : Sizes). length (sizesBytes h)) (sizes (c .before .before))
@@ -29,32 +31,46 @@ parts : (c : tie.Start) → length (sizesBytes (sizesOf (suffix c))) + length (c
 parts c = omega (arith, suffix-parts (suffix c), c .pre .1)
 
 put-sizes-requires : tie.Need-put-sizes-requires
-put-sizes-requires c κs = omega (arith, ap (λ (h : Sizes). length (sizesBytes h)) (sizes (c .before)), parts (c .before .before .before .before .before))
+put-sizes-requires c κs =
+    let start : tie.Start = search in
+    omega (arith, ap (λ (h : Sizes). length (sizesBytes h)) (sizes (c .before)), parts start)
 
 sub-put-components : tie.Need-sub-put-components
-sub-put-components c = omega (arith, c .before .before .put-sizes .kept .0, first (c .before .before), parts (c .before .before .before .before .before .before .before .before))
+sub-put-components c =
+    let start : tie.Start = search in
+    omega (arith, c .before .before .put-sizes .kept .0, first (c .before .before), parts start)
 
 part-put-components-start : tie.Need-part-put-components-start
-part-put-components-start c = omega (arith, c .before .before .put-sizes .kept .0, first (c .before .before), parts (c .before .before .before .before .before .before .before .before))
+part-put-components-start c =
+    let start : tie.Start = search in
+    omega (arith, c .before .before .put-sizes .kept .0, first (c .before .before), parts start)
 
 put-components-requires : tie.Need-put-components-requires
 put-components-requires c κs =
-    let h = c .before .before .before .put-sizes in
-    (c .before .before .before .before .before .before .before .before .before .pre .0, rw (to-end (h .result) (h .last .0), length-drop) (omega (arith, h .kept .0, first (c .before .before .before), parts (c .before .before .before .before .before .before .before .before .before))))
+    let after-put-sizes : tie.After-put-sizes = search in
+    let start : tie.Start = search in
+    let h = after-put-sizes .put-sizes in
+    (start .pre .0, rw (to-end (h .result) (h .last .0), length-drop) (omega (arith, h .kept .0, first after-put-sizes, parts start)))
 
 add-result : tie.Need-add-result
-add-result c = omega (arith, c .before .before .put-components .ensures .0, first (c .before .before .before .before .before .before), parts (c .before .before .before .before .before .before .before .before .before .before .before .before))
+add-result c =
+    let after-put-sizes : tie.After-put-sizes = search in
+    let start : tie.Start = search in
+    omega (arith, c .before .before .put-components .ensures .0, first after-put-sizes, parts start)
 
 returns : tie.Need-returns
 returns c =
-    let l = now (c .before .before .before .before .before .before .before .before .before .before .before .before .args .buffer) in
-    let cs = suffix (c .before .before .before .before .before .before .before .before .before .before .before .before) in
-    let h = c .before .before .before .before .before .before .put-sizes in
+    let after-put-sizes : tie.After-put-sizes = search in
+    let after-total-of : tie.After-total-of = search in
+    let start-place : tie.Start = search in
+    let l = now (start-place .args .buffer) in
+    let cs = suffix start-place in
+    let h = after-put-sizes .put-sizes in
     let w = c .before .before .put-components in
     let rest = rw (to-end (h .result) (h .last .0)) at (w .ensures .1) in
-    let start = h .ensures .1 ∙ ap (λ (x : Sizes). over (sizesBytes x) l) (sizes (c .before .before .before .before .before .before .before .before)) in (
-      omega (arith, w .ensures .0, first (c .before .before .before .before .before .before), suffix-parts cs),
-      put-end (h .result) (h .last .0) (w .last .0) ∙ rw (rest, start, first (c .before .before .before .before .before .before)) (suffix-put l cs),
+    let start = h .ensures .1 ∙ ap (λ (x : Sizes). over (sizesBytes x) l) (sizes after-total-of) in (
+      omega (arith, w .ensures .0, first after-put-sizes, suffix-parts cs),
+      put-end (h .result) (h .last .0) (w .last .0) ∙ rw (rest, start, first after-put-sizes) (suffix-put l cs),
     )
 
 pub put-suffix-spec : {M : Type 1} → statement M

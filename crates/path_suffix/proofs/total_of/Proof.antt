@@ -19,10 +19,14 @@ loop-holds : tie.Need-loop-holds Inv-loop μ-loop
 loop-holds c = (omega arith, omega arith)
 
 add-total : tie.Need-add-total Inv-loop μ-loop
-add-total c = omega (arith, sum-next (now (c .before .before .before .args .lengths)) (c .before .before .loop .i) (omega arith))
+add-total c =
+    let start : tie.Start Inv-loop μ-loop = search in
+    omega (arith, sum-next (now (start .args .lengths)) (c .before .before .loop .i) (omega arith))
 
 loop-again : tie.Need-loop-again Inv-loop μ-loop
-loop-again c = omega (arith, sum-next (now (c .before .before .before .args .lengths)) (c .before .before .loop .i) (omega arith))
+loop-again c =
+    let start : tie.Start Inv-loop μ-loop = search in
+    omega (arith, sum-next (now (start .args .lengths)) (c .before .before .loop .i) (omega arith))
 
 returns : tie.Need-returns Inv-loop μ-loop
 returns c = omega (arith, sum-end (now (c .before .before .args .lengths)) (c .before .loop .i) (omega arith))

@@ -41,28 +41,33 @@ loop-holds c = (omega arith, refl, refl, omega arith, sym (overAt-start _ _))
 
 add-to : tie.Need-add-to Inv-loop μ-loop
 add-to c =
-    let s = c .before .before .before .before .before .before .before .before .before .before in
+    let at-loop : tie.At-loop Inv-loop μ-loop = search in
+    let s : tie.Start Inv-loop μ-loop = search in
     let p = s .args .path in
     let f = here s in
-    let l = c .before .before .before .before .before .before .before .loop in
+    let l = at-loop .loop in
     omega (arith, ends p f (l .i) (omega arith), l .inv .1, c .component-len .ensures)
 
 part-put-hex-end : tie.Need-part-put-hex-end Inv-loop μ-loop
 part-put-hex-end c =
-    let s = c .before .before .before .before .before .before .before .before .before .before .before .before in
+    let at-loop : tie.At-loop Inv-loop μ-loop = search in
+    let s : tie.Start Inv-loop μ-loop = search in
     let p = s .args .path in
     let f = here s in
-    let l = c .before .before .before .before .before .before .before .before .before .loop in
+    let l = at-loop .loop in
     omega (arith, ends p f (l .i) (omega arith), l .inv .1, c .before .before .component-len .ensures, f .bytes)
 
 loop-again : tie.Need-loop-again Inv-loop μ-loop
 loop-again c =
-    let s = c .before .before .before .before .before .before .before .before .before .before .before .before .before .before .before .before in
+    let after-component-len : tie.After-component-len Inv-loop μ-loop = search in
+    let after-put-bytes : tie.After-put-bytes Inv-loop μ-loop = search in
+    let at-loop : tie.At-loop Inv-loop μ-loop = search in
+    let s : tie.Start Inv-loop μ-loop = search in
     let p = s .args .path in
     let f = here s in
-    let l = c .before .before .before .before .before .before .before .before .before .before .before .before .before .loop in
+    let l = at-loop .loop in
     let h : l .i < p .count = omega arith in
-    let len = c .before .before .before .before .before .before .component-len .ensures in
+    let len = after-component-len .component-len .ensures in
     let part = part-bytes p f (l .i) h (l .from) (l .inv .1) in
     let t = tail-next p f (l .i) h in
     let e2 = rw (len, part) at (c .before .before .put-hex .ensures .0) in
@@ -70,9 +75,9 @@ loop-again c =
     let rest = tailText (drop (l .i + 1) (componentsOf p)) in
     let few = text-few s in
     let fit : l .place + length ((47 ∷ hexText (bytesAt p (l .i))) ++ rest) ≤ length (l .out) = omega (arith, ap length t, l .inv .2, l .inv .3, few, s .pre .1) in
-    let place = turn-place (l .out) (c .before .before .before .before .before .before .before .before .before .put-bytes .last .0) (c .before .before .put-hex .last .0) (l .place) (c .before .before .before .before .before .before .before .before .before .put-bytes .result) (c .before .before .put-hex .result) (bytesAt p (l .i)) rest fit (c .before .before .before .before .before .before .before .before .before .put-bytes .ensures .0) (c .before .before .before .before .before .before .before .before .before .put-bytes .ensures .1) e2 n2 in
-    let long = turn-long (l .out) (c .before .before .before .before .before .before .before .before .before .put-bytes .last .0) (c .before .before .put-hex .last .0) (l .place) (c .before .before .before .before .before .before .before .before .before .put-bytes .result) (c .before .before .put-hex .result) (bytesAt p (l .i)) rest fit (c .before .before .before .before .before .before .before .before .before .put-bytes .ensures .0) (c .before .before .before .before .before .before .before .before .before .put-bytes .ensures .1) e2 n2 in
-    let over = turn-over (l .out) (c .before .before .before .before .before .before .before .before .before .put-bytes .last .0) (c .before .before .put-hex .last .0) (l .place) (c .before .before .before .before .before .before .before .before .before .put-bytes .result) (c .before .before .put-hex .result) (bytesAt p (l .i)) rest fit (c .before .before .before .before .before .before .before .before .before .put-bytes .ensures .0) (c .before .before .before .before .before .before .before .before .before .put-bytes .ensures .1) e2 n2 in (
+    let place = turn-place (l .out) (after-put-bytes .put-bytes .last .0) (c .before .before .put-hex .last .0) (l .place) (after-put-bytes .put-bytes .result) (c .before .before .put-hex .result) (bytesAt p (l .i)) rest fit (after-put-bytes .put-bytes .ensures .0) (after-put-bytes .put-bytes .ensures .1) e2 n2 in
+    let long = turn-long (l .out) (after-put-bytes .put-bytes .last .0) (c .before .before .put-hex .last .0) (l .place) (after-put-bytes .put-bytes .result) (c .before .before .put-hex .result) (bytesAt p (l .i)) rest fit (after-put-bytes .put-bytes .ensures .0) (after-put-bytes .put-bytes .ensures .1) e2 n2 in
+    let over = turn-over (l .out) (after-put-bytes .put-bytes .last .0) (c .before .before .put-hex .last .0) (l .place) (after-put-bytes .put-bytes .result) (c .before .before .put-hex .result) (bytesAt p (l .i)) rest fit (after-put-bytes .put-bytes .ensures .0) (after-put-bytes .put-bytes .ensures .1) e2 n2 in (
       omega arith,
       omega (arith, next-start p f (l .i) h, l .inv .1, len),
       long ∙ l .inv .2,
@@ -85,7 +90,7 @@ same-length c = c .before .loop .inv .2
 
 returns : tie.Need-returns Inv-loop μ-loop
 returns c =
-    let s = c .before .before .before .before in
+    let s : tie.Start Inv-loop μ-loop = search in
     let p = s .args .path in
     let f = here s in
     let l = c .before .loop in

@@ -14,25 +14,35 @@ use Rattle.path_text.proofs.push_text.Tie as tie
 
 -- the bytes that were read
 hex-here : (c : tie.After-known-told) → Bytes (c .before .got .given .0 .0) ≡ readHex (now (c .before .before .before .before .before .before .before .args .t)) 300
-hex-here c = sym (c .before .got .given .1) ∙ c .before .before .before .before .read-hex .ensures .0
+hex-here c =
+    let after-read-hex : tie.After-read-hex = search in
+    sym (c .before .got .given .1) ∙ after-read-hex .read-hex .ensures .0
 
 bytes-here : (c : tie.After-known-told) → take (c .before .got .given .0 .0) (c .before .before .before .before .read-hex .last .1 .0) ≡ unhex (now (c .before .before .before .before .before .before .before .args .t))
-bytes-here c = rw (c .before .before .before .before .read-hex .ensures .1) (bytes-are _ _ _ (hex-here c))
+bytes-here c =
+    let after-read-hex : tie.After-read-hex = search in
+    rw (after-read-hex .read-hex .ensures .1) (bytes-are _ _ _ (hex-here c))
 
 returns : tie.Need-returns
 returns c =
-    let a = c .before .before .before .before .before .args in
+    let start : tie.Start = search in
+    let a = start .args in
     push-refused (a .builder) (now (a .t)) (hex-refused (now (a .t)) 300 (c .before .before .read-hex .result) (c .before .before .read-hex .ensures .0) (c .match .keys2))
 
 array-share-prefix-bytes : tie.Need-array-share-prefix-bytes
-array-share-prefix-bytes c = omega (arith, some-bytes _ _ 300 (hex-here c) .2, c .before .before .before .before .read-hex .kept .1 .0)
+array-share-prefix-bytes c =
+    let after-read-hex : tie.After-read-hex = search in
+    omega (arith, some-bytes _ _ 300 (hex-here c) .2, after-read-hex .read-hex .kept .1 .0)
 
 slice-aggregate-push-component : tie.Need-slice-aggregate-push-component
-slice-aggregate-push-component c = sym (length-take-le _ _ (omega (arith, some-bytes _ _ 300 (hex-here (c .before)) .2, c .before .before .before .before .before .read-hex .kept .1 .0)))
+slice-aggregate-push-component c =
+    let after-read-hex : tie.After-read-hex = search in
+    sym (length-take-le _ _ (omega (arith, some-bytes _ _ 300 (hex-here (c .before)) .2, after-read-hex .read-hex .kept .1 .0)))
 
 returns-2 : tie.Need-returns-2
 returns-2 c =
-    let a = c .before .before .before .before .before .before .before .before .before .args in
+    let start : tie.Start = search in
+    let a = start .args in
     c .push-component .ensures ∙ rw (bytes-here (c .before .before)) (push-hex (a .builder) (now (a .t)) (some-bytes _ _ 300 (hex-here (c .before .before)) .0))
 
 pub push-text-spec : {M : Type 1} → statement M

@@ -10,17 +10,23 @@ use Rattle.path_text.proofs.put_path.Tie as tie
 
 returns : tie.Need-returns
 returns c =
-    let p = c .before .before .before .before .before .before .args .path in
-    rw (← (some-components p (typed p (c .before .before .before .before .before .before .good .1 .1 .0)) (c .before .before .before .before .if1 .taken))) (c .before .before .put-components .ensures)
+    let then1 : tie.Then1 = search in
+    let start : tie.Start = search in
+    let p = start .args .path in
+    rw (← (some-components p (typed p (start .good .1 .1 .0)) (then1 .if1 .taken))) (c .before .before .put-components .ensures)
 
 returns-2 : tie.Need-returns-2
 returns-2 c =
-    let e = ill-path (c .before .before .before .before .args .path) (sym (c .before .well-formed .ensures) ∙ not-true (c .before .well-formed .result) (c .if2 .taken)) in
-    rw e (put-none (c .before .before .before .before .args .at) (now (c .before .before .before .before .args .out)))
+    let start : tie.Start = search in
+    let e = ill-path (start .args .path) (sym (c .before .well-formed .ensures) ∙ not-true (c .before .well-formed .result) (c .if2 .taken)) in
+    rw e (put-none (start .args .at) (now (start .args .out)))
 
 returns-3 : tie.Need-returns-3
 returns-3 c =
-    let e = no-components (c .before .before .before .before .before .before .before .before .before .args .path) (sym (c .before .before .before .before .before .before .well-formed .ensures) ∙ not-false (c .before .before .before .before .before .before .well-formed .result) (c .before .before .before .before .before .if2 .left)) (omega arith) in
+    let else2 : tie.Else2 = search in
+    let after-well-formed : tie.After-well-formed = search in
+    let start : tie.Start = search in
+    let e = no-components (start .args .path) (sym (after-well-formed .well-formed .ensures) ∙ not-false (after-well-formed .well-formed .result) (else2 .if2 .left)) (omega arith) in
     rw (← e) (c .before .before .put-bytes .ensures)
 
 pub put-path-spec : {M : Type 1} → statement M

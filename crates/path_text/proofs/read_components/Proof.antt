@@ -58,44 +58,61 @@ returns c =
 
 returns-2 : tie.Need-returns-2 Inv-loop μ-loop
 returns-2 c =
-    let s = now (c .before .before .before .before .before .before .before .before .before .before .before .before .args .s) in
-    let l = c .before .before .before .before .before .before .before .before .before .loop in
+    let after-enum-told : tie.After-enum-told Inv-loop μ-loop = search in
+    let after-push-text : tie.After-push-text Inv-loop μ-loop = search in
+    let after-find : tie.After-find Inv-loop μ-loop = search in
+    let at-loop : tie.At-loop Inv-loop μ-loop = search in
+    let start : tie.Start Inv-loop μ-loop = search in
+    let s = now (start .args .s) in
+    let l = at-loop .loop in
     let r = drop (l .at) s in
     let b = l .builder in
     let cs = componentsOf (b .path) in
-    let g = c .before .before .before .before .before .push-text .result in
-    let k = rw (to-end (l .at) s) at (c .before .before .before .before .before .before .before .find .ensures .0) in
+    let g = after-push-text .push-text .result in
+    let k = rw (to-end (l .at) s) at (after-find .find .ensures .0) in
     let n = rw (to-end (l .at) s) at (c .before .if1 .taken) in
-    let all : take (c .before .before .before .before .before .before .before .find .result) r ≡ r = take-all (c .before .before .before .before .before .before .before .find .result) r (omega (arith, n)) in
-    let made : g ≡ pushText b r = rw (to-end (l .at) s, all) at (c .before .before .before .before .before .push-text .ensures) in
-    let w = took b cs (l .inv .1) r g made (c .before .before .before .enum-told .given .1) in
+    let all : take (after-find .find .result) r ≡ r = take-all (after-find .find .result) r (omega (arith, n)) in
+    let made : g ≡ pushText b r = rw (to-end (l .at) s, all) at (after-push-text .push-text .ensures) in
+    let w = took b cs (l .inv .1) r g made (after-enum-told .enum-told .given .1) in
     let e : g .builder .path ≡ pathFrom (cs ++ (unhex r ∷ [])) = ap (λ (x : PathBuilder). x .path) (w .builder) in
     let ok = ok-next cs (unhex r) (l .inv .2) (w .fits) in
     sym (l .inv .3 ∙ rw (parts-last 47 r (omega (arith, k, n)), e) (texts-last cs r (w .hex) ok))
 
 add-at : tie.Need-add-at Inv-loop μ-loop
-add-at c = omega (arith, c .before .before .before .before .before .before .find .ensures .1, length-drop (c .before .before .before .before .before .before .before .before .loop .at) (now (c .before .before .before .before .before .before .before .before .before .before .before .args .s)))
+add-at c =
+    let after-find : tie.After-find Inv-loop μ-loop = search in
+    let at-loop : tie.At-loop Inv-loop μ-loop = search in
+    let start : tie.Start Inv-loop μ-loop = search in
+    omega (arith, after-find .find .ensures .1, length-drop (at-loop .loop .at) (now (start .args .s)))
 
 add-at-2 : tie.Need-add-at-2 Inv-loop μ-loop
-add-at-2 c = omega (arith, c .before .before .before .before .before .before .find .ensures .1, length-drop (c .before .before .before .before .before .before .before .before .loop .at) (now (c .before .before .before .before .before .before .before .before .before .before .before .args .s)))
+add-at-2 c =
+    let after-find : tie.After-find Inv-loop μ-loop = search in
+    let at-loop : tie.At-loop Inv-loop μ-loop = search in
+    let start : tie.Start Inv-loop μ-loop = search in
+    omega (arith, after-find .find .ensures .1, length-drop (at-loop .loop .at) (now (start .args .s)))
 
 loop-again : tie.Need-loop-again Inv-loop μ-loop
 loop-again c =
-    let s = now (c .before .before .before .before .before .before .before .before .before .before .before .args .s) in
-    let l = c .before .before .before .before .before .before .before .before .loop in
+    let after-push-text : tie.After-push-text Inv-loop μ-loop = search in
+    let after-find : tie.After-find Inv-loop μ-loop = search in
+    let at-loop : tie.At-loop Inv-loop μ-loop = search in
+    let start : tie.Start Inv-loop μ-loop = search in
+    let s = now (start .args .s) in
+    let l = at-loop .loop in
     let r = drop (l .at) s in
     let b = l .builder in
     let cs = componentsOf (b .path) in
-    let g = c .before .before .before .before .push-text .result in
-    let k = rw (to-end (l .at) s) at (c .before .before .before .before .before .before .find .ensures .0) in
-    let le = rw (to-end (l .at) s) at (c .before .before .before .before .before .before .find .ensures .1) in
+    let g = after-push-text .push-text .result in
+    let k = rw (to-end (l .at) s) at (after-find .find .ensures .0) in
+    let le = rw (to-end (l .at) s) at (after-find .find .ensures .1) in
     let ne = rw (to-end (l .at) s) at (c .if1 .left) in
-    let t = take (c .before .before .before .before .before .before .find .result) r in
-    let made : g ≡ pushText b t = rw (to-end (l .at) s) at (c .before .before .before .before .push-text .ensures) in
+    let t = take (after-find .find .result) r in
+    let made : g ≡ pushText b t = rw (to-end (l .at) s) at (after-push-text .push-text .ensures) in
     let w = took b cs (l .inv .1) t g made (c .before .before .enum-told .given .1) in
     let e = built-components (g .builder) (cs ++ (unhex t ∷ [])) (w .builder) in
     let m : length (before 47 r) < length r = omega (arith, k, le, ne) in
-    let p : parts 47 r ≡ t ∷ parts 47 (drop (c .before .before .before .before .before .before .find .result + 1) r) = rw (← k) at (parts-more 47 r m) in (
+    let p : parts 47 r ≡ t ∷ parts 47 (drop (after-find .find .result + 1) r) = rw (← k) at (parts-more 47 r m) in (
       omega (arith, m, k, length-drop (l .at) s),
       w .builder ∙ ap (λ (x : List (List ℕ)). builderFrom x) (sym e),
       rw e (ok-next cs (unhex t) (l .inv .2) (w .fits)),

@@ -16,19 +16,24 @@ id-is c = sym (c .before .before .decode-id .ensures .answer) ∙ ap (λ (d : De
 
 returns : tie.Need-returns
 returns c =
-    let a = c .before .before .before .args in
+    let start : tie.Start = search in
+    let a = start .args in
     let x = no-value (c .before .decode-id .result .answer) (c .match .keys2) in
     x .beside _ ∙ sym (written-refused (subspacesOf (a .reference)) (now (a .message)) (x .why) (sym (c .before .decode-id .ensures .answer) ∙ x .beside _))
 
 returns-2 : tie.Need-returns-2
 returns-2 c =
-    let a = c .before .before .before .before .before .before .before .before .args in
-    rw (c .no-id .ensures) (sym (written-named (subspacesOf (a .reference)) (now (a .message)) _ _ (id-is (c .before .before .before .before)) (ap isWritten (sym (c .before .before .source .ensures)) ∙ not-written (c .before .before .source .result) (c .before .match2 .keys2))))
+    let after-enum-told : tie.After-enum-told = search in
+    let start : tie.Start = search in
+    let a = start .args in
+    rw (c .no-id .ensures) (sym (written-named (subspacesOf (a .reference)) (now (a .message)) _ _ (id-is after-enum-told) (ap isWritten (sym (c .before .before .source .ensures)) ∙ not-written (c .before .before .source .result) (c .before .match2 .keys2))))
 
 returns-3 : tie.Need-returns-3
 returns-3 c =
-    let a = c .before .before .before .before .before .before .before .before .args in
-    rw (c .before .before .before .before .enum-told .given .1) (sym (written-read (subspacesOf (a .reference)) (now (a .message)) _ _ (id-is (c .before .before .before .before)) (ap isWritten (sym (c .before .before .source .ensures) ∙ c .enum-told2 .given .1))))
+    let after-enum-told : tie.After-enum-told = search in
+    let start : tie.Start = search in
+    let a = start .args in
+    rw (after-enum-told .enum-told .given .1) (sym (written-read (subspacesOf (a .reference)) (now (a .message)) _ _ (id-is after-enum-told) (ap isWritten (sym (c .before .before .source .ensures) ∙ c .enum-told2 .given .1))))
 
 pub decode-written-spec : {M : Type 1} → statement M
 decode-written-spec =

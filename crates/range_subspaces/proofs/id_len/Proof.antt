@@ -16,9 +16,10 @@ returns c =
 
 returns-2 : tie.Need-returns-2
 returns-2 c =
-    let a = c .before .before .before .args in
+    let start : tie.Start = search in
+    let a = start .args in
     let e = id-bytes (subspacesOf (a .reference)) (a .id) (ap isWritten (sym (c .before .before .source .ensures) ∙ c .enum-told .given .1)) in
-    (sym (ap length e ∙ c .before .before .before .good .0 .1 .0 .1), omega arith)
+    (sym (ap length e ∙ start .good .0 .1 .0 .1), omega arith)
 
 pub id-len-spec : {M : Type 1} → statement M
 id-len-spec = tie.close (tie.spec (λ c κs. search needs) (λ c. search needs) returns returns-2)

@@ -14,11 +14,19 @@ returns-2 c = rw (sym (c .before .before .same-bytes .ensures) ∙ c .before .if
 
 returns-3 : tie.Need-returns-3
 unfolding sourceOf
-returns-3 c = rw (sym (c .before .before .before .before .before .before .before .same-bytes .ensures) ∙ c .before .before .before .before .before .before .if1 .left, c .before .before .before .before .before .if2 .left, sym (c .before .same-bytes2 .ensures) ∙ c .if3 .taken)
+returns-3 c =
+    let else2 : tie.Else2 = search in
+    let else1 : tie.Else1 = search in
+    let after-same-bytes : tie.After-same-bytes = search in
+    rw (sym (after-same-bytes .same-bytes .ensures) ∙ else1 .if1 .left, else2 .if2 .left, sym (c .before .same-bytes2 .ensures) ∙ c .if3 .taken)
 
 returns-4 : tie.Need-returns-4
 unfolding sourceOf
-returns-4 c = rw (sym (c .before .before .before .before .before .before .before .same-bytes .ensures) ∙ c .before .before .before .before .before .before .if1 .left, c .before .before .before .before .before .if2 .left, sym (c .before .same-bytes2 .ensures) ∙ c .if3 .left)
+returns-4 c =
+    let else2 : tie.Else2 = search in
+    let else1 : tie.Else1 = search in
+    let after-same-bytes : tie.After-same-bytes = search in
+    rw (sym (after-same-bytes .same-bytes .ensures) ∙ else1 .if1 .left, else2 .if2 .left, sym (c .before .same-bytes2 .ensures) ∙ c .if3 .left)
 
 pub source-spec : {M : Type 1} → statement M
 source-spec =

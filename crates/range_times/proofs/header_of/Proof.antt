@@ -5,7 +5,9 @@ use Rattle.range_times.proofs.header_of.Tie as tie
 
 returns : tie.Need-returns
 unfolding headerOf
-returns c = rw (c .min-tag2 .ensures, c .before .min-tag .ensures, c .before .before .end-nearest .ensures, c .before .before .before .nearest .ensures)
+returns c =
+    let after-nearest : tie.After-nearest = search in
+    rw (c .min-tag2 .ensures, c .before .min-tag .ensures, c .before .before .end-nearest .ensures, after-nearest .nearest .ensures)
 
 pub header-of-spec : {M : Type 1} → statement M
 header-of-spec = tie.close (tie.spec (λ c κs. search needs) (λ c κs. search needs) (λ c κs. search needs) (λ c κs. search needs) returns)

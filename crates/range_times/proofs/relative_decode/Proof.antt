@@ -19,32 +19,48 @@ use Rattle.range_times.proofs.relative_decode.Tie as tie
 
 start-is : (c : tie.After-known-told) → let a = c .before .before .before .before .before .before .before .args in let x = c .before .first .given .0 in let h = unpackHeader (a .header) in
     readFrom (sideOf (a .reference) (h .«start_from_start»)) (h .«start_added») (h .«start_tag») (now (a .message)) ≡ accepted (x .0) (x .1 .0)
-start-is c = rw (c .before .before .before .before .side .ensures, c .before .before .before .before .before .unpack .ensures) at (sym (c .before .before .before .relative-decode .ensures) ∙ ap numberAnswer (c .before .first .given .1))
+start-is c =
+    let after-relative-decode : tie.After-relative-decode = search in
+    let after-side : tie.After-side = search in
+    let after-unpack : tie.After-unpack = search in
+    rw (after-side .side .ensures, after-unpack .unpack .ensures) at (sym (after-relative-decode .relative-decode .ensures) ∙ ap numberAnswer (c .before .first .given .1))
 
 times-are : (c : tie.After-known-told2) → let a = c .before .before .before .before .before .before .before .before .before .before .before .args in let x = c .before .before .before .before .before .first .given .0 in
     readTimes (a .reference) (a .end-open) (unpackHeader (a .header)) (now (a .message)) ≡ accepted (timesFrom (x .0) (c .before .before .before .decode-end .result .end)) (x .1 .0 + c .before .answer .given .0 .0)
 times-are c =
-    let a = c .before .before .before .before .before .before .before .before .before .before .before .args in
-    let e = rw (c .before .before .before .before .before .before .before .before .before .unpack .ensures) at (sym (c .before .before .before .decode-end .ensures) ∙ ap (λ (d : Decoded). answerOf d (c .before .before .before .decode-end .result .end)) (c .before .answer .given .1)) in
-    times-read (a .reference) (a .end-open) (unpackHeader (a .header)) (now (a .message)) _ _ (start-is (c .before .before .before .before)) _ _ e
+    let after-decode-end : tie.After-decode-end = search in
+    let after-known-told : tie.After-known-told = search in
+    let after-unpack : tie.After-unpack = search in
+    let start : tie.Start = search in
+    let a = start .args in
+    let e = rw (after-unpack .unpack .ensures) at (sym (after-decode-end .decode-end .ensures) ∙ ap (λ (d : Decoded). answerOf d (after-decode-end .decode-end .result .end)) (c .before .answer .given .1)) in
+    times-read (a .reference) (a .end-open) (unpackHeader (a .header)) (now (a .message)) _ _ (start-is after-known-told) _ _ e
 
 returns : tie.Need-returns
 returns c =
-    let a = c .before .before .before .before .before .before .before .args in
-    let x = refused-number noTimes (c .before .before .before .relative-decode .result) (c .before .before .match .keys2) in
-    let e = rw (c .before .before .before .before .side .ensures, c .before .before .before .before .before .unpack .ensures) at (sym (c .before .before .before .relative-decode .ensures) ∙ x .number) in
+    let after-relative-decode : tie.After-relative-decode = search in
+    let after-side : tie.After-side = search in
+    let after-unpack : tie.After-unpack = search in
+    let start : tie.Start = search in
+    let a = start .args in
+    let x = refused-number noTimes (after-relative-decode .relative-decode .result) (c .before .before .match .keys2) in
+    let e = rw (after-side .side .ensures, after-unpack .unpack .ensures) at (sym (after-relative-decode .relative-decode .ensures) ∙ x .number) in
     rw (c .refuse .ensures .0, c .refuse .ensures .1, c .before .refusal .ensures) (gives-refused (x .why) (x .whole) (times-start (a .reference) (a .end-open) (unpackHeader (a .header)) (now (a .message)) (x .why) e))
 
 returns-2 : tie.Need-returns-2
 returns-2 c =
-    let a = c .before .before .before .before .before .before .before .before .before .before .args in
+    let after-known-told : tie.After-known-told = search in
+    let after-unpack : tie.After-unpack = search in
+    let start : tie.Start = search in
+    let a = start .args in
     let x = no-value (c .before .before .decode-end .result .answer) (c .before .match2 .keys2) in
-    let e = rw (c .before .before .before .before .before .before .before .before .unpack .ensures) at (sym (c .before .before .decode-end .ensures) ∙ x .beside (c .before .before .decode-end .result .end)) in
-    rw (c .refuse2 .ensures .0, c .refuse2 .ensures .1) (gives-refused (x .why) (x .beside noTimes) (times-end (a .reference) (a .end-open) (unpackHeader (a .header)) (now (a .message)) _ _ (start-is (c .before .before .before)) (x .why) e))
+    let e = rw (after-unpack .unpack .ensures) at (sym (c .before .before .decode-end .ensures) ∙ x .beside (c .before .before .decode-end .result .end)) in
+    rw (c .refuse2 .ensures .0, c .refuse2 .ensures .1) (gives-refused (x .why) (x .beside noTimes) (times-end (a .reference) (a .end-open) (unpackHeader (a .header)) (now (a .message)) _ _ (start-is after-known-told) (x .why) e))
 
 add-t15 : tie.Need-add-t15
 add-t15 c =
-    let a = c .before .before .before .before .before .before .before .before .before .before .before .args in
+    let start : tie.Start = search in
+    let a = start .args in
     omega (arith, times-bounded (a .reference) (a .end-open) (unpackHeader (a .header)) .bound (now (a .message)) _ _ (times-are c))
 
 returns-3 : tie.Need-returns-3

@@ -22,7 +22,8 @@ loop-holds c = (omega arith, refl, omega arith, refl)
 
 loop-again : tie.Need-loop-again Inv-loop μ-loop
 loop-again c =
-    let s = now (c .before .before .before .args .s) in
+    let start : tie.Start Inv-loop μ-loop = search in
+    let s = now (start .args .s) in
     let l = c .before .before .loop in (
       omega arith,
       rw length-set (l .inv .1),

@@ -27,8 +27,10 @@ slice-write-out-2 c = rw length-set (omega arith)
 
 loop-again : tie.Need-loop-again Inv-loop μ-loop
 loop-again c =
-    let s = now (c .before .before .before .before .before .before .before .args .s) in
-    let l = c .before .before .before .before .loop in
+    let at-loop : tie.At-loop Inv-loop μ-loop = search in
+    let start : tie.Start Inv-loop μ-loop = search in
+    let s = now (start .args .s) in
+    let l = at-loop .loop in
     let a = c .before .hex-digit .ensures in
     let b = c .hex-digit2 .ensures in (
       omega arith,
@@ -42,7 +44,8 @@ same-length c = c .before .loop .inv .1
 
 returns : tie.Need-returns Inv-loop μ-loop
 returns c =
-    let s = now (c .before .before .before .before .args .s) in
+    let start : tie.Start Inv-loop μ-loop = search in
+    let s = now (start .args .s) in
     let l = c .before .loop in
     sym (l .inv .3 ∙ rw (hexText-end s (l .i) (omega arith)) (overAt-none (l .p) (l .out)))
 

@@ -15,10 +15,16 @@ abbrev μ-loop : tie.MeasureT-loop
 μ-loop s x i₀ i = length s - i
 
 returns : tie.Need-returns Inv-loop μ-loop
-returns c = (omega (arith, c .before .before .before .loop .inv .1, before-here (c .before .before .before .before .args .x) (now (c .before .before .before .before .args .s)) (c .before .before .before .loop .i) (omega arith) (c .if1 .taken)), omega arith)
+returns c =
+    let at-loop : tie.At-loop Inv-loop μ-loop = search in
+    let start : tie.Start Inv-loop μ-loop = search in
+    (omega (arith, at-loop .loop .inv .1, before-here (start .args .x) (now (start .args .s)) (at-loop .loop .i) (omega arith) (c .if1 .taken)), omega arith)
 
 loop-again : tie.Need-loop-again Inv-loop μ-loop
-loop-again c = (omega arith, omega (arith, c .before .before .before .loop .inv .1, before-next (c .before .before .before .before .args .x) (now (c .before .before .before .before .args .s)) (c .before .before .before .loop .i) (omega arith) (c .if1 .left)))
+loop-again c =
+    let at-loop : tie.At-loop Inv-loop μ-loop = search in
+    let start : tie.Start Inv-loop μ-loop = search in
+    (omega arith, omega (arith, at-loop .loop .inv .1, before-next (start .args .x) (now (start .args .s)) (at-loop .loop .i) (omega arith) (c .if1 .left)))
 
 returns-2 : tie.Need-returns-2 Inv-loop μ-loop
 returns-2 c = (omega (arith, c .before .loop .inv .1, before-end (c .before .before .args .x) (now (c .before .before .args .s)) (c .before .loop .i) (omega arith)), omega arith)

@@ -20,19 +20,22 @@ returns-2 c =
 returns-3 : tie.Need-returns-3
 unfolding hexValue
 returns-3 c =
-    let b = c .before .before .before .args .b in
+    let start : tie.Start = search in
+    let b = start .args .b in
     (rw (le-ltb b 48 (omega arith), le-ltb b 58 (omega arith), lt-ltb b 97 (omega arith)), omega arith)
 
 returns-4 : tie.Need-returns-4
 unfolding hexValue
 returns-4 c =
-    let b = c .before .before .before .before .args .b in
+    let start : tie.Start = search in
+    let b = start .args .b in
     (rw (le-ltb b 48 (omega arith), le-ltb b 58 (omega arith), le-ltb b 97 (omega arith), lt-ltb b 103 (omega arith)) (omega arith), omega arith)
 
 returns-5 : tie.Need-returns-5
 unfolding hexValue
 returns-5 c =
-    let b = c .before .before .before .before .args .b in
+    let start : tie.Start = search in
+    let b = start .args .b in
     (rw (le-ltb b 48 (omega arith), le-ltb b 58 (omega arith), le-ltb b 97 (omega arith), le-ltb b 103 (omega arith)), omega arith)
 
 pub hex-value-spec : {M : Type 1} → statement M

@@ -20,29 +20,41 @@ loop-holds : tie.Need-loop-holds Inv-loop μ-loop
 loop-holds c = (omega arith, refl)
 
 returns : tie.Need-returns Inv-loop μ-loop
-returns c = sym (c .before .before .loop .inv .1 ∙ isHex-odd (now (c .before .before .before .before .args .s)) (c .before .before .loop .i) (omega arith))
+returns c =
+    let start : tie.Start Inv-loop μ-loop = search in
+    sym (c .before .before .loop .inv .1 ∙ isHex-odd (now (start .args .s)) (c .before .before .loop .i) (omega arith))
 
 returns-2 : tie.Need-returns-2 Inv-loop μ-loop
 returns-2 c =
+    let at-loop : tie.At-loop Inv-loop μ-loop = search in
+    let start : tie.Start Inv-loop μ-loop = search in
     let a = c .before .hex-value in
-    sym (c .before .before .before .before .before .loop .inv .1 ∙ isHex-next (now (c .before .before .before .before .before .before .before .args .s)) (c .before .before .before .before .before .loop .i) (omega arith) ∙ rw (← (a .ensures .0), le-ltb (a .result) 16 (omega arith)))
+    sym (at-loop .loop .inv .1 ∙ isHex-next (now (start .args .s)) (at-loop .loop .i) (omega arith) ∙ rw (← (a .ensures .0), le-ltb (a .result) 16 (omega arith)))
 
 returns-3 : tie.Need-returns-3 Inv-loop μ-loop
 returns-3 c =
-    let a = c .before .before .before .before .hex-value in
+    let after-hex-value : tie.After-hex-value Inv-loop μ-loop = search in
+    let at-loop : tie.At-loop Inv-loop μ-loop = search in
+    let start : tie.Start Inv-loop μ-loop = search in
+    let a = after-hex-value .hex-value in
     let b = c .before .hex-value2 in
-    sym (c .before .before .before .before .before .before .before .before .loop .inv .1 ∙ isHex-next (now (c .before .before .before .before .before .before .before .before .before .before .args .s)) (c .before .before .before .before .before .before .before .before .loop .i) (omega arith) ∙ rw (← (a .ensures .0), lt-ltb (a .result) 16 (omega arith), ← (b .ensures .0), le-ltb (b .result) 16 (omega arith)))
+    sym (at-loop .loop .inv .1 ∙ isHex-next (now (start .args .s)) (at-loop .loop .i) (omega arith) ∙ rw (← (a .ensures .0), lt-ltb (a .result) 16 (omega arith), ← (b .ensures .0), le-ltb (b .result) 16 (omega arith)))
 
 loop-again : tie.Need-loop-again Inv-loop μ-loop
 loop-again c =
-    let a = c .before .before .before .before .hex-value in
+    let after-hex-value : tie.After-hex-value Inv-loop μ-loop = search in
+    let at-loop : tie.At-loop Inv-loop μ-loop = search in
+    let start : tie.Start Inv-loop μ-loop = search in
+    let a = after-hex-value .hex-value in
     let b = c .before .hex-value2 in (
       omega arith,
-      c .before .before .before .before .before .before .before .before .loop .inv .1 ∙ isHex-next (now (c .before .before .before .before .before .before .before .before .before .before .args .s)) (c .before .before .before .before .before .before .before .before .loop .i) (omega arith) ∙ rw (← (a .ensures .0), lt-ltb (a .result) 16 (omega arith), ← (b .ensures .0), lt-ltb (b .result) 16 (omega arith)),
+      at-loop .loop .inv .1 ∙ isHex-next (now (start .args .s)) (at-loop .loop .i) (omega arith) ∙ rw (← (a .ensures .0), lt-ltb (a .result) 16 (omega arith), ← (b .ensures .0), lt-ltb (b .result) 16 (omega arith)),
     )
 
 returns-4 : tie.Need-returns-4 Inv-loop μ-loop
-returns-4 c = sym (c .before .loop .inv .1 ∙ isHex-end (now (c .before .before .before .args .s)) (c .before .loop .i) (omega arith))
+returns-4 c =
+    let start : tie.Start Inv-loop μ-loop = search in
+    sym (c .before .loop .inv .1 ∙ isHex-end (now (start .args .s)) (c .before .loop .i) (omega arith))
 
 pub is-hex-spec : {M : Type 1} → statement M
 is-hex-spec =

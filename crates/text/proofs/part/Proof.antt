@@ -23,9 +23,11 @@ loop-holds c = (omega arith, refl)
 
 returns : tie.Need-returns Inv-loop μ-loop
 returns c =
-    let s = now (c .before .before .before .before .before .before .before .args .s) in
-    let l = c .before .before .before .before .before .loop in
-    let x = c .before .before .before .before .before .before .before .args .x in
+    let at-loop : tie.At-loop Inv-loop μ-loop = search in
+    let start : tie.Start Inv-loop μ-loop = search in
+    let s = now (start .args .s) in
+    let l = at-loop .loop in
+    let x = start .args .x in
     let r = drop (l .at) s in
     let k = rw (to-end (l .at) s) at (c .before .before .find .ensures .0) in
     let n = rw (to-end (l .at) s) at (c .before .if1 .taken) in
@@ -33,17 +35,25 @@ returns c =
     sym (l .inv .1 ∙ ap (λ (n : ℕ). partAt x n r) e ∙ part-none x r (l .left - 1) (omega (arith, k, n)))
 
 add-at : tie.Need-add-at Inv-loop μ-loop
-add-at c = omega (arith, c .before .find .ensures .1, length-drop (c .before .before .before .before .loop .at) (now (c .before .before .before .before .before .before .args .s)))
+add-at c =
+    let at-loop : tie.At-loop Inv-loop μ-loop = search in
+    let start : tie.Start Inv-loop μ-loop = search in
+    omega (arith, c .before .find .ensures .1, length-drop (at-loop .loop .at) (now (start .args .s)))
 
 add-at-2 : tie.Need-add-at-2 Inv-loop μ-loop
-add-at-2 c = omega (arith, c .before .find .ensures .1, length-drop (c .before .before .before .before .loop .at) (now (c .before .before .before .before .before .before .args .s)))
+add-at-2 c =
+    let at-loop : tie.At-loop Inv-loop μ-loop = search in
+    let start : tie.Start Inv-loop μ-loop = search in
+    omega (arith, c .before .find .ensures .1, length-drop (at-loop .loop .at) (now (start .args .s)))
 
 loop-again : tie.Need-loop-again Inv-loop μ-loop
 loop-again c =
-    let s = now (c .before .before .before .before .before .before .args .s) in
-    let l = c .before .before .before .before .loop in
+    let at-loop : tie.At-loop Inv-loop μ-loop = search in
+    let start : tie.Start Inv-loop μ-loop = search in
+    let s = now (start .args .s) in
+    let l = at-loop .loop in
     let r = drop (l .at) s in
-    let x = c .before .before .before .before .before .before .args .x in
+    let x = start .args .x in
     let k = rw (to-end (l .at) s) at (c .before .find .ensures .0) in
     let le = rw (to-end (l .at) s) at (c .before .find .ensures .1) in
     let ne = rw (to-end (l .at) s) at (c .if1 .left) in
@@ -59,12 +69,14 @@ slice-aggregate-result-2 c = sym (length-take-le (c .before .find2 .result) _ (c
 
 returns-2 : tie.Need-returns-2 Inv-loop μ-loop
 returns-2 c =
-    let s = now (c .before .before .before .before .before .before .args .s) in
-    let l = c .before .before .before .before .loop in
+    let at-loop : tie.At-loop Inv-loop μ-loop = search in
+    let start : tie.Start Inv-loop μ-loop = search in
+    let s = now (start .args .s) in
+    let l = at-loop .loop in
     let r = drop (l .at) s in
     let z : l .left ≡ 0 = omega arith in
     let k = rw (to-end (l .at) s) at (c .before .find2 .ensures .0) in
-    rw (to-end (l .at) s, k) (sym (l .inv .1 ∙ rw z (part-first (c .before .before .before .before .before .before .args .x) r)))
+    rw (to-end (l .at) s, k) (sym (l .inv .1 ∙ rw z (part-first (start .args .x) r)))
 
 pub part-spec : {M : Type 1} → statement M
 part-spec =

@@ -16,13 +16,17 @@ abbrev μ-loop : tie.MeasureT-loop
 μ-loop s x n₀ i₀ n i = length s - i
 
 add-n : tie.Need-add-n Inv-loop μ-loop
-add-n c = omega (arith, c .before .before .before .before .good)
+add-n c =
+    let start : tie.Start Inv-loop μ-loop = search in
+    omega (arith, start .good)
 
 loop-again : tie.Need-loop-again Inv-loop μ-loop
 loop-again c =
-    let s = now (c .before .before .before .before .args .s) in
-    let x = c .before .before .before .before .args .x in
-    let l = c .before .before .before .loop in (
+    let at-loop : tie.At-loop Inv-loop μ-loop = search in
+    let start : tie.Start Inv-loop μ-loop = search in
+    let s = now (start .args .s) in
+    let x = start .args .x in
+    let l = at-loop .loop in (
       omega arith,
       ⊎-elim (λ w. omega arith) (λ w. omega arith) (c .if1 .came),
       ⊎-elim

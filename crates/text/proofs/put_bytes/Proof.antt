@@ -7,14 +7,19 @@ use Rattle.text.proofs.put_bytes.Statement.{statement}
 use Rattle.text.proofs.put_bytes.Tie as tie
 
 returns : tie.Need-returns
-returns c = putAt-full (c .before .before .before .args .at) (now (c .before .before .before .args .s)) (now (c .before .before .before .args .out)) (omega arith)
+returns c =
+    let start : tie.Start = search in
+    putAt-full (start .args .at) (now (start .args .s)) (now (start .args .out)) (omega arith)
 
 returns-2 : tie.Need-returns-2
-returns-2 c = putAt-full (c .before .before .before .before .args .at) (now (c .before .before .before .before .args .s)) (now (c .before .before .before .before .args .out)) (omega arith)
+returns-2 c =
+    let start : tie.Start = search in
+    putAt-full (start .args .at) (now (start .args .s)) (now (start .args .out)) (omega arith)
 
 returns-3 : tie.Need-returns-3
 returns-3 c =
-    let a = c .before .before .before .before .before .before .before .before .args in
+    let start : tie.Start = search in
+    let a = start .args in
     let f = putAt-fits (a .at) (now (a .s)) (now (a .out)) (omega arith) in
     (f .0, c .before .before .copy-bytes .ensures ∙ f .1)
 

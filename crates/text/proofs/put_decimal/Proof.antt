@@ -13,7 +13,8 @@ text-is c = c .decimal .ensures .1 .1 ∙ decimal-is _ _ (omega arith) (c .decim
 
 returns : tie.Need-returns
 returns c =
-    let e = text-is (c .before .before .before .before .before) in
+    let after-decimal : tie.After-decimal = search in
+    let e = text-is after-decimal in
     (rw (← e) (c .before .before .put-bytes .ensures .0), rw (← e) (c .before .before .put-bytes .ensures .1))
 
 pub put-decimal-spec : {M : Type 1} → statement M

@@ -9,14 +9,19 @@ use Rattle.text.proofs.put_hex.Statement.{statement}
 use Rattle.text.proofs.put_hex.Tie as tie
 
 returns : tie.Need-returns
-returns c = putAt-full (c .before .before .before .args .at) (hexText (now (c .before .before .before .args .s))) (now (c .before .before .before .args .out)) (omega arith)
+returns c =
+    let start : tie.Start = search in
+    putAt-full (start .args .at) (hexText (now (start .args .s))) (now (start .args .out)) (omega arith)
 
 returns-2 : tie.Need-returns-2
-returns-2 c = putAt-full (c .before .before .before .before .args .at) (hexText (now (c .before .before .before .before .args .s))) (now (c .before .before .before .before .args .out)) (omega (arith, hexText-long (now (c .before .before .before .before .args .s))))
+returns-2 c =
+    let start : tie.Start = search in
+    putAt-full (start .args .at) (hexText (now (start .args .s))) (now (start .args .out)) (omega (arith, hexText-long (now (start .args .s))))
 
 returns-3 : tie.Need-returns-3
 returns-3 c =
-    let a = c .before .before .before .before .before .before .before .before .args in
+    let start : tie.Start = search in
+    let a = start .args in
     let e = hexText-long (now (a .s)) in
     let f = putAt-fits (a .at) (hexText (now (a .s))) (now (a .out)) (omega (arith, e)) in
     (rw (← e) (f .0), c .before .before .copy-hex .ensures ∙ f .1)

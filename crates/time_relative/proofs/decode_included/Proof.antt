@@ -14,16 +14,20 @@ use Rattle.time_relative.proofs.decode_included.Tie as tie
 
 returns : tie.Need-returns
 returns c =
-    let a = c .before .before .before .args in
+    let start : tie.Start = search in
+    let a = start .args in
     let s = drop (a .start) (now (a .message)) in
     let n = refused-number {A = ℕ} 0 (c .before .relative-decode .result) (c .match .keys2) in
     n .number ∙ sym (included-refused (a .canonic) (a .range) (a .added) (a .tag) s (n .why) (sym (c .before .relative-decode .ensures) ∙ n .number))
 
 returns-2 : tie.Need-returns-2
 returns-2 c =
-    let a = c .before .before .before .before .before .before .before .args in
+    let after-number : tie.After-number = search in
+    let after-relative-decode : tie.After-relative-decode = search in
+    let start : tie.Start = search in
+    let a = start .args in
     let s = drop (a .start) (now (a .message)) in
-    let e = sym (c .before .before .before .before .before .relative-decode .ensures) ∙ ap numberAnswer (c .before .before .before .number .given .1) in
+    let e = sym (after-relative-decode .relative-decode .ensures) ∙ ap numberAnswer (after-number .number .given .1) in
     sym (included-past (a .canonic) (a .range) (a .added) (a .tag) s _ _ e (omega (arith, c .before .reach .ensures, c .if1 .taken)))
 
 time-at-requires : tie.Need-time-at-requires
@@ -31,17 +35,27 @@ time-at-requires c κs = omega (arith, c .before .reach .ensures, c .if1 .left)
 
 returns-3 : tie.Need-returns-3
 returns-3 c =
-    let a = c .before .before .before .before .before .before .before .before .before .before .args in
+    let else1 : tie.Else1 = search in
+    let after-reach : tie.After-reach = search in
+    let after-number : tie.After-number = search in
+    let after-relative-decode : tie.After-relative-decode = search in
+    let start : tie.Start = search in
+    let a = start .args in
     let s = drop (a .start) (now (a .message)) in
-    let e = sym (c .before .before .before .before .before .before .before .before .relative-decode .ensures) ∙ ap numberAnswer (c .before .before .before .before .before .before .number .given .1) in
-    sym (included-told (a .canonic) (a .range) (a .added) (a .tag) s _ _ e (omega (arith, c .before .before .before .before .reach .ensures, c .before .before .before .if1 .left)) false (rw (c .before .before .time-at .ensures) at (sym (c .before .is-included .ensures) ∙ not-true _ (c .if2 .taken))))
+    let e = sym (after-relative-decode .relative-decode .ensures) ∙ ap numberAnswer (after-number .number .given .1) in
+    sym (included-told (a .canonic) (a .range) (a .added) (a .tag) s _ _ e (omega (arith, after-reach .reach .ensures, else1 .if1 .left)) false (rw (c .before .before .time-at .ensures) at (sym (c .before .is-included .ensures) ∙ not-true _ (c .if2 .taken))))
 
 returns-4 : tie.Need-returns-4
 returns-4 c =
-    let a = c .before .before .before .before .before .before .before .before .before .before .args in
+    let else1 : tie.Else1 = search in
+    let after-reach : tie.After-reach = search in
+    let after-number : tie.After-number = search in
+    let after-relative-decode : tie.After-relative-decode = search in
+    let start : tie.Start = search in
+    let a = start .args in
     let s = drop (a .start) (now (a .message)) in
-    let e = sym (c .before .before .before .before .before .before .before .before .relative-decode .ensures) ∙ ap numberAnswer (c .before .before .before .before .before .before .number .given .1) in
-    rw (c .before .before .time-at .ensures) (sym (included-told (a .canonic) (a .range) (a .added) (a .tag) s _ _ e (omega (arith, c .before .before .before .before .reach .ensures, c .before .before .before .if1 .left)) true (rw (c .before .before .time-at .ensures) at (sym (c .before .is-included .ensures) ∙ not-false _ (c .if2 .left)))))
+    let e = sym (after-relative-decode .relative-decode .ensures) ∙ ap numberAnswer (after-number .number .given .1) in
+    rw (c .before .before .time-at .ensures) (sym (included-told (a .canonic) (a .range) (a .added) (a .tag) s _ _ e (omega (arith, after-reach .reach .ensures, else1 .if1 .left)) true (rw (c .before .before .time-at .ensures) at (sym (c .before .is-included .ensures) ∙ not-false _ (c .if2 .left)))))
 
 pub decode-included-spec : {M : Type 1} → statement M
 decode-included-spec =

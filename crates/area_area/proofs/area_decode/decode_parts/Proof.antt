@@ -29,30 +29,45 @@ reference s = areaWith (s .args .of-subspace) (pathOf (now (s .args .of-bytes)) 
 
 subspace-is : (c : tie.After-known-told) → let a = c .before .before .before .before .before .before .before .args in
     mapped subspaceFrom (readSubspace (a .canonic) (subspaceOf (a .of-subspace)) (a .header .«id_written»)) (now (a .message)) ≡ accepted (c .before .before .before .decode-subspace .result .subspace) (c .before .first-answer .given .0 .0)
-subspace-is c = sym (c .before .before .before .decode-subspace .ensures) ∙ ap (λ (d : Decoded). answerOf d (c .before .before .before .decode-subspace .result .subspace)) (c .before .first-answer .given .1)
+subspace-is c =
+    let after-decode-subspace : tie.After-decode-subspace = search in
+    sym (after-decode-subspace .decode-subspace .ensures) ∙ ap (λ (d : Decoded). answerOf d (after-decode-subspace .decode-subspace .result .subspace)) (c .before .first-answer .given .1)
 
 subspace-inside : (c : tie.After-known-told) → c .before .first-answer .given .0 .0 ≤ length (now (c .before .before .before .before .before .before .before .args .message))
 subspace-inside c =
-    let a = c .before .before .before .before .before .before .before .args in
+    let start : tie.Start = search in
+    let a = start .args in
     mapped-bounded subspaceFrom _ (subspace-bounded (subspaceOf (a .of-subspace)) (a .header .«id_written») (a .canonic)) .bound (now (a .message)) _ _ (subspace-is c)
 
 times-told : (c : tie.After-relative-decode) → let a = c .before .before .before .before .before .before .before .before .before .args in
     answerOf (c .relative-decode .result .answer) (c .relative-decode .result .times) ≡ readTimes (a .canonic) (a .of-times) (a .header) (drop (c .before .before .before .first-answer .given .0 .0) (now (a .message)))
-times-told c = rw (to-end (c .before .before .before .first-answer .given .0 .0) (now (c .before .before .before .before .before .before .before .before .before .args .message))) at (c .relative-decode .ensures .answer)
+times-told c =
+    let after-first-answer : tie.After-first-answer = search in
+    let start : tie.Start = search in
+    rw (to-end (after-first-answer .first-answer .given .0 .0) (now (start .args .message))) at (c .relative-decode .ensures .answer)
 
 times-are : (c : tie.After-known-told2) → let a = c .before .before .before .before .before .before .before .before .before .before .before .before .args in
     readTimes (a .canonic) (a .of-times) (a .header) (drop (c .before .before .before .before .before .before .first-answer .given .0 .0) (now (a .message))) ≡ accepted (c .before .before .before .relative-decode .result .times) (c .before .second-answer .given .0 .0)
-times-are c = sym (times-told (c .before .before .before)) ∙ ap (λ (d : Decoded). answerOf d (c .before .before .before .relative-decode .result .times)) (c .before .second-answer .given .1)
+times-are c =
+    let after-relative-decode : tie.After-relative-decode = search in
+    sym (times-told after-relative-decode) ∙ ap (λ (d : Decoded). answerOf d (after-relative-decode .relative-decode .result .times)) (c .before .second-answer .given .1)
 
 times-inside : (c : tie.After-known-told2) → c .before .before .before .before .before .before .first-answer .given .0 .0 + c .before .second-answer .given .0 .0 ≤ length (now (c .before .before .before .before .before .before .before .before .before .before .before .before .args .message))
 times-inside c =
-    let a = c .before .before .before .before .before .before .before .before .before .before .before .before .args in
-    let n = c .before .before .before .before .before .before .first-answer .given .0 .0 in
-    omega (arith, subspace-inside (c .before .before .before .before .before), times-bounded (a .of-times) (a .header) (a .canonic) .bound (drop n (now (a .message))) _ _ (times-are c), length-drop n (now (a .message)))
+    let after-known-told : tie.After-known-told = search in
+    let after-first-answer : tie.After-first-answer = search in
+    let start : tie.Start = search in
+    let a = start .args in
+    let n = after-first-answer .first-answer .given .0 .0 in
+    omega (arith, subspace-inside after-known-told, times-bounded (a .of-times) (a .header) (a .canonic) .bound (drop n (now (a .message))) _ _ (times-are c), length-drop n (now (a .message)))
 
 path-told : (c : tie.After-decode-path-extends-path) → let s = c .before .before .before .before .before .before .before .before .before .before .before .before .before .before in let at = c .before .before .before .before .before .before .before .before .first-answer .given .0 .0 + c .before .before .before .second-answer .given .0 .0 in
     answerOf (c .decode-path-extends-path .result .answer) (c .decode-path-extends-path .result .path) ≡ readExtendsPath (s .args .canonic) (reference s .path) (drop at (now (s .args .message)))
-path-told c = rw (to-end (c .before .before .before .before .before .before .before .before .first-answer .given .0 .0 + c .before .before .before .second-answer .given .0 .0) (now (c .before .before .before .before .before .before .before .before .before .before .before .before .before .before .args .message))) at (c .decode-path-extends-path .ensures .answer)
+path-told c =
+    let after-second-answer : tie.After-second-answer = search in
+    let after-first-answer : tie.After-first-answer = search in
+    let start : tie.Start = search in
+    rw (to-end (after-first-answer .first-answer .given .0 .0 + after-second-answer .second-answer .given .0 .0) (now (start .args .message))) at (c .decode-path-extends-path .ensures .answer)
 
 abbrev read-area : tie.After-times → Area
 read-area c = areaWith (c .before .before .before .before .before .before .before .before .before .before .before .before .before .before .before .before .decode-subspace .result .subspace) (c .before .before .before .before .before .before .decode-path-extends-path .result .path) (c .before .before .before .before .before .before .before .before .before .before .before .relative-decode .result .times)
@@ -61,20 +76,26 @@ area-is : (c : tie.After-times) → let s = c .before .before .before .before .b
     readPartsOf (s .args .canonic) (reference s) (s .args .header) (now (s .args .message))
     ≡ accepted (read-area c) (c .before .before .before .before .before .before .before .before .before .before .before .before .before .before .first-answer .given .0 .0 + (c .before .before .before .before .before .before .before .before .before .second-answer .given .0 .0 + c .before .before .before .before .third-answer .given .0 .0))
 area-is c =
-    let s = c .before .before .before .before .before .before .before .before .before .before .before .before .before .before .before .before .before .before .before .before in
-    parts-read (s .args .canonic) (reference s) (s .args .header) (now (s .args .message)) _ _ (subspace-is (c .before .before .before .before .before .before .before .before .before .before .before .before .before)) _ _ (times-are (c .before .before .before .before .before .before .before .before)) _ _ (sym (path-told (c .before .before .before .before .before .before)) ∙ ap (λ (d : Decoded). answerOf d (c .before .before .before .before .before .before .decode-path-extends-path .result .path)) (c .before .before .before .before .third-answer .given .1))
+    let after-third-answer : tie.After-third-answer = search in
+    let after-decode-path-extends-path : tie.After-decode-path-extends-path = search in
+    let after-known-told2 : tie.After-known-told2 = search in
+    let after-known-told : tie.After-known-told = search in
+    let s : tie.Start = search in
+    parts-read (s .args .canonic) (reference s) (s .args .header) (now (s .args .message)) _ _ (subspace-is after-known-told) _ _ (times-are after-known-told2) _ _ (sym (path-told after-decode-path-extends-path) ∙ ap (λ (d : Decoded). answerOf d (after-decode-path-extends-path .decode-path-extends-path .result .path)) (after-third-answer .third-answer .given .1))
 
 inside : (c : tie.After-times) → c .before .before .before .before .before .before .before .before .before .before .before .before .before .before .first-answer .given .0 .0 + (c .before .before .before .before .before .before .before .before .before .second-answer .given .0 .0 + c .before .before .before .before .third-answer .given .0 .0) ≤ length (now (c .before .before .before .before .before .before .before .before .before .before .before .before .before .before .before .before .before .before .before .before .args .message))
 inside c =
-    let s = c .before .before .before .before .before .before .before .before .before .before .before .before .before .before .before .before .before .before .before .before in
+    let s : tie.Start = search in
     parts-inside (s .args .canonic) (reference s) (s .args .header) (now (s .args .message)) _ _ (area-is c)
 
 decode-subspace-requires : tie.Need-decode-subspace-requires
-decode-subspace-requires c κs = c .before .before .before .pre .0
+decode-subspace-requires c κs =
+    let start : tie.Start = search in
+    start .pre .0
 
 returns : tie.Need-returns
 returns c =
-    let s = c .before .before .before .before .before .before in
+    let s : tie.Start = search in
     let x = no-value (c .before .before .decode-subspace .result .answer) (c .before .match .keys2) in
     let e = sym (c .before .before .decode-subspace .ensures) ∙ x .beside _ in
     rw (c .refuse-early .ensures) (gives-early (reference s .path) _ (x .why) _ (x .beside _) (λ w. rw (parts-malformed (s .args .canonic) (reference s) (s .args .header) (now (s .args .message)) w)) (λ w. rw (parts-subspace (s .args .canonic) (reference s) (s .args .header) (now (s .args .message)) (x .why) e w)))
@@ -87,9 +108,10 @@ part-relative-decode-start c = omega (arith, subspace-inside c)
 
 returns-2 : tie.Need-returns-2
 returns-2 c =
-    let s = c .before .before .before .before .before .before .before .before .before .before .before in
+    let after-known-told : tie.After-known-told = search in
+    let s : tie.Start = search in
     let x = no-value (c .before .before .relative-decode .result .answer) (c .before .match2 .keys2) in
-    rw (c .refuse-early2 .ensures) (gives-early (reference s .path) _ (x .why) _ (x .beside _) (λ w. rw (parts-malformed (s .args .canonic) (reference s) (s .args .header) (now (s .args .message)) w)) (λ w. rw (parts-times (s .args .canonic) (reference s) (s .args .header) (now (s .args .message)) _ _ (subspace-is (c .before .before .before .before)) (x .why) (sym (times-told (c .before .before)) ∙ x .beside _) w)))
+    rw (c .refuse-early2 .ensures) (gives-early (reference s .path) _ (x .why) _ (x .beside _) (λ w. rw (parts-malformed (s .args .canonic) (reference s) (s .args .header) (now (s .args .message)) w)) (λ w. rw (parts-times (s .args .canonic) (reference s) (s .args .header) (now (s .args .message)) _ _ (subspace-is after-known-told) (x .why) (sym (times-told (c .before .before)) ∙ x .beside _) w)))
 
 add-at : tie.Need-add-at
 add-at c = omega (arith, times-inside c)
@@ -103,18 +125,26 @@ part-decode-path-extends-path-start c = omega (arith, times-inside c)
 returns-3 : tie.Need-returns-3
 unfolding refusal
 returns-3 c =
-    let s = c .before .before .before .before .before .before .before .before .before .before .before .before .before .before .before .before in
+    let after-known-told2 : tie.After-known-told2 = search in
+    let after-known-told : tie.After-known-told = search in
+    let s : tie.Start = search in
     let x = no-value (c .before .before .decode-path-extends-path .result .answer) (c .before .match3 .keys2) in
-    rw (c .refuse .ensures) (gives-refused (x .why) (x .beside _) (rw (parts-path (s .args .canonic) (reference s) (s .args .header) (now (s .args .message)) _ _ (subspace-is (c .before .before .before .before .before .before .before .before .before)) _ _ (times-are (c .before .before .before .before)) (x .why) (sym (path-told (c .before .before)) ∙ x .beside _))))
+    rw (c .refuse .ensures) (gives-refused (x .why) (x .beside _) (rw (parts-path (s .args .canonic) (reference s) (s .args .header) (now (s .args .message)) _ _ (subspace-is after-known-told) _ _ (times-are after-known-told2) (x .why) (sym (path-told (c .before .before)) ∙ x .beside _))))
 
 add-t23 : tie.Need-add-t23
-add-t23 c = omega (arith, inside c, c .before .before .before .before .before .before .before .before .before .before .before .before .before .before .before .before .before .before .before .before .pre .1)
+add-t23 c =
+    let start : tie.Start = search in
+    omega (arith, inside c, start .pre .1)
 
 add-t29 : tie.Need-add-t29
-add-t29 c = omega (arith, inside c, c .before .before .before .before .before .before .before .before .before .before .before .before .before .before .before .before .before .before .before .before .pre .1)
+add-t29 c =
+    let start : tie.Start = search in
+    omega (arith, inside c, start .pre .1)
 
 add-t30 : tie.Need-add-t30
-add-t30 c = omega (arith, inside c, c .before .before .before .before .before .before .before .before .before .before .before .before .before .before .before .before .before .before .before .before .pre .1)
+add-t30 c =
+    let start : tie.Start = search in
+    omega (arith, inside c, start .pre .1)
 
 returns-4 : tie.Need-returns-4
 returns-4 c = gives-accepted (ap (shift 1) (area-is c))

@@ -38,26 +38,39 @@ unspared c k =
 
 returns : tie.Need-returns
 unfolding refusal
-returns c = rw (c .refuse .ensures) (gives-refused 5 refl (no-subspace _ (reference (c .before .before .before .before .before .before)) _ (sym (c .before .before .well-formed .ensures) ∙ not-true _ (c .before .if1 .taken))))
+returns c =
+    let start : tie.Start = search in
+    rw (c .refuse .ensures) (gives-refused 5 refl (no-subspace _ (reference start) _ (sym (c .before .before .well-formed .ensures) ∙ not-true _ (c .before .if1 .taken))))
 
 returns-2 : tie.Need-returns-2
 returns-2 c =
-    let s = c .before .before .before .before .before .before .before in
+    let s : tie.Start = search in
     rw (c .refuse-early .ensures) (gives-early (reference s .path) _ 1 _ refl (no-path (s .args .canonic) (reference s) (well (c .before .before)) (now (s .args .message)) (s .args .start)) (area-none (s .args .canonic) (reference s) (well (c .before .before)) (now (s .args .message)) (s .args .start) (omega (arith, c .before .if2 .taken))))
 
 returns-3 : tie.Need-returns-3
 returns-3 c =
-    let s = c .before .before .before .before .before .before .before .before .before .before .before .before in
-    let k = well (c .before .before .before .before .before .before .before) in
-    rw (c .refuse-early2 .ensures) (gives-early (reference s .path) _ 2 _ refl (no-path (s .args .canonic) (reference s) k (now (s .args .message)) (s .args .start)) (area-spare (s .args .canonic) (reference s) k (now (s .args .message)) (s .args .start) (omega (arith, c .before .before .before .before .before .before .if2 .left)) (c .before .before .before .if3 .taken) (rw (c .before .before .before .before .unpack .ensures) at (sym (c .before .before .spare-bits .ensures) ∙ c .before .if4 .taken))))
+    let then3 : tie.Then3 = search in
+    let after-unpack : tie.After-unpack = search in
+    let else2 : tie.Else2 = search in
+    let else1 : tie.Else1 = search in
+    let s : tie.Start = search in
+    let k = well else1 in
+    rw (c .refuse-early2 .ensures) (gives-early (reference s .path) _ 2 _ refl (no-path (s .args .canonic) (reference s) k (now (s .args .message)) (s .args .start)) (area-spare (s .args .canonic) (reference s) k (now (s .args .message)) (s .args .start) (omega (arith, else2 .if2 .left)) (then3 .if3 .taken) (rw (after-unpack .unpack .ensures) at (sym (c .before .before .spare-bits .ensures) ∙ c .before .if4 .taken))))
 
 decode-parts-requires : tie.Need-decode-parts-requires
-decode-parts-requires c κs = let a = c .before .before .before .before .before .before .before .before .before .before .args in (well (c .before .before .before .before .before), rw (to-end (a .start + 1) (now (a .message))) (omega (arith, length-drop (a .start + 1) (now (a .message)), c .before .before .before .before .if2 .left)))
+decode-parts-requires c κs =
+    let else2 : tie.Else2 = search in
+    let else1 : tie.Else1 = search in
+    let start : tie.Start = search in
+    let a = start .args in (well else1, rw (to-end (a .start + 1) (now (a .message))) (omega (arith, length-drop (a .start + 1) (now (a .message)), else2 .if2 .left)))
 
 returns-4 : tie.Need-returns-4
 returns-4 c =
-    let s = c .before .before .before .before .before .before .before .before .before .before .before in
-    rw (area-parts (s .args .canonic) (reference s) (well (c .before .before .before .before .before .before)) (now (s .args .message)) (s .args .start) (omega (arith, c .before .before .before .before .before .if2 .left)) (unspared (c .before .before))) (rw (c .before .before .before .unpack .ensures, to-end (s .args .start + 1) (now (s .args .message))) at (c .decode-parts .ensures))
+    let after-unpack : tie.After-unpack = search in
+    let else2 : tie.Else2 = search in
+    let else1 : tie.Else1 = search in
+    let s : tie.Start = search in
+    rw (area-parts (s .args .canonic) (reference s) (well else1) (now (s .args .message)) (s .args .start) (omega (arith, else2 .if2 .left)) (unspared (c .before .before))) (rw (after-unpack .unpack .ensures, to-end (s .args .start + 1) (now (s .args .message))) at (c .decode-parts .ensures))
 
 pub relative-decode-spec : {M : Type 1} → statement M
 relative-decode-spec =

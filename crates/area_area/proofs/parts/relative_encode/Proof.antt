@@ -22,15 +22,21 @@ abbrev reference : tie.Start → Area
 reference c = areaWith (c .args .of-subspace) (pathOf (now (c .args .of-bytes)) (now (c .args .of-lengths)) (c .args .of-count)) (c .args .of-times)
 
 allows : (c : tie.After-enum-told) → let s = c .before .before .before .before .before .before .before .before in againstArea (reference s) .check (area s) ≡ allowed
-allows c = let s = c .before .before .before .before .before .before .before .before in contained (reference s) (area s) (sym (c .before .before .contains .ensures) ∙ c .enum-told .given .1)
+allows c =
+    let s : tie.Start = search in
+    contained (reference s) (area s) (sym (c .before .before .contains .ensures) ∙ c .enum-told .given .1)
 
 -- what the suffix was answered
 answer-of : (c : tie.After-known-told) → let s = c .before .before .before .before .before .before .before .before .before .before .before .before .before .before .before .before .before in writeAnswer (suffixFrom (s .args .of-count)) (area s .path) (length (drop (c .before .before .before .before .before .before .before .before .head-len .result) (now (s .args .buffer)))) ≡ wrote (c .before .suffix .given .0 .0)
-answer-of c = sym (rw (to-end (c .before .before .before .before .before .before .before .before .head-len .result) (now (c .before .before .before .before .before .before .before .before .before .before .before .before .before .before .before .before .before .args .buffer))) at (c .before .before .before .before .before .encode-suffix .ensures .0)) ∙ ap outcomeOf (c .before .suffix .given .1)
+answer-of c =
+    let after-encode-suffix : tie.After-encode-suffix = search in
+    let after-head-len : tie.After-head-len = search in
+    let start : tie.Start = search in
+    sym (rw (to-end (after-head-len .head-len .result) (now (start .args .buffer))) at (after-encode-suffix .encode-suffix .ensures .0)) ∙ ap outcomeOf (c .before .suffix .given .1)
 
 returns : tie.Need-returns
 returns c =
-    let s = c .before .before .before .before .before .before .before .before .before .before in
+    let s : tie.Start = search in
     area-full (reference s) (area s) (allows (c .before .before)) _ (c .before .head-len .ensures .0) (now (s .args .buffer)) (omega (arith, c .if1 .taken))
 
 returns-2 : tie.Need-returns-2
@@ -47,9 +53,12 @@ returns-2 c =
 
 add-t17 : tie.Need-add-t17
 add-t17 c =
-    let s = c .before .before .before .before .before .before .before .before .before .before .before .before .before .before .before .before .before .before .before .before .before in
+    let after-known-told : tie.After-known-told = search in
+    let after-head-len : tie.After-head-len = search in
+    let after-enum-told : tie.After-enum-told = search in
+    let s : tie.Start = search in
     let f = suffixFrom (s .args .of-count) in
-    omega (arith, put-wrote (f .check (area s .path)) (f .encode (area s .path)) _ _ (answer-of (c .before .before .before .before)) .long, suffix-short (reference s) (area s) (allows (c .before .before .before .before .before .before .before .before .before .before .before .before .before)), c .before .before .before .before .before .before .before .before .before .before .before .before .head-len .ensures .1)
+    omega (arith, put-wrote (f .check (area s .path)) (f .encode (area s .path)) _ _ (answer-of after-known-told) .long, suffix-short (reference s) (area s) (allows after-enum-told), after-head-len .head-len .ensures .1)
 
 returns-3 : tie.Need-returns-3
 returns-3 c =
@@ -62,10 +71,14 @@ returns-3 c =
     (done .0, rw (put-end (n .result) l (w .last .0)) at (c .before .before .put-head .ensures) ∙ done .1)
 
 returns-4 : tie.Need-returns-4
-returns-4 c = let s = c .before .before .before .before .before .before .before .before in put-barred (againstArea (reference s) .check (area s)) _ (now (s .args .buffer)) 3 (not-contained (reference s) (area s) (sym (c .before .before .contains .ensures) ∙ c .enum-told2 .given .1))
+returns-4 c =
+    let s : tie.Start = search in
+    put-barred (againstArea (reference s) .check (area s)) _ (now (s .args .buffer)) 3 (not-contained (reference s) (area s) (sym (c .before .before .contains .ensures) ∙ c .enum-told2 .given .1))
 
 returns-5 : tie.Need-returns-5
-returns-5 c = let s = c .before .before .before .before .before .before .before .before in put-barred (againstArea (reference s) .check (area s)) _ (now (s .args .buffer)) 5 (unformed (reference s) (area s) (sym (c .before .before .contains .ensures) ∙ c .enum-told3 .given .1))
+returns-5 c =
+    let s : tie.Start = search in
+    put-barred (againstArea (reference s) .check (area s)) _ (now (s .args .buffer)) 5 (unformed (reference s) (area s) (sym (c .before .before .contains .ensures) ∙ c .enum-told3 .given .1))
 
 pub relative-encode-spec : {M : Type 1} → statement M
 relative-encode-spec =

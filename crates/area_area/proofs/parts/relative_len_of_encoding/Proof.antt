@@ -22,31 +22,44 @@ abbrev reference : tie.Start → Area
 reference c = areaWith (c .args .of-subspace) (pathOf (now (c .args .of-bytes)) (now (c .args .of-lengths)) (c .args .of-count)) (c .args .of-times)
 
 allows : (c : tie.After-enum-told) → let s = c .before .before .before .before .before .before .before in againstArea (reference s) .check (area s) ≡ allowed
-allows c = let s = c .before .before .before .before .before .before .before in contained (reference s) (area s) (sym (c .before .before .contains .ensures) ∙ c .enum-told .given .1)
+allows c =
+    let s : tie.Start = search in
+    contained (reference s) (area s) (sym (c .before .before .contains .ensures) ∙ c .enum-told .given .1)
 
 suffix-is : (c : tie.After-known-told) → let s = c .before .before .before .before .before .before .before .before .before .before .before in c .before .suffix .given .0 .0 ≡ length (suffixFrom (s .args .of-count) .encode (area s .path))
-suffix-is c = let s = c .before .before .before .before .before .before .before .before .before .before .before in length-wrote (suffixFrom (s .args .of-count)) (area s .path) _ (sym (c .before .before .before .suffix-len .ensures) ∙ ap outcomeOf (c .before .suffix .given .1)) .1
+suffix-is c =
+    let after-suffix-len : tie.After-suffix-len = search in
+    let s : tie.Start = search in
+    length-wrote (suffixFrom (s .args .of-count)) (area s .path) _ (sym (after-suffix-len .suffix-len .ensures) ∙ ap outcomeOf (c .before .suffix .given .1)) .1
 
 returns : tie.Need-returns
 returns c =
-    let s = c .before .before .before .before .before .before .before .before .before in
+    let s : tie.Start = search in
     let none = no-length (c .before .suffix-len .result) (c .match2 .keys2) in
     absurd (length-not-denied (suffixFrom (s .args .of-count)) (area s .path) (none .why) (suffix-allowed (reference s) (area s) (allows (c .before .before))) (sym (c .before .suffix-len .ensures) ∙ none .is))
 
 add-t16 : tie.Need-add-t16
-add-t16 c = let s = c .before .before .before .before .before .before .before .before .before .before .before .before in omega (arith, suffix-is (c .before), suffix-short (reference s) (area s) (allows (c .before .before .before .before .before)), c .head-len .ensures .1)
+add-t16 c =
+    let after-enum-told : tie.After-enum-told = search in
+    let s : tie.Start = search in
+    omega (arith, suffix-is (c .before), suffix-short (reference s) (area s) (allows after-enum-told), c .head-len .ensures .1)
 
 returns-2 : tie.Need-returns-2
 returns-2 c =
-    let s = c .before .before .before .before .before .before .before .before .before .before .before .before in
-    let ok = allows (c .before .before .before .before .before) in
+    let after-enum-told : tie.After-enum-told = search in
+    let s : tie.Start = search in
+    let ok = allows after-enum-told in
     length-allowed (againstArea (reference s)) (area s) _ ok (area-long (reference s) (area s) ok _ (c .head-len .ensures .0) _ (suffix-is (c .before)))
 
 returns-3 : tie.Need-returns-3
-returns-3 c = let s = c .before .before .before .before .before .before .before in length-barred (againstArea (reference s)) (area s) 3 (not-contained (reference s) (area s) (sym (c .before .before .contains .ensures) ∙ c .enum-told2 .given .1))
+returns-3 c =
+    let s : tie.Start = search in
+    length-barred (againstArea (reference s)) (area s) 3 (not-contained (reference s) (area s) (sym (c .before .before .contains .ensures) ∙ c .enum-told2 .given .1))
 
 returns-4 : tie.Need-returns-4
-returns-4 c = let s = c .before .before .before .before .before .before .before in length-barred (againstArea (reference s)) (area s) 5 (unformed (reference s) (area s) (sym (c .before .before .contains .ensures) ∙ c .enum-told3 .given .1))
+returns-4 c =
+    let s : tie.Start = search in
+    length-barred (againstArea (reference s)) (area s) 5 (unformed (reference s) (area s) (sym (c .before .before .contains .ensures) ∙ c .enum-told3 .given .1))
 
 pub relative-len-of-encoding-spec : {M : Type 1} → statement M
 relative-len-of-encoding-spec =

@@ -14,26 +14,39 @@ abbrev μ-loop : tie.MeasureT-loop
 μ-loop field lengths₀ i₀ lengths i = 20 - i
 
 returns : tie.Need-returns Inv-loop μ-loop
-returns c = lengths-few (now (c .before .before .before .args .field)) (c .before .part-count .ensures) (c .if1 .taken)
+returns c =
+    let start : tie.Start Inv-loop μ-loop = search in
+    lengths-few (now (start .args .field)) (c .before .part-count .ensures) (c .if1 .taken)
 
 loop-holds : tie.Need-loop-holds Inv-loop μ-loop
 loop-holds c = (omega arith, record { counted = sym (c .before .part-count .ensures) ∙ c .if1 .left; room = refl; good = refl; values = refl })
 
 returns-2 : tie.Need-returns-2 Inv-loop μ-loop
 returns-2 c =
-    let field = now (c .before .before .before .before .before .before .before .before .before .args .field) in
-    lengths-refused field (c .before .before .before .before .before .loop .inv .1) (omega arith) (number-said field (c .before .before .before .before .before .loop .i) (c .before .before .before .part .ensures) (c .before .before .read-decimal .ensures) (c .enum-told .given .1))
+    let after-part : tie.After-part Inv-loop μ-loop = search in
+    let at-loop : tie.At-loop Inv-loop μ-loop = search in
+    let start : tie.Start Inv-loop μ-loop = search in
+    let field = now (start .args .field) in
+    lengths-refused field (at-loop .loop .inv .1) (omega arith) (number-said field (at-loop .loop .i) (after-part .part .ensures) (c .before .before .read-decimal .ensures) (c .enum-told .given .1))
 
 array-write-lengths : tie.Need-array-write-lengths Inv-loop μ-loop
-array-write-lengths c = omega (arith, c .before .before .before .before .before .before .loop .inv .1 .room)
+array-write-lengths c =
+    let at-loop : tie.At-loop Inv-loop μ-loop = search in
+    omega (arith, at-loop .loop .inv .1 .room)
 
 loop-again : tie.Need-loop-again Inv-loop μ-loop
 loop-again c =
-    let field = now (c .before .before .before .before .before .before .before .before .before .before .args .field) in
-    (omega arith, lengths-next field (c .before .before .before .before .before .before .loop .inv .1) (c .before .number .given .0 .0) (omega arith) (number-said field (c .before .before .before .before .before .before .loop .i) (c .before .before .before .before .part .ensures) (c .before .before .before .read-decimal .ensures) (c .before .number .given .1)))
+    let after-read-decimal : tie.After-read-decimal Inv-loop μ-loop = search in
+    let after-part : tie.After-part Inv-loop μ-loop = search in
+    let at-loop : tie.At-loop Inv-loop μ-loop = search in
+    let start : tie.Start Inv-loop μ-loop = search in
+    let field = now (start .args .field) in
+    (omega arith, lengths-next field (at-loop .loop .inv .1) (c .before .number .given .0 .0) (omega arith) (number-said field (at-loop .loop .i) (after-part .part .ensures) (after-read-decimal .read-decimal .ensures) (c .before .number .given .1)))
 
 returns-3 : tie.Need-returns-3 Inv-loop μ-loop
-returns-3 c = lengths-all (now (c .before .before .before .before .before .args .field)) (c .before .loop .inv .1) (omega arith)
+returns-3 c =
+    let start : tie.Start Inv-loop μ-loop = search in
+    lengths-all (now (start .args .field)) (c .before .loop .inv .1) (omega arith)
 
 pub read-lengths-spec : {M : Type 1} → statement M
 read-lengths-spec =

@@ -8,16 +8,22 @@ use Rattle.case_text.proofs.fields.hex.Tie as tie
 
 returns : tie.Need-returns
 returns c =
-    let a = c .before .before .before .before .before .before .before .before .args in
-    let read = c .before .before .before .read-hex in
-    let e = rw (c .before .before .before .before .before .part .ensures) at (read .ensures .0) in
+    let after-read-hex : tie.After-read-hex = search in
+    let after-part : tie.After-part = search in
+    let start : tie.Start = search in
+    let a = start .args in
+    let read = after-read-hex .read-hex in
+    let e = rw (after-part .part .ensures) at (read .ensures .0) in
     hex-left (a .i) (now (a .line)) (now (a .buffer)) (read .result) e (c .match .keys2) _
 
 returns-2 : tie.Need-returns-2
 returns-2 c =
-    let a = c .before .before .before .before .before .before .before .before .before .before .args in
-    let part = c .before .before .before .before .before .before .before .part .ensures in
-    let read = c .before .before .before .before .before .read-hex .ensures in
+    let after-read-hex : tie.After-read-hex = search in
+    let after-part : tie.After-part = search in
+    let start : tie.Start = search in
+    let a = start .args in
+    let part = after-part .part .ensures in
+    let read = after-read-hex .read-hex .ensures in
     let told = c .before .read .given in
     hex-taken (a .i) (now (a .line)) (now (a .buffer)) (told .0 .0) (sym (told .1) ∙ rw part at (read .0)) _ (rw part at (read .1)) (omega arith)
 

@@ -8,7 +8,9 @@ returns : tie.Need-returns
 returns c = within-full (omega arith)
 
 returns-2 : tie.Need-returns-2
-returns-2 c = within-fits (puts-then (omega arith) (c .before .before .before .before .before .before .outcome .ensures .0) (c .before .before .end .ensures)) (omega arith)
+returns-2 c =
+    let after-outcome : tie.After-outcome = search in
+    within-fits (puts-then (omega arith) (after-outcome .outcome .ensures .0) (c .before .before .end .ensures)) (omega arith)
 
 pub length-spec : {M : Type 1} → statement M
 length-spec =

@@ -7,7 +7,9 @@ use Rattle.case_text.proofs.put.no.Tie as tie
 
 returns : tie.Need-returns
 unfolding noText
-returns c = puts-then (omega arith) (c .before .before .before .before .before .before .worded .ensures .0) (c .before .before .end .ensures)
+returns c =
+    let after-worded : tie.After-worded = search in
+    puts-then (omega arith) (after-worded .worded .ensures .0) (c .before .before .end .ensures)
 
 pub no-spec : {M : Type 1} → statement M
 no-spec = tie.close (tie.spec (λ c. search needs) (λ c κs. search needs) (λ c κs. search needs) (λ c. search needs) returns)

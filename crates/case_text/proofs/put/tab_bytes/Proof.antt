@@ -11,18 +11,20 @@ use Rattle.case_text.proofs.put.tab_bytes.Tie as tie
 
 returns : tie.Need-returns
 returns c =
-    let s = c .before .before .before .before .before .before .before .before .before .before .before .before in
+    let after-put-bytes : tie.After-put-bytes = search in
+    let s : tie.Start = search in
     let l = now (s .args .bytes) in
-    rw (take-all (s .args .n) l (omega arith)) (puts-two (9 ∷ []) l 8192 (s .pre .1) (s .pre .0) (c .before .before .before .before .before .before .before .put-bytes .ensures) (c .before .before .put-bytes2 .ensures))
+    rw (take-all (s .args .n) l (omega arith)) (puts-two (9 ∷ []) l 8192 (s .pre .1) (s .pre .0) (after-put-bytes .put-bytes .ensures) (c .before .before .put-bytes2 .ensures))
 
 slice-aggregate-put-bytes-2 : tie.Need-slice-aggregate-put-bytes-2
 slice-aggregate-put-bytes-2 c = sym (length-take-le _ _ (omega arith))
 
 returns-2 : tie.Need-returns-2
 returns-2 c =
-    let s = c .before .before .before .before .before .before .before .before .before .before .before .before .before in
+    let after-put-bytes : tie.After-put-bytes = search in
+    let s : tie.Start = search in
     let l = now (s .args .bytes) in
-    puts-two (9 ∷ []) (take (s .args .n) l) 8192 (omega (arith, length-take-le (s .args .n) l (omega arith), s .pre .1)) (s .pre .0) (c .before .before .before .before .before .before .before .before .put-bytes .ensures) (c .before .before .put-bytes3 .ensures)
+    puts-two (9 ∷ []) (take (s .args .n) l) 8192 (omega (arith, length-take-le (s .args .n) l (omega arith), s .pre .1)) (s .pre .0) (after-put-bytes .put-bytes .ensures) (c .before .before .put-bytes3 .ensures)
 
 pub tab-bytes-spec : {M : Type 1} → statement M
 tab-bytes-spec =

@@ -13,21 +13,23 @@ use Rattle.case_text.proofs.put.tab_hex.Tie as tie
 
 returns : tie.Need-returns
 returns c =
-    let s = c .before .before .before .before .before .before .before .before .before .before .before .before in
+    let after-put-bytes : tie.After-put-bytes = search in
+    let s : tie.Start = search in
     let l = now (s .args .buffer) in
     rw (take-all (s .args .n) l (omega arith))
-    (puts-two (9 ∷ []) (hexText l) 16384 (omega (arith, hexText-long l)) (s .pre .0) (c .before .before .before .before .before .before .before .put-bytes .ensures) (c .before .before .put-hex .ensures))
+    (puts-two (9 ∷ []) (hexText l) 16384 (omega (arith, hexText-long l)) (s .pre .0) (after-put-bytes .put-bytes .ensures) (c .before .before .put-hex .ensures))
 
 slice-aggregate-put-hex : tie.Need-slice-aggregate-put-hex
 slice-aggregate-put-hex c = sym (length-take-le _ _ (omega arith))
 
 returns-2 : tie.Need-returns-2
 returns-2 c =
-    let s = c .before .before .before .before .before .before .before .before .before .before .before .before .before in
+    let after-put-bytes : tie.After-put-bytes = search in
+    let s : tie.Start = search in
     let l = now (s .args .buffer) in
     let bs = take (s .args .n) l in
     let few = length-take-le (s .args .n) l (omega arith) in
-    puts-two (9 ∷ []) (hexText bs) 16384 (omega (arith, hexText-long bs, few)) (s .pre .0) (c .before .before .before .before .before .before .before .before .put-bytes .ensures) (c .before .before .put-hex2 .ensures)
+    puts-two (9 ∷ []) (hexText bs) 16384 (omega (arith, hexText-long bs, few)) (s .pre .0) (after-put-bytes .put-bytes .ensures) (c .before .before .put-hex2 .ensures)
 
 pub tab-hex-spec : {M : Type 1} → statement M
 tab-hex-spec =

@@ -9,8 +9,10 @@ returns c = within-full (omega arith)
 
 returns-2 : tie.Need-returns-2
 returns-2 c =
-    let answer = c .before .before .before .before .before .before .before .before .before .before .before .outcome .ensures .0 in
-    let hex = c .before .before .before .before .before .before .tab-hex .ensures .0 in
+    let after-tab-hex : tie.After-tab-hex = search in
+    let after-outcome : tie.After-outcome = search in
+    let answer = after-outcome .outcome .ensures .0 in
+    let hex = after-tab-hex .tab-hex .ensures .0 in
     within-fits (puts-then (omega arith) (puts-then (omega arith) answer hex) (c .before .before .end .ensures)) (omega arith)
 
 pub written-spec : {M : Type 1} → statement M

@@ -9,8 +9,10 @@ use Rattle.case_text.proofs.put.written_number.Tie as tie
 
 returns : tie.Need-returns
 returns c =
-    let a = c .before .before .before .before .before .before .args in
-    rw (← (refused-number (a .answer) (a .tag) (take (a .n) (now (a .buffer))) (c .before .before .before .before .match .keys2))) (c .before .before .written .ensures)
+    let at-match-keys2 : tie.At-match-keys2 = search in
+    let start : tie.Start = search in
+    let a = start .args in
+    rw (← (refused-number (a .answer) (a .tag) (take (a .n) (now (a .buffer))) (at-match-keys2 .match .keys2))) (c .before .before .written .ensures)
 
 returns-2 : tie.Need-returns-2
 returns-2 c = within-full (omega arith)
@@ -18,10 +20,13 @@ returns-2 c = within-full (omega arith)
 returns-3 : tie.Need-returns-3
 unfolding okText
 returns-3 c =
-    let ok = c .before .before .before .before .before .before .before .before .before .before .before .before .before .before .before .before in
-    let tag = c .before .before .before .before .before .before .before .before .before .before .before .worded2 .ensures .0 in
-    let hex = c .before .before .before .before .before .before .tab-hex .ensures .0 in
-    rw (c .before .before .before .before .before .before .before .before .before .before .before .before .before .before .before .before .before .before .before .before .before .before .before .answer .given .1)
+    let after-tab-hex : tie.After-tab-hex = search in
+    let after-worded2 : tie.After-worded2 = search in
+    let ok : tie.After-worded = search in
+    let after-answer : tie.After-answer = search in
+    let tag = after-worded2 .worded2 .ensures .0 in
+    let hex = after-tab-hex .tab-hex .ensures .0 in
+    rw (after-answer .answer .given .1)
     (within-fits (puts-then (omega arith) (puts-then (omega arith) (ok .worded .ensures .0) (puts-then (omega arith) tag hex)) (c .before .before .end .ensures)) (omega arith))
 
 pub written-number-spec : {M : Type 1} → statement M

@@ -7,21 +7,26 @@ use Rattle.entry_area.proofs.entry_decode.decode_id.Statement.{statemen
 use Rattle.entry_area.proofs.entry_decode.decode_id.Tie as tie
 
 same : (c : tie.Else1) → c .before .before .before .before .args .subspace .any ≡ c .before .before .before .before .args .written
-same c = same-flags (c .before .before .before .before .args .subspace .any) (c .before .before .before .before .args .written) (not-false _ (c .if1 .left))
+same c =
+    let start : tie.Start = search in
+    same-flags (start .args .subspace .any) (start .args .written) (not-false _ (c .if1 .left))
 
 returns : tie.Need-returns
 returns c =
-    let a = c .before .before .before .before .args in
+    let start : tie.Start = search in
+    let a = start .args in
     sym (id-fault (a .subspace) (a .written) (now (a .message)) (not-true _ (c .if1 .taken)))
 
 returns-2 : tie.Need-returns-2
 returns-2 c =
-    let a = c .before .before .before .before .before .args in
+    let start : tie.Start = search in
+    let a = start .args in
     sym (id-kept (a .subspace) (a .written) (now (a .message)) (same (c .before)) (not-true _ (c .if2 .taken)))
 
 returns-3 : tie.Need-returns-3
 returns-3 c =
-    let a = c .before .before .before .before .before .before .args in
+    let start : tie.Start = search in
+    let a = start .args in
     c .decode-id .ensures .answer ∙ sym (id-there (a .subspace) (a .written) (now (a .message)) (same (c .before .before)) (not-false _ (c .before .if2 .left)))
 
 pub decode-id-spec : {M : Type 1} → statement M

@@ -36,29 +36,35 @@ reference s = pathOf (now (s .args .bytes)) (now (s .args .lengths)) (s .args .c
 
 path-told : (c : tie.After-relative-decode) → let s = c .before .before .before .before .before in
     answerOf (c .relative-decode .result .answer) (c .relative-decode .result .path) ≡ readAgainstPath (s .args .canonic) (reference s) (drop (s .args .start) (now (s .args .message)))
-path-told c = rw (to-end (c .before .before .before .before .before .args .start) (now (c .before .before .before .before .before .args .message))) at (c .relative-decode .ensures .answer)
+path-told c =
+    let start : tie.Start = search in
+    rw (to-end (start .args .start) (now (start .args .message))) at (c .relative-decode .ensures .answer)
 
 -- a path was read, and it is well formed
 path-is : (c : tie.After-known-told) → let a = c .before .before .before .before .before .before .before .before .args in
     readAgainstPath (a .canonic) (reference (c .before .before .before .before .before .before .before .before)) (drop (a .start) (now (a .message))) ≡ accepted (c .before .before .before .relative-decode .result .path) (c .before .answer .given .0 .0)
-path-is c = sym (path-told (c .before .before .before)) ∙ ap (λ (d : Decoded). answerOf d (c .before .before .before .relative-decode .result .path)) (c .before .answer .given .1)
+path-is c =
+    let after-relative-decode : tie.After-relative-decode = search in
+    sym (path-told after-relative-decode) ∙ ap (λ (d : Decoded). answerOf d (after-relative-decode .relative-decode .result .path)) (c .before .answer .given .1)
 
 path-in : (c : tie.After-known-told) → c .before .before .before .before .before .before .before .before .args .start + c .before .answer .given .0 .0 ≤ length (now (c .before .before .before .before .before .before .before .before .args .message))
 path-in c =
-    let s = c .before .before .before .before .before .before .before .before in
+    let s : tie.Start = search in
     omega (arith, path-inside (s .args .canonic) (s .args .namespace) (s .args .id) (reference s) (s .args .times) (s .args .header) (drop (s .args .start) (now (s .args .message))) _ _ (path-is c), length-drop (s .args .start) (now (s .args .message)), s .pre .0)
 
 reference-well : (c : tie.After-known-told) → wellFormed (reference (c .before .before .before .before .before .before .before .before)) ≡ true
 reference-well c =
-    let s = c .before .before .before .before .before .before .before .before in
+    let s : tie.Start = search in
     formed (s .args .canonic) (s .args .namespace) (s .args .id) (reference s) (s .args .times) (s .args .header) (drop (s .args .start) (now (s .args .message))) _ _ (path-is c) .0
 
 path-well : (c : tie.After-known-told) → wellFormed (c .before .before .before .relative-decode .result .path) ≡ true
 path-well c =
-    let s = c .before .before .before .before .before .before .before .before in
+    let after-shared-slice-known2 : tie.After-shared-slice-known2 = search in
+    let after-shared-slice-known : tie.After-shared-slice-known = search in
+    let s : tie.Start = search in
     let f = parts-formed (reference-well c) in
-    against-path-yields (reference s) (record { bytes = f .bytes; lengths = f .lengths; small = λ i. omega (arith, c .before .before .before .before .before .before .shared-slice-known2 .given i) }) (reference-well c) (s .args .canonic)
-    .holds (drop (s .args .start) (now (s .args .message))) _ _ (AllBytes·drop (s .args .start) (now (s .args .message)) (λ i. omega (arith, c .before .before .before .before .before .before .before .shared-slice-known .given i))) (path-is c) .1
+    against-path-yields (reference s) (record { bytes = f .bytes; lengths = f .lengths; small = λ i. omega (arith, after-shared-slice-known2 .shared-slice-known2 .given i) }) (reference-well c) (s .args .canonic)
+    .holds (drop (s .args .start) (now (s .args .message))) _ _ (AllBytes·drop (s .args .start) (now (s .args .message)) (λ i. omega (arith, after-shared-slice-known .shared-slice-known .given i))) (path-is c) .1
 
 told : (x : Compared) (t b : Bool) → (t ≡ true → b ≡ true) → x ≡ cond t compared.Yes (verdict b) → x ≡ verdict b
 told x true b f e = rw (f refl) e
@@ -68,7 +74,7 @@ told x false b f e = e
 prefixed : (c : tie.After-is-prefix) → c .is-prefix .result ≡ verdict (isPrefix (componentsOf (reference (c .before .before .before .before .before .before .before .before .before .before .before .before .before .before))) (componentsOf (c .before .before .before .before .before .before .before .before .before .relative-decode .result .path)))
 unfolding prefixOf
 prefixed c =
-    let k = c .before .before .before .before .before .before in
+    let k : tie.After-known-told = search in
     let s = k .before .before .before .before .before .before .before .before in
     told _ _ _ (shared-prefix (s .args .canonic) (s .args .namespace) (s .args .id) (reference s) (s .args .times) (s .args .header) (drop (s .args .start) (now (s .args .message))) _ _ (path-is k)) (rw (reference-well k, path-well k) at (c .is-prefix .ensures))
 
@@ -89,52 +95,72 @@ is-prefix c = yes _ (sym (c .enum-told .given .1) ∙ prefixed (c .before .befor
 end-told : (c : tie.After-relative-decode2) → let a = c .before .before .before .before .before .before .before .before .before .before .before .before .before .before .before .before .before .before .args in
     answerOf (c .relative-decode2 .result .answer) (c .relative-decode2 .result .end) ≡ readEnd (a .canonic) (a .times) (a .header) (drop (c .before .before .before .before .before .before .before .before .before .before .before .answer .given .0 .0) (drop (a .start) (now (a .message))))
 end-told c =
-    let a = c .before .before .before .before .before .before .before .before .before .before .before .before .before .before .before .before .before .before .args in
-    rw (drop-drop) (rw (to-end (a .start + c .before .before .before .before .before .before .before .before .before .before .before .answer .given .0 .0) (now (a .message))) at (c .relative-decode2 .ensures .answer))
+    let after-answer : tie.After-answer = search in
+    let start : tie.Start = search in
+    let a = start .args in
+    rw (drop-drop) (rw (to-end (a .start + after-answer .answer .given .0 .0) (now (a .message))) at (c .relative-decode2 .ensures .answer))
 
 end-is : (c : tie.After-known-told2) → let a = c .before .before .before .before .before .before .before .before .before .before .before .before .before .before .before .before .before .before .before .before .before .args in
     readEnd (a .canonic) (a .times) (a .header) (drop (c .before .before .before .before .before .before .before .before .before .before .before .before .before .before .answer .given .0 .0) (drop (a .start) (now (a .message)))) ≡ accepted (c .before .before .before .relative-decode2 .result .end) (c .before .last-answer .given .0 .0)
-end-is c = sym (end-told (c .before .before .before)) ∙ ap (λ (d : Decoded). answerOf d (c .before .before .before .relative-decode2 .result .end)) (c .before .last-answer .given .1)
+end-is c =
+    let after-relative-decode2 : tie.After-relative-decode2 = search in
+    sym (end-told after-relative-decode2) ∙ ap (λ (d : Decoded). answerOf d (after-relative-decode2 .relative-decode2 .result .end)) (c .before .last-answer .given .1)
 
 inside : (c : tie.After-known-told2) → c .before .before .before .before .before .before .before .before .before .before .before .before .before .before .before .before .before .before .before .before .before .args .start + (c .before .before .before .before .before .before .before .before .before .before .before .before .before .before .answer .given .0 .0 + c .before .last-answer .given .0 .0) ≤ length (now (c .before .before .before .before .before .before .before .before .before .before .before .before .before .before .before .before .before .before .before .before .before .args .message))
 inside c =
-    let s = c .before .before .before .before .before .before .before .before .before .before .before .before .before .before .before .before .before .before .before .before .before in
-    omega (arith, rest-inside (s .args .canonic) (s .args .namespace) (s .args .id) (reference s) (s .args .times) (s .args .header) (drop (s .args .start) (now (s .args .message))) _ _ (path-is (c .before .before .before .before .before .before .before .before .before .before .before .before .before)) (is-prefix (c .before .before .before .before .before)) _ _ (end-is c), length-drop (s .args .start) (now (s .args .message)), s .pre .0)
+    let after-enum-told : tie.After-enum-told = search in
+    let after-known-told : tie.After-known-told = search in
+    let s : tie.Start = search in
+    omega (arith, rest-inside (s .args .canonic) (s .args .namespace) (s .args .id) (reference s) (s .args .times) (s .args .header) (drop (s .args .start) (now (s .args .message))) _ _ (path-is after-known-told) (is-prefix after-enum-told) _ _ (end-is c), length-drop (s .args .start) (now (s .args .message)), s .pre .0)
 
 sub-relative-decode : tie.Need-sub-relative-decode
-sub-relative-decode c = omega (arith, c .before .before .before .pre .0)
+sub-relative-decode c =
+    let start : tie.Start = search in
+    omega (arith, start .pre .0)
 
 part-relative-decode-start : tie.Need-part-relative-decode-start
-part-relative-decode-start c = omega (arith, c .before .before .before .pre .0)
+part-relative-decode-start c =
+    let start : tie.Start = search in
+    omega (arith, start .pre .0)
 
 returns : tie.Need-returns
 unfolding refusal
 returns c =
-    let s = c .before .before .before .before .before .before .before in
+    let s : tie.Start = search in
     let x = no-value (c .before .before .relative-decode .result .answer) (c .before .match .keys2) in
     rw (c .refuse .ensures) (gives-refused (x .why) (x .beside _) (rw (rest-refused (s .args .canonic) (s .args .namespace) (s .args .id) (reference s) (s .args .times) (s .args .header) (drop (s .args .start) (now (s .args .message))) (x .why) (sym (path-told (c .before .before)) ∙ x .beside _))))
 
 returns-2 : tie.Need-returns-2
 unfolding refusal
 returns-2 c =
-    let s = c .before .before .before .before .before .before .before .before .before .before .before .before .before .before .before .before in
-    rw (c .refuse2 .ensures) (gives-refused 2 refl (rw (rest-outside (s .args .canonic) (s .args .namespace) (s .args .id) (reference s) (s .args .times) (s .args .header) (drop (s .args .start) (now (s .args .message))) _ _ (path-is (c .before .before .before .before .before .before .before .before)) (not-yes _ _ (prefixed (c .before .before)) (c .before .match2 .keys2)))))
+    let after-known-told : tie.After-known-told = search in
+    let s : tie.Start = search in
+    rw (c .refuse2 .ensures) (gives-refused 2 refl (rw (rest-outside (s .args .canonic) (s .args .namespace) (s .args .id) (reference s) (s .args .times) (s .args .header) (drop (s .args .start) (now (s .args .message))) _ _ (path-is after-known-told) (not-yes _ _ (prefixed (c .before .before)) (c .before .match2 .keys2)))))
 
 add-at : tie.Need-add-at
-add-at c = omega (arith, path-in (c .before .before .before .before .before .before .before .before), c .before .before .before .before .before .before .before .before .before .before .before .before .before .before .before .before .pre .1)
+add-at c =
+    let after-known-told : tie.After-known-told = search in
+    let start : tie.Start = search in
+    omega (arith, path-in after-known-told, start .pre .1)
 
 sub-relative-decode-2 : tie.Need-sub-relative-decode-2
-sub-relative-decode-2 c = path-in (c .before .before .before .before .before .before .before .before)
+sub-relative-decode-2 c =
+    let after-known-told : tie.After-known-told = search in
+    path-in after-known-told
 
 part-relative-decode-start-2 : tie.Need-part-relative-decode-start-2
-part-relative-decode-start-2 c = omega (arith, path-in (c .before .before .before .before .before .before .before .before))
+part-relative-decode-start-2 c =
+    let after-known-told : tie.After-known-told = search in
+    omega (arith, path-in after-known-told)
 
 returns-3 : tie.Need-returns-3
 unfolding refusal
 returns-3 c =
-    let s = c .before .before .before .before .before .before .before .before .before .before .before .before .before .before .before .before .before .before .before .before in
+    let after-enum-told : tie.After-enum-told = search in
+    let after-known-told : tie.After-known-told = search in
+    let s : tie.Start = search in
     let x = no-value (c .before .before .relative-decode2 .result .answer) (c .before .match3 .keys2) in
-    rw (c .refuse3 .ensures) (gives-refused (x .why) (x .beside _) (rw (rest-end (s .args .canonic) (s .args .namespace) (s .args .id) (reference s) (s .args .times) (s .args .header) (drop (s .args .start) (now (s .args .message))) _ _ (path-is (c .before .before .before .before .before .before .before .before .before .before .before .before)) (is-prefix (c .before .before .before .before)) (x .why) (sym (end-told (c .before .before)) ∙ x .beside _))))
+    rw (c .refuse3 .ensures) (gives-refused (x .why) (x .beside _) (rw (rest-end (s .args .canonic) (s .args .namespace) (s .args .id) (reference s) (s .args .times) (s .args .header) (drop (s .args .start) (now (s .args .message))) _ _ (path-is after-known-told) (is-prefix after-enum-told) (x .why) (sym (end-told (c .before .before)) ∙ x .beside _))))
 
 add-t24 : tie.Need-add-t24
 add-t24 c = omega (arith, inside (c .before .before .before), c .before .before .before .before .before .before .before .before .before .before .before .before .before .before .before .before .before .before .before .before .before .before .before .before .pre .1)
@@ -147,8 +173,11 @@ add-t36 c = omega (arith, inside (c .before .before .before), c .before .before 
 
 returns-4 : tie.Need-returns-4
 returns-4 c =
-    let s = c .before .before .before .before .before .before .before .before .before .before .before .before .before .before .before .before .before .before .before .before .before .before .before .before in
-    gives-accepted (ap (shift (1 + s .args .start)) (rest-read (s .args .canonic) (s .args .namespace) (s .args .id) (reference s) (s .args .times) (s .args .header) (drop (s .args .start) (now (s .args .message))) _ _ (path-is (c .before .before .before .before .before .before .before .before .before .before .before .before .before .before .before .before)) (is-prefix (c .before .before .before .before .before .before .before .before)) _ _ (end-is (c .before .before .before))))
+    let after-known-told2 : tie.After-known-told2 = search in
+    let after-enum-told : tie.After-enum-told = search in
+    let after-known-told : tie.After-known-told = search in
+    let s : tie.Start = search in
+    gives-accepted (ap (shift (1 + s .args .start)) (rest-read (s .args .canonic) (s .args .namespace) (s .args .id) (reference s) (s .args .times) (s .args .header) (drop (s .args .start) (now (s .args .message))) _ _ (path-is after-known-told) (is-prefix after-enum-told) _ _ (end-is after-known-told2)))
 
 pub decode-rest-spec : {M : Type 1} → statement M
 decode-rest-spec =

@@ -15,7 +15,9 @@ returns c =
 
 returns-2 : tie.Need-returns-2
 unfolding sharesAll
-returns-2 c = rw (sym (c .before .before .before .decode .ensures) ∙ ap numberAnswer (c .before .number .given .1))
+returns-2 c =
+    let after-decode : tie.After-decode = search in
+    rw (sym (after-decode .decode .ensures) ∙ ap numberAnswer (c .before .number .given .1))
 
 pub shares-all-spec : {M : Type 1} → statement M
 shares-all-spec = tie.close (tie.spec (λ c κs. search needs) (λ c. search needs) returns returns-2)

@@ -7,8 +7,9 @@ use Rattle.entry_area.proofs.entry_encode.end_len.Tie as tie
 
 returns : tie.Need-returns
 returns c =
-    let a = c .before .before .before .args in
-    let digest = length-unmapped ℕ (a .end .«payload_digest») 32 (c .before .before .before .good .0 .1 .1 .1 .1 .0 .1 .0 .1) in
+    let start : tie.Start = search in
+    let a = start .args in
+    let digest = length-unmapped ℕ (a .end .«payload_digest») 32 (start .good .0 .1 .1 .1 .1 .0 .1 .0 .1) in
     let first = c .before .relative-len-of-encoding .ensures in
     let last = c .relative-len-of-encoding2 .ensures in
     (rw (length-append, length-append, digest, ← (c .before .before .difference .ensures), ← (first .0), ← (last .0)), omega (arith, first .1, last .1))

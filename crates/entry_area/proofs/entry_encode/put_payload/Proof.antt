@@ -13,8 +13,11 @@ use Rattle.entry_area.proofs.entry_encode.put_payload.Tie as tie
 -- the number's bytes are in the buffer
 inside : (c : tie.After-digest) → c .before .before .before .before .before .relative-len-of-encoding .result ≤ length (c .before .before .before .relative-encode .last .0)
 inside c =
-    let a = c .before .before .before .before .before .before .before .args in
-    omega (arith, c .before .before .before .before .before .before .before .pre, length-append (numberBytes 2 (a .end .«payload_length»)) (a .end .«payload_digest»), c .before .before .before .before .before .relative-len-of-encoding .ensures .0, c .before .before .before .relative-encode .kept .0)
+    let after-relative-encode : tie.After-relative-encode = search in
+    let after-relative-len-of-encoding : tie.After-relative-len-of-encoding = search in
+    let start : tie.Start = search in
+    let a = start .args in
+    omega (arith, start .pre, length-append (numberBytes 2 (a .end .«payload_length»)) (a .end .«payload_digest»), after-relative-len-of-encoding .relative-len-of-encoding .ensures .0, after-relative-encode .relative-encode .kept .0)
 
 sub-put-bytes : tie.Need-sub-put-bytes
 sub-put-bytes c = inside c
@@ -24,17 +27,20 @@ part-put-bytes-start c = inside c
 
 returns : tie.Need-returns
 returns c =
-    let a = c .before .before .before .before .before .before .before .before .before .before .before .before .args in
+    let after-relative-encode : tie.After-relative-encode = search in
+    let after-relative-len-of-encoding : tie.After-relative-len-of-encoding = search in
+    let start : tie.Start = search in
+    let a = start .args in
     let l = now (a .buffer) in
-    let p = c .before .before .before .before .before .before .before .before .relative-encode in
+    let p = after-relative-encode .relative-encode in
     let q = c .before .before .put-bytes in
-    let n = c .before .before .before .before .before .before .before .before .before .before .relative-len-of-encoding in
+    let n = after-relative-len-of-encoding .relative-len-of-encoding in
     let x = numberBytes 2 (a .end .«payload_length») in
     let y = a .end .«payload_digest» in
     let long = length-append x y in
-    let first : p .last .0 ≡ over x l = p .ensures .1 ∙ put-over x l (omega (arith, c .before .before .before .before .before .before .before .before .before .before .before .before .pre, long)) in
+    let first : p .last .0 ≡ over x l = p .ensures .1 ∙ put-over x l (omega (arith, start .pre, long)) in
     let rest = rw (to-end (n .result) (p .last .0)) at (q .ensures .1) in
-    let room : length y ≤ length (drop (n .result) (p .last .0)) = rw length-drop (omega (arith, c .before .before .before .before .before .before .before .before .before .before .before .before .pre, long, p .kept .0, n .ensures .0)) in
+    let room : length y ≤ length (drop (n .result) (p .last .0)) = rw length-drop (omega (arith, start .pre, long, p .kept .0, n .ensures .0)) in
     put-end (n .result) (p .last .0) (q .last .0) ∙ rw (rest, put-over y (drop (n .result) (p .last .0)) room, first, n .ensures .0) (over-then l x y)
 
 pub put-payload-spec : {M : Type 1} → statement M

@@ -20,19 +20,30 @@ abbrev entry : tie.Start → Entry
 entry c = entryWith (c .args .fields) (pathOf (now (c .args .bytes)) (now (c .args .lengths)) (c .args .count))
 
 allows : (c : tie.After-enum-told) → let s = c .before .before .before .before .before .before .before .before in againstNamespaceArea (s .args .namespace) (area s) .check (entry s) ≡ allowed
-allows c = let s = c .before .before .before .before .before .before .before .before in contained (s .args .namespace) (area s) (entry s) (sym (c .before .before .lies-inside .ensures) ∙ c .enum-told .given .1)
+allows c =
+    let s : tie.Start = search in
+    contained (s .args .namespace) (area s) (entry s) (sym (c .before .before .lies-inside .ensures) ∙ c .enum-told .given .1)
 
 put-known-requires : tie.Need-put-known-requires
-put-known-requires c κs = let s = c .before .before .before .before .before .before .before .before .before in suffix-allowed (s .args .namespace) (area s) (entry s) (allows (c .before))
+put-known-requires c κs =
+    let s : tie.Start = search in
+    suffix-allowed (s .args .namespace) (area s) (entry s) (allows (c .before))
 
 returns : tie.Need-returns
-returns c = let s = c .before .before .before .before .before .before .before .before .before .before .before .before in let ok = allows (c .before .before .before .before) in rw (ok, entry-bytes (s .args .namespace) (area s) (entry s) ok) (c .before .before .put-known .ensures)
+returns c =
+    let after-enum-told : tie.After-enum-told = search in
+    let s : tie.Start = search in
+    let ok = allows after-enum-told in rw (ok, entry-bytes (s .args .namespace) (area s) (entry s) ok) (c .before .before .put-known .ensures)
 
 returns-2 : tie.Need-returns-2
-returns-2 c = let s = c .before .before .before .before .before .before .before .before in put-barred (againstNamespaceArea (s .args .namespace) (area s) .check (entry s)) _ (now (s .args .buffer)) 3 (not-contained (s .args .namespace) (area s) (entry s) (sym (c .before .before .lies-inside .ensures) ∙ c .enum-told2 .given .1))
+returns-2 c =
+    let s : tie.Start = search in
+    put-barred (againstNamespaceArea (s .args .namespace) (area s) .check (entry s)) _ (now (s .args .buffer)) 3 (not-contained (s .args .namespace) (area s) (entry s) (sym (c .before .before .lies-inside .ensures) ∙ c .enum-told2 .given .1))
 
 returns-3 : tie.Need-returns-3
-returns-3 c = let s = c .before .before .before .before .before .before .before .before in put-barred (againstNamespaceArea (s .args .namespace) (area s) .check (entry s)) _ (now (s .args .buffer)) 5 (unformed (s .args .namespace) (area s) (entry s) (sym (c .before .before .lies-inside .ensures) ∙ c .enum-told3 .given .1))
+returns-3 c =
+    let s : tie.Start = search in
+    put-barred (againstNamespaceArea (s .args .namespace) (area s) .check (entry s)) _ (now (s .args .buffer)) 5 (unformed (s .args .namespace) (area s) (entry s) (sym (c .before .before .lies-inside .ensures) ∙ c .enum-told3 .given .1))
 
 pub relative-encode-spec : {M : Type 1} → statement M
 relative-encode-spec =

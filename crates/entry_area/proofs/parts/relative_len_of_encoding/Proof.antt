@@ -28,17 +28,21 @@ abbrev entry : tie.Start → Entry
 entry c = entryWith (c .args .fields) (pathOf (now (c .args .bytes)) (now (c .args .lengths)) (c .args .count))
 
 allows : (c : tie.After-enum-told) → let s = c .before .before .before .before .before .before .before in againstNamespaceArea (s .args .namespace) (area s) .check (entry s) ≡ allowed
-allows c = let s = c .before .before .before .before .before .before .before in contained (s .args .namespace) (area s) (entry s) (sym (c .before .before .lies-inside .ensures) ∙ c .enum-told .given .1)
+allows c =
+    let s : tie.Start = search in
+    contained (s .args .namespace) (area s) (entry s) (sym (c .before .before .lies-inside .ensures) ∙ c .enum-told .given .1)
 
 -- the length of the suffix, and that it is small
 suffix-is : (c : tie.After-known-told) → let s = c .before .before .before .before .before .before .before .before .before .before .before in let f = suffixFrom (s .args .of-count) in (c .before .suffix .given .0 .0 ≡ length (f .encode (entry s .path))) × (length (f .encode (entry s .path)) ≤ 1000)
 suffix-is c =
-    let s = c .before .before .before .before .before .before .before .before .before .before .before in
-    (length-wrote (suffixFrom (s .args .of-count)) (entry s .path) _ (sym (c .before .before .before .suffix-len .ensures) ∙ ap outcomeOf (c .before .suffix .given .1)) .1, suffix-short (s .args .namespace) (area s) (entry s) (allows (c .before .before .before .before)))
+    let after-suffix-len : tie.After-suffix-len = search in
+    let after-enum-told : tie.After-enum-told = search in
+    let s : tie.Start = search in
+    (length-wrote (suffixFrom (s .args .of-count)) (entry s .path) _ (sym (after-suffix-len .suffix-len .ensures) ∙ ap outcomeOf (c .before .suffix .given .1)) .1, suffix-short (s .args .namespace) (area s) (entry s) (allows after-enum-told))
 
 returns : tie.Need-returns
 returns c =
-    let s = c .before .before .before .before .before .before .before .before .before in
+    let s : tie.Start = search in
     let none = no-length (c .before .suffix-len .result) (c .match2 .keys2) in
     absurd (length-not-denied (suffixFrom (s .args .of-count)) (entry s .path) (none .why) (suffix-allowed (s .args .namespace) (area s) (entry s) (allows (c .before .before))) (sym (c .before .suffix-len .ensures) ∙ none .is))
 
@@ -46,7 +50,9 @@ add-t18 : tie.Need-add-t18
 add-t18 c = omega (arith, suffix-is (c .before .before) .0, suffix-is (c .before .before) .1, c .before .head-len .ensures .1)
 
 add-t20 : tie.Need-add-t20
-add-t20 c = omega (arith, suffix-is (c .before .before .before) .0, suffix-is (c .before .before .before) .1, c .before .before .head-len .ensures .1, c .end-len .ensures .1)
+add-t20 c =
+    let after-known-told : tie.After-known-told = search in
+    omega (arith, suffix-is after-known-told .0, suffix-is after-known-told .1, c .before .before .head-len .ensures .1, c .end-len .ensures .1)
 
 returns-2 : tie.Need-returns-2
 returns-2 c =
@@ -62,10 +68,14 @@ returns-2 c =
     length-allowed (againstNamespaceArea (s .args .namespace) (area s)) (entry s) _ ok (long ∙ ap length (sym (entry-bytes (s .args .namespace) (area s) (entry s) ok)))
 
 returns-3 : tie.Need-returns-3
-returns-3 c = let s = c .before .before .before .before .before .before .before in length-barred (againstNamespaceArea (s .args .namespace) (area s)) (entry s) 3 (not-contained (s .args .namespace) (area s) (entry s) (sym (c .before .before .lies-inside .ensures) ∙ c .enum-told2 .given .1))
+returns-3 c =
+    let s : tie.Start = search in
+    length-barred (againstNamespaceArea (s .args .namespace) (area s)) (entry s) 3 (not-contained (s .args .namespace) (area s) (entry s) (sym (c .before .before .lies-inside .ensures) ∙ c .enum-told2 .given .1))
 
 returns-4 : tie.Need-returns-4
-returns-4 c = let s = c .before .before .before .before .before .before .before in length-barred (againstNamespaceArea (s .args .namespace) (area s)) (entry s) 5 (unformed (s .args .namespace) (area s) (entry s) (sym (c .before .before .lies-inside .ensures) ∙ c .enum-told3 .given .1))
+returns-4 c =
+    let s : tie.Start = search in
+    length-barred (againstNamespaceArea (s .args .namespace) (area s)) (entry s) 5 (unformed (s .args .namespace) (area s) (entry s) (sym (c .before .before .lies-inside .ensures) ∙ c .enum-told3 .given .1))
 
 pub relative-len-of-encoding-spec : {M : Type 1} → statement M
 relative-len-of-encoding-spec =

@@ -24,36 +24,56 @@ header s = unpackHeader (getD (now (s .args .message)) (s .args .start) 0)
 
 ids-told : (c : tie.After-decode-ids) → let a = c .before .before .before .before .before .before .args in
     answerOf (c .decode-ids .result .answer) (c .decode-ids .result .ids) ≡ readIds (a .of .«namespace_id») (a .of .«subspace_id») (header (c .before .before .before .before .before .before)) (drop (a .start + 1) (now (a .message)))
-ids-told c = rw (c .before .before .unpack .ensures, to-end (c .before .before .before .before .before .before .args .start + 1) (now (c .before .before .before .before .before .before .args .message))) at (c .decode-ids .ensures)
+ids-told c =
+    let start : tie.Start = search in
+    rw (c .before .before .unpack .ensures, to-end (start .args .start + 1) (now (start .args .message))) at (c .decode-ids .ensures)
 
 ids-is : (c : tie.After-known-told) → let a = c .before .before .before .before .before .before .before .before .before .args in
     readIds (a .of .«namespace_id») (a .of .«subspace_id») (header (c .before .before .before .before .before .before .before .before .before)) (drop (a .start + 1) (now (a .message))) ≡ accepted (c .before .before .before .decode-ids .result .ids) (c .before .first-answer .given .0 .0)
-ids-is c = sym (ids-told (c .before .before .before)) ∙ ap (λ (d : Decoded). answerOf d (c .before .before .before .decode-ids .result .ids)) (c .before .first-answer .given .1)
+ids-is c =
+    let after-decode-ids : tie.After-decode-ids = search in
+    sym (ids-told after-decode-ids) ∙ ap (λ (d : Decoded). answerOf d (after-decode-ids .decode-ids .result .ids)) (c .before .first-answer .given .1)
 
 ids-in : (c : tie.After-known-told) → c .before .before .before .before .before .before .before .before .before .args .start + 1 + c .before .first-answer .given .0 .0 ≤ length (now (c .before .before .before .before .before .before .before .before .before .args .message))
-ids-in c = let a = c .before .before .before .before .before .before .before .before .before .args in first-inside (a .of .«namespace_id») (a .of .«subspace_id») (a .of .timestamp) (now (a .message)) (a .start) (there (c .before .before .before .before .before)) _ _ (ids-is c)
+ids-in c =
+    let after-unpack : tie.After-unpack = search in
+    let start : tie.Start = search in
+    let a = start .args in first-inside (a .of .«namespace_id») (a .of .«subspace_id») (a .of .timestamp) (now (a .message)) (a .start) (there after-unpack) _ _ (ids-is c)
 
 numbers-told : (c : tie.After-relative-decode) → let a = c .before .before .before .before .before .before .before .before .before .before .before .args in
     answerOf (c .relative-decode .result .answer) (c .relative-decode .result .numbers) ≡ readNumbers (a .of .timestamp) (header (c .before .before .before .before .before .before .before .before .before .before .before)) (drop (a .start + 1 + c .before .before .before .first-answer .given .0 .0) (now (a .message)))
-numbers-told c = rw (c .before .before .before .before .before .before .before .unpack .ensures, to-end (c .before .before .before .before .before .before .before .before .before .before .before .args .start + 1 + c .before .before .before .first-answer .given .0 .0) (now (c .before .before .before .before .before .before .before .before .before .before .before .args .message))) at (c .relative-decode .ensures .answer)
+numbers-told c =
+    let after-first-answer : tie.After-first-answer = search in
+    let after-unpack : tie.After-unpack = search in
+    let start : tie.Start = search in
+    rw (after-unpack .unpack .ensures, to-end (start .args .start + 1 + after-first-answer .first-answer .given .0 .0) (now (start .args .message))) at (c .relative-decode .ensures .answer)
 
 numbers-is : (c : tie.After-known-told2) → let a = c .before .before .before .before .before .before .before .before .before .before .before .before .before .before .args in
     readNumbers (a .of .timestamp) (header (c .before .before .before .before .before .before .before .before .before .before .before .before .before .before)) (drop (a .start + 1 + c .before .before .before .before .before .before .first-answer .given .0 .0) (now (a .message))) ≡ accepted (c .before .before .before .relative-decode .result .numbers) (c .before .second-answer .given .0 .0)
-numbers-is c = sym (numbers-told (c .before .before .before)) ∙ ap (λ (d : Decoded). answerOf d (c .before .before .before .relative-decode .result .numbers)) (c .before .second-answer .given .1)
+numbers-is c =
+    let after-relative-decode : tie.After-relative-decode = search in
+    sym (numbers-told after-relative-decode) ∙ ap (λ (d : Decoded). answerOf d (after-relative-decode .relative-decode .result .numbers)) (c .before .second-answer .given .1)
 
 numbers-in : (c : tie.After-known-told2) → c .before .before .before .before .before .before .before .before .before .before .before .before .before .before .args .start + (1 + (c .before .before .before .before .before .before .first-answer .given .0 .0 + c .before .second-answer .given .0 .0)) ≤ length (now (c .before .before .before .before .before .before .before .before .before .before .before .before .before .before .args .message))
-numbers-in c = let a = c .before .before .before .before .before .before .before .before .before .before .before .before .before .before .args in second-inside (a .of .«namespace_id») (a .of .«subspace_id») (a .of .timestamp) (now (a .message)) (a .start) (there (c .before .before .before .before .before .before .before .before .before .before)) _ _ (ids-is (c .before .before .before .before .before)) _ _ (numbers-is c)
+numbers-in c =
+    let after-known-told : tie.After-known-told = search in
+    let after-unpack : tie.After-unpack = search in
+    let start : tie.Start = search in
+    let a = start .args in second-inside (a .of .«namespace_id») (a .of .«subspace_id») (a .of .timestamp) (now (a .message)) (a .start) (there after-unpack) _ _ (ids-is after-known-told) _ _ (numbers-is c)
 
 returns : tie.Need-returns
 returns c =
-    let a = c .before .before .before .args in
+    let start : tie.Start = search in
+    let a = start .args in
     rw (c .no-head .ensures) (sym (head-none (a .of .«namespace_id») (a .of .«subspace_id») (a .of .timestamp) (now (a .message)) (a .start) (omega (arith, c .before .if1 .taken))))
 
 returns-2 : tie.Need-returns-2
 returns-2 c =
-    let a = c .before .before .before .before .before .before .before .before .args in
+    let after-unpack : tie.After-unpack = search in
+    let start : tie.Start = search in
+    let a = start .args in
     let x = no-value (c .before .before .decode-ids .result .answer) (c .before .match .keys2) in
-    rw (c .no-head2 .ensures) (x .beside _ ∙ sym (head-ids (a .of .«namespace_id») (a .of .«subspace_id») (a .of .timestamp) (now (a .message)) (a .start) (there (c .before .before .before .before)) (x .why) (sym (ids-told (c .before .before)) ∙ x .beside _)))
+    rw (c .no-head2 .ensures) (x .beside _ ∙ sym (head-ids (a .of .«namespace_id») (a .of .«subspace_id») (a .of .timestamp) (now (a .message)) (a .start) (there after-unpack) (x .why) (sym (ids-told (c .before .before)) ∙ x .beside _)))
 
 add-next : tie.Need-add-next
 add-next c = omega (arith, ids-in c)
@@ -66,9 +86,12 @@ part-relative-decode-start c = omega (arith, ids-in c)
 
 returns-3 : tie.Need-returns-3
 returns-3 c =
-    let a = c .before .before .before .before .before .before .before .before .before .before .before .before .before .args in
+    let after-known-told : tie.After-known-told = search in
+    let after-unpack : tie.After-unpack = search in
+    let start : tie.Start = search in
+    let a = start .args in
     let x = no-value (c .before .before .relative-decode .result .answer) (c .before .match2 .keys2) in
-    rw (c .no-head3 .ensures) (x .beside _ ∙ sym (head-numbers (a .of .«namespace_id») (a .of .«subspace_id») (a .of .timestamp) (now (a .message)) (a .start) (there (c .before .before .before .before .before .before .before .before .before)) _ _ (ids-is (c .before .before .before .before)) (x .why) (sym (numbers-told (c .before .before)) ∙ x .beside _)))
+    rw (c .no-head3 .ensures) (x .beside _ ∙ sym (head-numbers (a .of .«namespace_id») (a .of .«subspace_id») (a .of .timestamp) (now (a .message)) (a .start) (there after-unpack) _ _ (ids-is after-known-told) (x .why) (sym (numbers-told (c .before .before)) ∙ x .beside _)))
 
 add-t15 : tie.Need-add-t15
 add-t15 c = omega (arith, numbers-in (c .before .before))
@@ -78,8 +101,11 @@ add-t26 c = omega (arith, numbers-in (c .before .before))
 
 returns-4 : tie.Need-returns-4
 returns-4 c =
-    let a = c .before .before .before .before .before .before .before .before .before .before .before .before .before .before .before .before .args in
-    sym (head-read (a .of .«namespace_id») (a .of .«subspace_id») (a .of .timestamp) (now (a .message)) (a .start) (there (c .before .before .before .before .before .before .before .before .before .before .before .before)) _ _ (ids-is (c .before .before .before .before .before .before .before)) _ _ (numbers-is (c .before .before)))
+    let after-known-told : tie.After-known-told = search in
+    let after-unpack : tie.After-unpack = search in
+    let start : tie.Start = search in
+    let a = start .args in
+    sym (head-read (a .of .«namespace_id») (a .of .«subspace_id») (a .of .timestamp) (now (a .message)) (a .start) (there after-unpack) _ _ (ids-is after-known-told) _ _ (numbers-is (c .before .before)))
 
 pub decode-head-spec : {M : Type 1} → statement M
 decode-head-spec =

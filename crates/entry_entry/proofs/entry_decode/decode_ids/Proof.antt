@@ -13,33 +13,44 @@ use Rattle.entry_entry.proofs.entry_decode.decode_ids.Tie as tie
 
 first-is : (c : tie.After-known-told) → let a = c .before .before .before .before .before .before .args in
     readId (a .header .«namespace_written») (a .of .«namespace_id») (now (a .message)) ≡ accepted (c .before .before .before .decode-id .result .id) (c .before .first-answer .given .0 .0)
-first-is c = sym (c .before .before .before .decode-id .ensures) ∙ ap (λ (d : Decoded). answerOf d (c .before .before .before .decode-id .result .id)) (c .before .first-answer .given .1)
+first-is c =
+    let after-decode-id : tie.After-decode-id = search in
+    sym (after-decode-id .decode-id .ensures) ∙ ap (λ (d : Decoded). answerOf d (after-decode-id .decode-id .result .id)) (c .before .first-answer .given .1)
 
 second-is : (c : tie.After-known-told2) → let a = c .before .before .before .before .before .before .before .before .before .before .before .args in
     readId (a .header .«subspace_written») (a .of .«subspace_id») (drop (c .before .before .before .before .before .before .first-answer .given .0 .0) (now (a .message))) ≡ accepted (c .before .before .before .decode-id2 .result .id) (c .before .second-answer .given .0 .0)
-second-is c = sym (c .before .before .before .decode-id2 .ensures) ∙ ap (λ (d : Decoded). answerOf d (c .before .before .before .decode-id2 .result .id)) (c .before .second-answer .given .1)
+second-is c =
+    let after-decode-id2 : tie.After-decode-id2 = search in
+    sym (after-decode-id2 .decode-id2 .ensures) ∙ ap (λ (d : Decoded). answerOf d (after-decode-id2 .decode-id2 .result .id)) (c .before .second-answer .given .1)
 
 returns : tie.Need-returns
 returns c =
-    let a = c .before .before .before .before .before .args in
+    let start : tie.Start = search in
+    let a = start .args in
     let x = no-value (c .before .before .decode-id .result .answer) (c .before .match .keys2) in
     rw (c .no-ids .ensures) (x .beside _ ∙ sym (ids-first (a .of .«namespace_id») (a .of .«subspace_id») (a .header) (now (a .message)) (x .why) (sym (c .before .before .decode-id .ensures) ∙ x .beside _)))
 
 returns-2 : tie.Need-returns-2
 returns-2 c =
-    let a = c .before .before .before .before .before .before .before .before .before .before .args in
+    let after-known-told : tie.After-known-told = search in
+    let start : tie.Start = search in
+    let a = start .args in
     let x = no-value (c .before .before .decode-id2 .result .answer) (c .before .match2 .keys2) in
-    rw (c .no-ids2 .ensures) (x .beside _ ∙ sym (ids-second (a .of .«namespace_id») (a .of .«subspace_id») (a .header) (now (a .message)) _ _ (first-is (c .before .before .before .before)) (x .why) (sym (c .before .before .decode-id2 .ensures) ∙ x .beside _)))
+    rw (c .no-ids2 .ensures) (x .beside _ ∙ sym (ids-second (a .of .«namespace_id») (a .of .«subspace_id») (a .header) (now (a .message)) _ _ (first-is after-known-told) (x .why) (sym (c .before .before .decode-id2 .ensures) ∙ x .beside _)))
 
 add-t14 : tie.Need-add-t14
 add-t14 c =
-    let a = c .before .before .before .before .before .before .before .before .before .before .before .before .before .args in
-    omega (arith, ids-inside (a .of .«namespace_id») (a .of .«subspace_id») (a .header) (now (a .message)) _ _ (first-is (c .before .before .before .before .before .before .before)) _ _ (second-is (c .before .before)))
+    let after-known-told : tie.After-known-told = search in
+    let start : tie.Start = search in
+    let a = start .args in
+    omega (arith, ids-inside (a .of .«namespace_id») (a .of .«subspace_id») (a .header) (now (a .message)) _ _ (first-is after-known-told) _ _ (second-is (c .before .before)))
 
 returns-3 : tie.Need-returns-3
 returns-3 c =
-    let a = c .before .before .before .before .before .before .before .before .before .before .before .before .before .args in
-    sym (ids-read (a .of .«namespace_id») (a .of .«subspace_id») (a .header) (now (a .message)) _ _ (first-is (c .before .before .before .before .before .before .before)) _ _ (second-is (c .before .before)))
+    let after-known-told : tie.After-known-told = search in
+    let start : tie.Start = search in
+    let a = start .args in
+    sym (ids-read (a .of .«namespace_id») (a .of .«subspace_id») (a .header) (now (a .message)) _ _ (first-is after-known-told) _ _ (second-is (c .before .before)))
 
 pub decode-ids-spec : {M : Type 1} → statement M
 decode-ids-spec =

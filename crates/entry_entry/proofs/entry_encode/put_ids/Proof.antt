@@ -16,29 +16,44 @@ parts c =
     omega (arith, c .pre, length-append (idBytes (a .of .«namespace_id») (a .fields .«namespace_id»)) (idBytes (a .of .«subspace_id») (a .fields .«subspace_id»)))
 
 put-id-requires : tie.Need-put-id-requires
-put-id-requires c κs = omega (arith, parts (c .before .before .before .before))
+put-id-requires c κs =
+    let start : tie.Start = search in
+    omega (arith, parts start)
 
 sub-put-id : tie.Need-sub-put-id
-sub-put-id c = omega (arith, parts (c .before .before .before .before .before .before .before .before .before), c .before .before .before .before .put-id .ensures .0, c .before .before .before .before .put-id .kept .0)
+sub-put-id c =
+    let after-put-id : tie.After-put-id = search in
+    let start : tie.Start = search in
+    omega (arith, parts start, after-put-id .put-id .ensures .0, after-put-id .put-id .kept .0)
 
 part-put-id-start : tie.Need-part-put-id-start
-part-put-id-start c = omega (arith, parts (c .before .before .before .before .before .before .before .before .before), c .before .before .before .before .put-id .ensures .0, c .before .before .before .before .put-id .kept .0)
+part-put-id-start c =
+    let after-put-id : tie.After-put-id = search in
+    let start : tie.Start = search in
+    omega (arith, parts start, after-put-id .put-id .ensures .0, after-put-id .put-id .kept .0)
 
 put-id-requires-2 : tie.Need-put-id-requires-2
 put-id-requires-2 c κs =
-    let n = c .before .before .before .before .before .put-id in
-    rw (to-end (n .result) (n .last .0), length-drop) (omega (arith, parts (c .before .before .before .before .before .before .before .before .before .before), n .ensures .0, n .kept .0))
+    let after-put-id : tie.After-put-id = search in
+    let start : tie.Start = search in
+    let n = after-put-id .put-id in
+    rw (to-end (n .result) (n .last .0), length-drop) (omega (arith, parts start, n .ensures .0, n .kept .0))
 
 add-result : tie.Need-add-result
-add-result c = omega (arith, parts (c .before .before .before .before .before .before .before .before .before .before .before .before .before), c .before .before .before .before .before .before .before .before .put-id .ensures .0, c .before .before .put-id2 .ensures .0)
+add-result c =
+    let after-put-id : tie.After-put-id = search in
+    let start : tie.Start = search in
+    omega (arith, parts start, after-put-id .put-id .ensures .0, c .before .before .put-id2 .ensures .0)
 
 returns : tie.Need-returns
 returns c =
-    let a = c .before .before .before .before .before .before .before .before .before .before .before .before .before .args in
+    let after-put-id : tie.After-put-id = search in
+    let start : tie.Start = search in
+    let a = start .args in
     let l = now (a .buffer) in
     let x = idBytes (a .of .«namespace_id») (a .fields .«namespace_id») in
     let y = idBytes (a .of .«subspace_id») (a .fields .«subspace_id») in
-    let n = c .before .before .before .before .before .before .before .before .put-id in
+    let n = after-put-id .put-id in
     let w = c .before .before .put-id2 in
     let rest = rw (to-end (n .result) (n .last .0)) at (w .ensures .1) in (
       omega (arith, n .ensures .0, w .ensures .0, length-append x y),

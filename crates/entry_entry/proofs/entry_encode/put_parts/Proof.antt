@@ -20,24 +20,33 @@ parts : (c : tie.Start) → let a = c .args in length (idsWith (a .of) (a .field
 parts c = let a = c .args in omega (arith, c .pre .1, length-append (idsWith (a .of) (a .fields)) (restWith (a .of) (a .fields) (bytes c)))
 
 put-ids-requires : tie.Need-put-ids-requires
-put-ids-requires c κs = omega (arith, parts (c .before .before .before .before))
+put-ids-requires c κs =
+    let start : tie.Start = search in
+    omega (arith, parts start)
 
 sub-put-rest : tie.Need-sub-put-rest
-sub-put-rest c = omega (arith, parts (c .before .before .before .before .before .before .before), c .before .before .put-ids .ensures .0, c .before .before .put-ids .kept .0)
+sub-put-rest c =
+    let start : tie.Start = search in
+    omega (arith, parts start, c .before .before .put-ids .ensures .0, c .before .before .put-ids .kept .0)
 
 part-put-rest-start : tie.Need-part-put-rest-start
-part-put-rest-start c = omega (arith, parts (c .before .before .before .before .before .before .before), c .before .before .put-ids .ensures .0, c .before .before .put-ids .kept .0)
+part-put-rest-start c =
+    let start : tie.Start = search in
+    omega (arith, parts start, c .before .before .put-ids .ensures .0, c .before .before .put-ids .kept .0)
 
 put-rest-requires : tie.Need-put-rest-requires
 put-rest-requires c κs =
-    let n = c .before .before .before .put-ids in
-    (c .before .before .before .before .before .before .before .before .pre .0, rw (to-end (n .result) (n .last .0), length-drop) (omega (arith, parts (c .before .before .before .before .before .before .before .before), n .ensures .0, n .kept .0)))
+    let after-put-ids : tie.After-put-ids = search in
+    let start : tie.Start = search in
+    let n = after-put-ids .put-ids in
+    (start .pre .0, rw (to-end (n .result) (n .last .0), length-drop) (omega (arith, parts start, n .ensures .0, n .kept .0)))
 
 returns : tie.Need-returns
 returns c =
-    let s = c .before .before .before .before .before .before .before .before .before .before .before in
+    let after-put-ids : tie.After-put-ids = search in
+    let s : tie.Start = search in
     let l = now (s .args .buffer) in
-    let n = c .before .before .before .before .before .before .put-ids in
+    let n = after-put-ids .put-ids in
     let w = c .before .before .put-rest in
     let rest = rw (to-end (n .result) (n .last .0)) at (w .ensures) in
     put-end (n .result) (n .last .0) (w .last .0) ∙ rw (rest, n .ensures .1, n .ensures .0) (over-then l (idsWith (s .args .of) (s .args .fields)) (restWith (s .args .of) (s .args .fields) (bytes s)))

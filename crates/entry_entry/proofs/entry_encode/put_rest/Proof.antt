@@ -22,7 +22,10 @@ parts c = let a = c .args in omega (arith, c .pre .1, length-append (numbersByte
 
 -- the numbers' bytes are in the buffer
 inside : (c : tie.After-slice-known2) → c .before .before .before .before .relative-len-of-encoding .result ≤ length (c .before .before .relative-encode .last .0)
-inside c = omega (arith, parts (c .before .before .before .before .before .before .before .before), c .before .before .before .before .relative-len-of-encoding .ensures .0, c .before .before .relative-encode .kept .0)
+inside c =
+    let after-relative-len-of-encoding : tie.After-relative-len-of-encoding = search in
+    let start : tie.Start = search in
+    omega (arith, parts start, after-relative-len-of-encoding .relative-len-of-encoding .ensures .0, c .before .before .relative-encode .kept .0)
 
 sub-put-end : tie.Need-sub-put-end
 sub-put-end c = inside (c .before)
@@ -32,17 +35,22 @@ part-put-end-start c = inside (c .before)
 
 put-end-requires : tie.Need-put-end-requires
 put-end-requires c κs =
-    let n = c .before .before .before .before .before .before .relative-len-of-encoding in
-    let p = c .before .before .before .before .relative-encode in
-    (c .before .before .before .before .before .before .before .before .before .before .pre .0, rw (to-end (n .result) (p .last .0), length-drop) (omega (arith, parts (c .before .before .before .before .before .before .before .before .before .before), n .ensures .0, p .kept .0)))
+    let after-relative-encode : tie.After-relative-encode = search in
+    let after-relative-len-of-encoding : tie.After-relative-len-of-encoding = search in
+    let start : tie.Start = search in
+    let n = after-relative-len-of-encoding .relative-len-of-encoding in
+    let p = after-relative-encode .relative-encode in
+    (start .pre .0, rw (to-end (n .result) (p .last .0), length-drop) (omega (arith, parts start, n .ensures .0, p .kept .0)))
 
 returns : tie.Need-returns
 returns c =
-    let s = c .before .before .before .before .before .before .before .before .before .before .before .before .before in
+    let after-relative-encode : tie.After-relative-encode = search in
+    let after-relative-len-of-encoding : tie.After-relative-len-of-encoding = search in
+    let s : tie.Start = search in
     let a = s .args in
     let l = now (a .buffer) in
-    let n = c .before .before .before .before .before .before .before .before .before .relative-len-of-encoding in
-    let p = c .before .before .before .before .before .before .before .relative-encode in
+    let n = after-relative-len-of-encoding .relative-len-of-encoding in
+    let p = after-relative-encode .relative-encode in
     let w = c .before .before .put-end in
     let x = numbersBytes (a .of .timestamp) (a .fields .timestamp) (a .fields .«payload_length») in
     let first : p .last .0 ≡ over x l = p .ensures .1 ∙ put-over x l (omega (arith, parts s)) in

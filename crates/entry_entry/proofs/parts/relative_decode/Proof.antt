@@ -27,28 +27,46 @@ reference c = entryWith (c .args .of) (pathOf (now (c .args .of-bytes)) (now (c 
 
 head-is : (c : tie.After-known-told) → let a = c .before .before .before .before .before .before .before .args in
     readHead (a .of .«namespace_id») (a .of .«subspace_id») (a .of .timestamp) (drop (a .start) (now (a .message))) ≡ accepted (c .before .before .before .decode-head .result .head) (c .before .first-answer .given .0 .0)
-head-is c = sym (c .before .before .before .decode-head .ensures) ∙ ap (λ (d : Decoded). answerOf d (c .before .before .before .decode-head .result .head)) (c .before .first-answer .given .1)
+head-is c =
+    let after-decode-head : tie.After-decode-head = search in
+    sym (after-decode-head .decode-head .ensures) ∙ ap (λ (d : Decoded). answerOf d (after-decode-head .decode-head .result .head)) (c .before .first-answer .given .1)
 
 head-in : (c : tie.After-known-told) → c .before .before .before .before .before .before .before .args .start + c .before .first-answer .given .0 .0 ≤ length (now (c .before .before .before .before .before .before .before .args .message))
-head-in c = let a = c .before .before .before .before .before .before .before .args in head-inside (a .of .«namespace_id») (a .of .«subspace_id») (a .of .timestamp) (now (a .message)) (a .start) _ _ (head-is c)
+head-in c =
+    let start : tie.Start = search in
+    let a = start .args in head-inside (a .of .«namespace_id») (a .of .«subspace_id») (a .of .timestamp) (now (a .message)) (a .start) _ _ (head-is c)
 
 path-told : (c : tie.After-relative-decode) → let s = c .before .before .before .before .before .before .before .before .before in
     answerOf (c .relative-decode .result .answer) (c .relative-decode .result .path) ≡ readAgainstPath false (reference s .path) (drop (s .args .start + c .before .before .before .first-answer .given .0 .0) (now (s .args .message)))
-path-told c = rw (to-end (c .before .before .before .before .before .before .before .before .before .args .start + c .before .before .before .first-answer .given .0 .0) (now (c .before .before .before .before .before .before .before .before .before .args .message))) at (c .relative-decode .ensures .answer)
+path-told c =
+    let after-first-answer : tie.After-first-answer = search in
+    let start : tie.Start = search in
+    rw (to-end (start .args .start + after-first-answer .first-answer .given .0 .0) (now (start .args .message))) at (c .relative-decode .ensures .answer)
 
 path-is : (c : tie.After-known-told2) → let s = c .before .before .before .before .before .before .before .before .before .before .before .before in
     readAgainstPath false (reference s .path) (drop (s .args .start + c .before .before .before .before .before .before .first-answer .given .0 .0) (now (s .args .message))) ≡ accepted (c .before .before .before .relative-decode .result .path) (c .before .second-answer .given .0 .0)
-path-is c = sym (path-told (c .before .before .before)) ∙ ap (λ (d : Decoded). answerOf d (c .before .before .before .relative-decode .result .path)) (c .before .second-answer .given .1)
+path-is c =
+    let after-relative-decode : tie.After-relative-decode = search in
+    sym (path-told after-relative-decode) ∙ ap (λ (d : Decoded). answerOf d (after-relative-decode .relative-decode .result .path)) (c .before .second-answer .given .1)
 
 path-in : (c : tie.After-known-told2) → c .before .before .before .before .before .before .before .before .before .before .before .before .args .start + c .before .before .before .before .before .before .first-answer .given .0 .0 + c .before .second-answer .given .0 .0 ≤ length (now (c .before .before .before .before .before .before .before .before .before .before .before .before .args .message))
-path-in c = let s = c .before .before .before .before .before .before .before .before .before .before .before .before in path-inside (reference s) (now (s .args .message)) (s .args .start) _ _ (head-is (c .before .before .before .before .before)) _ _ (path-is c)
+path-in c =
+    let after-known-told : tie.After-known-told = search in
+    let s : tie.Start = search in
+    path-inside (reference s) (now (s .args .message)) (s .args .start) _ _ (head-is after-known-told) _ _ (path-is c)
 
 digest-is : (c : tie.After-known-told3) → let s = c .before .before .before .before .before .before .before .before .before .before .before .before .before .before .before .before in
     someBytes 32 (drop (s .args .start + c .before .before .before .before .before .before .before .before .before .before .first-answer .given .0 .0 + c .before .before .before .before .before .second-answer .given .0 .0) (now (s .args .message))) ≡ accepted (c .before .before .before .decode-id .result .id) (c .before .third-answer .given .0 .0)
-digest-is c = sym (c .before .before .before .decode-id .ensures .answer) ∙ ap (λ (d : Decoded). answerOf d (c .before .before .before .decode-id .result .id)) (c .before .third-answer .given .1)
+digest-is c =
+    let after-decode-id : tie.After-decode-id = search in
+    sym (after-decode-id .decode-id .ensures .answer) ∙ ap (λ (d : Decoded). answerOf d (after-decode-id .decode-id .result .id)) (c .before .third-answer .given .1)
 
 digest-in : (c : tie.After-known-told3) → c .before .before .before .before .before .before .before .before .before .before .before .before .before .before .before .before .args .start + c .before .before .before .before .before .before .before .before .before .before .first-answer .given .0 .0 + c .before .before .before .before .before .second-answer .given .0 .0 + c .before .third-answer .given .0 .0 ≤ length (now (c .before .before .before .before .before .before .before .before .before .before .before .before .before .before .before .before .args .message))
-digest-in c = let s = c .before .before .before .before .before .before .before .before .before .before .before .before .before .before .before .before in digest-inside (reference s) (now (s .args .message)) (s .args .start) _ _ (head-is (c .before .before .before .before .before .before .before .before .before)) _ _ (path-is (c .before .before .before .before)) _ _ (digest-is c)
+digest-in c =
+    let after-known-told2 : tie.After-known-told2 = search in
+    let after-known-told : tie.After-known-told = search in
+    let s : tie.Start = search in
+    digest-inside (reference s) (now (s .args .message)) (s .args .start) _ _ (head-is after-known-told) _ _ (path-is after-known-told2) _ _ (digest-is c)
 
 -- the sums fit
 fit : (c : tie.After-known-told3) → Fits w64 (c .before .before .before .before .before .second-answer .given .0 .0 + c .before .third-answer .given .0 .0) × Fits w64 (c .before .before .before .before .before .before .before .before .before .before .first-answer .given .0 .0 + (c .before .before .before .before .before .second-answer .given .0 .0 + c .before .third-answer .given .0 .0))
@@ -56,7 +74,7 @@ fit c = (omega (arith, digest-in c), omega (arith, digest-in c))
 
 returns : tie.Need-returns
 returns c =
-    let s = c .before .before .before .before .before .before in
+    let s : tie.Start = search in
     let x = no-value (c .before .before .decode-head .result .answer) (c .before .match .keys2) in
     rw (c .refuse-head .ensures) (entry-unread (reference s) (now (s .args .message)) (s .args .start) _ x (sym (c .before .before .decode-head .ensures) ∙ x .beside _))
 
@@ -72,9 +90,10 @@ part-relative-decode-start c = omega (arith, head-in c)
 returns-2 : tie.Need-returns-2
 unfolding refusal
 returns-2 c =
-    let s = c .before .before .before .before .before .before .before .before .before .before .before in
+    let after-known-told : tie.After-known-told = search in
+    let s : tie.Start = search in
     let x = no-value (c .before .before .relative-decode .result .answer) (c .before .match2 .keys2) in
-    rw (c .refuse .ensures) (gives-refused (x .why) (x .beside _) (entry-path (reference s) (now (s .args .message)) (s .args .start) _ _ (head-is (c .before .before .before .before)) (x .why) (sym (path-told (c .before .before)) ∙ x .beside _)))
+    rw (c .refuse .ensures) (gives-refused (x .why) (x .beside _) (entry-path (reference s) (now (s .args .message)) (s .args .start) _ _ (head-is after-known-told) (x .why) (sym (path-told (c .before .before)) ∙ x .beside _)))
 
 add-decode-id : tie.Need-add-decode-id
 add-decode-id c = omega (arith, path-in c)
@@ -82,20 +101,29 @@ add-decode-id c = omega (arith, path-in c)
 returns-3 : tie.Need-returns-3
 unfolding refusal
 returns-3 c =
-    let s = c .before .before .before .before .before .before .before .before .before .before .before .before .before .before .before in
+    let after-known-told2 : tie.After-known-told2 = search in
+    let after-known-told : tie.After-known-told = search in
+    let s : tie.Start = search in
     let x = no-value (c .before .before .decode-id .result .answer) (c .before .match3 .keys2) in
-    rw (c .refuse2 .ensures) (gives-refused (x .why) (x .beside _) (entry-digest (reference s) (now (s .args .message)) (s .args .start) _ _ (head-is (c .before .before .before .before .before .before .before .before)) _ _ (path-is (c .before .before .before)) (x .why) (sym (c .before .before .decode-id .ensures .answer) ∙ x .beside _)))
+    rw (c .refuse2 .ensures) (gives-refused (x .why) (x .beside _) (entry-digest (reference s) (now (s .args .message)) (s .args .start) _ _ (head-is after-known-told) _ _ (path-is after-known-told2) (x .why) (sym (c .before .before .decode-id .ensures .answer) ∙ x .beside _)))
 
 add-t23 : tie.Need-add-t23
-add-t23 c = fit (c .before .before .before .before .before) .0
+add-t23 c =
+    let after-known-told3 : tie.After-known-told3 = search in
+    fit after-known-told3 .0
 
 add-t26 : tie.Need-add-t26
-add-t26 c = fit (c .before .before .before .before .before) .1
+add-t26 c =
+    let after-known-told3 : tie.After-known-told3 = search in
+    fit after-known-told3 .1
 
 returns-4 : tie.Need-returns-4
 returns-4 c =
-    let s = c .before .before .before .before .before .before .before .before .before .before .before .before .before .before .before .before .before .before .before .before .before in
-    gives-accepted (entry-read (reference s) (now (s .args .message)) (s .args .start) _ _ (head-is (c .before .before .before .before .before .before .before .before .before .before .before .before .before .before)) _ _ (path-is (c .before .before .before .before .before .before .before .before .before)) _ _ (digest-is (c .before .before .before .before .before)))
+    let after-known-told3 : tie.After-known-told3 = search in
+    let after-known-told2 : tie.After-known-told2 = search in
+    let after-known-told : tie.After-known-told = search in
+    let s : tie.Start = search in
+    gives-accepted (entry-read (reference s) (now (s .args .message)) (s .args .start) _ _ (head-is after-known-told) _ _ (path-is after-known-told2) _ _ (digest-is after-known-told3))
 
 pub relative-decode-spec : {M : Type 1} → statement M
 relative-decode-spec =

@@ -28,56 +28,76 @@ reference c = entryWith (c .args .of) (pathOf (now (c .args .of-bytes)) (now (c 
 
 -- how many components are shared; so writing is allowed
 shared-of : (c : tie.After-known-told) → let s = c .before .before .before .before .before .before .before .before .before in Common (reference s .path) (entry s .path) (c .before .common .given .0 .0)
-shared-of c = let s = c .before .before .before .before .before .before .before .before .before in common (reference s .path) (entry s .path) _ (sym (c .before .before .before .longest-common-prefix .ensures) ∙ c .before .common .given .1)
+shared-of c =
+    let after-longest-common-prefix : tie.After-longest-common-prefix = search in
+    let s : tie.Start = search in
+    common (reference s .path) (entry s .path) _ (sym (after-longest-common-prefix .longest-common-prefix .ensures) ∙ c .before .common .given .1)
 
 valid : (c : tie.After-known-told) → let s = c .before .before .before .before .before .before .before .before .before in againstEntry (reference s) .check (entry s) ≡ allowed
 valid c =
-    let s = c .before .before .before .before .before .before .before .before .before in
+    let s : tie.Start = search in
     let k = shared-of c in
     sym (path-check (reference s) (entry s)) ∙ sym (shared-against (reference s .path) (entry s .path) _ k .0) ∙ rest-allowed (reference s .path) (entry s .path) _ k
 
 -- the length of the path, and of all
 path-is : (c : tie.After-known-told2) → let s = c .before .before .before .before .before .before .before .before .before .before .before .before .before in c .before .path .given .0 .0 ≡ length (againstPath (reference s .path) .encode (entry s .path))
 path-is c =
-    let s = c .before .before .before .before .before .before .before .before .before .before .before .before .before in
-    let k = c .before .before .before .before .before .common .given .0 .0 in
-    length-wrote (sharedFrom k) (entry s .path) _ (sym (c .before .before .before .shared-len .ensures) ∙ ap outcomeOf (c .before .path .given .1)) .1 ∙ ap length (shared-against (reference s .path) (entry s .path) k (shared-of (c .before .before .before .before)) .1)
+    let after-shared-len : tie.After-shared-len = search in
+    let after-known-told : tie.After-known-told = search in
+    let after-common : tie.After-common = search in
+    let s : tie.Start = search in
+    let k = after-common .common .given .0 .0 in
+    length-wrote (sharedFrom k) (entry s .path) _ (sym (after-shared-len .shared-len .ensures) ∙ ap outcomeOf (c .before .path .given .1)) .1 ∙ ap length (shared-against (reference s .path) (entry s .path) k (shared-of after-known-told) .1)
 
 long : (c : tie.After-entry-len) → let s = c .before .before .before .before .before .before .before .before .before .before .before .before .before .before in c .entry-len .result ≡ length (againstEntry (reference s) .encode (entry s))
-long c = let s = c .before .before .before .before .before .before .before .before .before .before .before .before .before .before in c .entry-len .ensures ∙ entry-long (reference s) (entry s) _ (path-is (c .before)) (digest-long (s .args .fields) (s .good .1 .0))
+long c =
+    let s : tie.Start = search in
+    c .entry-len .ensures ∙ entry-long (reference s) (entry s) _ (path-is (c .before)) (digest-long (s .args .fields) (s .good .1 .0))
 
 returns : tie.Need-returns
 returns c =
-    let s = c .before .before .before .before .before .before .before .before in
+    let s : tie.Start = search in
     let w = uncommon (reference s .path) (entry s .path) (sym (c .before .before .longest-common-prefix .ensures) ∙ c .enum-told .given .1) in
     let b : againstPath (reference s .path) .check (entry s .path) ≡ barred 5 = rw w in
     put-barred (againstEntry (reference s) .check (entry s)) (againstEntry (reference s) .encode (entry s)) (now (s .args .buffer)) 5 (sym (path-check (reference s) (entry s)) ∙ b)
 
 returns-2 : tie.Need-returns-2
 returns-2 c =
-    let s = c .before .before .before .before .before .before .before .before .before .before .before in
+    let after-common : tie.After-common = search in
+    let s : tie.Start = search in
     let none = no-length (c .before .shared-len .result) (c .match2 .keys2) in
-    absurd (length-not-denied (sharedFrom (c .before .before .before .common .given .0 .0)) (entry s .path) (none .why) (rest-allowed (reference s .path) (entry s .path) _ (shared-of (c .before .before))) (sym (c .before .shared-len .ensures) ∙ none .is))
+    absurd (length-not-denied (sharedFrom (after-common .common .given .0 .0)) (entry s .path) (none .why) (rest-allowed (reference s .path) (entry s .path) _ (shared-of (c .before .before))) (sym (c .before .shared-len .ensures) ∙ none .is))
 
 entry-len-requires : tie.Need-entry-len-requires
-entry-len-requires c κs = let s = c .before .before .before .before .before .before .before .before .before .before .before .before .before in omega (arith, path-is c, path-short (reference s) (entry s) (valid (c .before .before .before .before)))
+entry-len-requires c κs =
+    let after-known-told : tie.After-known-told = search in
+    let s : tie.Start = search in
+    omega (arith, path-is c, path-short (reference s) (entry s) (valid after-known-told))
 
 returns-3 : tie.Need-returns-3
-returns-3 c = let s = c .before .before .before .before .before .before .before .before .before .before .before .before .before .before .before in put-full (againstEntry (reference s) .check (entry s)) (againstEntry (reference s) .encode (entry s)) (now (s .args .buffer)) (valid (c .before .before .before .before .before .before)) _ (long (c .before)) (c .if1 .taken)
+returns-3 c =
+    let after-known-told : tie.After-known-told = search in
+    let s : tie.Start = search in
+    put-full (againstEntry (reference s) .check (entry s)) (againstEntry (reference s) .encode (entry s)) (now (s .args .buffer)) (valid after-known-told) _ (long (c .before)) (c .if1 .taken)
 
 put-entry-requires : tie.Need-put-entry-requires
 put-entry-requires c κs =
-    let s = c .before .before .before .before .before .before .before .before .before .before .before .before .before .before .before .before in
-    let k = c .before .before .before .before .before .before .before .before .common .given .0 .0 in
-    let same = shared-against (reference s .path) (entry s .path) k (shared-of (c .before .before .before .before .before .before .before)) .1 in
-    (rest-allowed (reference s .path) (entry s .path) k (shared-of (c .before .before .before .before .before .before .before)), omega (arith, ap (λ (bs : List ℕ). length (partsWith (s .args .of) (s .args .fields) bs)) same, ap length (entry-bytes (reference s) (entry s)), long (c .before .before), c .before .if1 .left))
+    let after-known-told : tie.After-known-told = search in
+    let after-common : tie.After-common = search in
+    let s : tie.Start = search in
+    let k = after-common .common .given .0 .0 in
+    let same = shared-against (reference s .path) (entry s .path) k (shared-of after-known-told) .1 in
+    (rest-allowed (reference s .path) (entry s .path) k (shared-of after-known-told), omega (arith, ap (λ (bs : List ℕ). length (partsWith (s .args .of) (s .args .fields) bs)) same, ap length (entry-bytes (reference s) (entry s)), long (c .before .before), c .before .if1 .left))
 
 returns-4 : tie.Need-returns-4
 returns-4 c =
-    let s = c .before .before .before .before .before .before .before .before .before .before .before .before .before .before .before .before .before .before .before in
+    let else1 : tie.Else1 = search in
+    let after-entry-len : tie.After-entry-len = search in
+    let after-known-told : tie.After-known-told = search in
+    let s : tie.Start = search in
     let l = now (s .args .buffer) in
-    let same = shared-against (reference s .path) (entry s .path) _ (shared-of (c .before .before .before .before .before .before .before .before .before .before)) .1 in
-    let put = put-fits (againstEntry (reference s) .check (entry s)) (againstEntry (reference s) .encode (entry s)) l (valid (c .before .before .before .before .before .before .before .before .before .before)) _ (long (c .before .before .before .before .before)) (c .before .before .before .before .if1 .left) in
+    let same = shared-against (reference s .path) (entry s .path) _ (shared-of after-known-told) .1 in
+    let put = put-fits (againstEntry (reference s) .check (entry s)) (againstEntry (reference s) .encode (entry s)) l (valid after-known-told) _ (long after-entry-len) (else1 .if1 .left) in
     let written = ap (λ (bs : List ℕ). packHeader (headerWith (s .args .of) (s .args .fields)) ∷ partsWith (s .args .of) (s .args .fields) bs) same ∙ entry-bytes (reference s) (entry s) in
     (put .0, c .before .before .put-entry .ensures ∙ ap (λ (bs : List ℕ). over bs l) written ∙ put .1)
 

@@ -26,22 +26,25 @@ reference c = entryWith (c .args .of) (pathOf (now (c .args .of-bytes)) (now (c 
 path-is : (c : tie.After-known-told) → let s = c .before .before .before .before .before .before .before .before in
     (againstEntry (reference s) .check (entry s) ≡ allowed) × (c .before .path .given .0 .0 ≡ length (againstPath (reference s .path) .encode (entry s .path)))
 path-is c =
-    let s = c .before .before .before .before .before .before .before .before in
-    let l = length-wrote (againstPath (reference s .path)) (entry s .path) _ (sym (c .before .before .before .relative-len-of-encoding .ensures) ∙ ap outcomeOf (c .before .path .given .1)) in
+    let after-relative-len-of-encoding : tie.After-relative-len-of-encoding = search in
+    let s : tie.Start = search in
+    let l = length-wrote (againstPath (reference s .path)) (entry s .path) _ (sym (after-relative-len-of-encoding .relative-len-of-encoding .ensures) ∙ ap outcomeOf (c .before .path .given .1)) in
     (sym (path-check (reference s) (entry s)) ∙ l .0, l .1)
 
 returns : tie.Need-returns
 returns c =
-    let s = c .before .before .before .before .before .before in
+    let s : tie.Start = search in
     let none = no-length (c .before .relative-len-of-encoding .result) (c .match .keys2) in
     none .is ∙ length-barred (againstEntry (reference s)) (entry s) (none .why) (sym (path-check (reference s) (entry s)) ∙ length-denied (againstPath (reference s .path)) (entry s .path) (none .why) (sym (c .before .relative-len-of-encoding .ensures) ∙ none .is))
 
 entry-len-requires : tie.Need-entry-len-requires
-entry-len-requires c κs = let p = path-is c in omega (arith, p .1, path-short (reference (c .before .before .before .before .before .before .before .before)) (entry (c .before .before .before .before .before .before .before .before)) (p .0))
+entry-len-requires c κs =
+    let start : tie.Start = search in
+    let p = path-is c in omega (arith, p .1, path-short (reference start) (entry start) (p .0))
 
 returns-2 : tie.Need-returns-2
 returns-2 c =
-    let s = c .before .before .before .before .before .before .before .before .before in
+    let s : tie.Start = search in
     let p = path-is (c .before) in
     length-allowed (againstEntry (reference s)) (entry s) _ (p .0) (c .entry-len .ensures ∙ entry-long (reference s) (entry s) _ (p .1) (digest-long (s .args .fields) (s .good .0)))
 

@@ -7,7 +7,10 @@ use Rattle.flat.proofs.area_record.put_area.Tie as tie
 
 returns : tie.Need-returns
 unfolding areaFlat
-returns c = rw append-assoc at (puts-tail (puts-tail (c .before .before .before .before .before .before .before .before .before .before .put-subspace .ensures) (c .before .before .before .before .before .before .put-path .ensures)) (c .before .before .put-times .ensures))
+returns c =
+    let after-put-path : tie.After-put-path = search in
+    let after-put-subspace : tie.After-put-subspace = search in
+    rw append-assoc at (puts-tail (puts-tail (after-put-subspace .put-subspace .ensures) (after-put-path .put-path .ensures)) (c .before .before .put-times .ensures))
 
 pub put-area-spec : {M : Type 1} → statement M
 put-area-spec =

@@ -19,14 +19,17 @@ part-put-bytes-start c = simp length-set (omega arith)
 
 returns : tie.Need-returns
 returns c =
-    let s = c .before .before .before .before .before .before .before .before in
+    let after-bit : tie.After-bit = search in
+    let s : tie.Start = search in
     let a = s .args in
-    let mark = puts-first (now (a .flat)) (c .before .before .before .before .before .bit .result) (omega (arith, s .pre)) in
+    let mark = puts-first (now (a .flat)) (after-bit .bit .result) (omega (arith, s .pre)) in
     let whole = puts-tail mark (puts-put 32 (typed-id (a .subspace) (s .good .1 .0) .0) (room-after mark 32 (s .pre)) (c .before .before .put-bytes .ensures .1)) in
-    puts-as whole (ap (λ (b : ℕ). b ∷ a .subspace .id) (c .before .before .before .before .before .bit .ensures .0))
+    puts-as whole (ap (λ (b : ℕ). b ∷ a .subspace .id) (after-bit .bit .ensures .0))
 
 same-length : tie.Need-same-length
-same-length c = puts-long (returns c) (c .before .before .before .before .before .before .before .before .pre)
+same-length c =
+    let start : tie.Start = search in
+    puts-long (returns c) (start .pre)
 
 pub put-subspace-spec : {M : Type 1} → statement M
 put-subspace-spec =

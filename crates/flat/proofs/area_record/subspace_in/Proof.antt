@@ -10,7 +10,7 @@ use Rattle.flat.proofs.area_record.subspace_in.Tie as tie
 returns : tie.Need-returns
 unfolding areaIn
 returns c =
-    let s = c .before .before .before .before in
+    let s : tie.Start = search in
     let f = now (s .args .flat) in
     rw (id-there (drop 1 f) (from-room f 1 32 (omega (arith, s .pre))) (c .before .before .decode-id .ensures))
 

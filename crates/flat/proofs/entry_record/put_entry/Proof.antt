@@ -7,7 +7,10 @@ use Rattle.flat.proofs.entry_record.put_entry.Tie as tie
 
 returns : tie.Need-returns
 unfolding entryFlat
-returns c = rw append-assoc at (puts-tail (puts-tail (c .before .before .before .before .before .before .before .before .before .before .put-ids .ensures) (c .before .before .before .before .before .before .put-path .ensures)) (c .before .before .put-end .ensures))
+returns c =
+    let after-put-path : tie.After-put-path = search in
+    let after-put-ids : tie.After-put-ids = search in
+    rw append-assoc at (puts-tail (puts-tail (after-put-ids .put-ids .ensures) (after-put-path .put-path .ensures)) (c .before .before .put-end .ensures))
 
 pub put-entry-spec : {M : Type 1} → statement M
 put-entry-spec =

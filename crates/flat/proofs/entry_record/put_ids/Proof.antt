@@ -7,8 +7,9 @@ use Rattle.flat.proofs.entry_record.put_ids.Tie as tie
 
 returns : tie.Need-returns
 returns c =
-    let s = c .before .before .before .before .before .before .before .before .before .before .before .before .before .before .before in
-    let first = puts-put 32 (namespace-long (s .args .t2) (s .good .1 .0)) (omega (arith, s .pre)) (c .before .before .before .before .before .before .before .before .before .put-bytes .ensures .1) in
+    let after-put-bytes : tie.After-put-bytes = search in
+    let s : tie.Start = search in
+    let first = puts-put 32 (namespace-long (s .args .t2) (s .good .1 .0)) (omega (arith, s .pre)) (after-put-bytes .put-bytes .ensures .1) in
     puts-tail first (puts-put 32 (subspace-long (s .args .t2) (s .good .1 .0)) (room-after first 32 (s .pre)) (c .before .before .put-bytes2 .ensures .1))
 
 pub put-ids-spec : {M : Type 1} → statement M

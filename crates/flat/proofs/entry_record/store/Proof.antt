@@ -5,7 +5,9 @@ use Rattle.flat.proofs.entry_record.store.Statement.{statement}
 use Rattle.flat.proofs.entry_record.store.Tie as tie
 
 returns : tie.Need-returns
-returns c = rw (c .before .before .before .before .before .before .before .fields .ensures) at (puts-whole (c .put-entry .ensures) (omega arith))
+returns c =
+    let after-fields : tie.After-fields = search in
+    rw (after-fields .fields .ensures) at (puts-whole (c .put-entry .ensures) (omega arith))
 
 pub store-spec : {M : Type 1} → statement M
 store-spec = tie.close (tie.spec (λ c κs. search needs) (λ c κs. search needs) returns)

@@ -22,30 +22,39 @@ loop-holds : tie.Need-loop-holds Inv-loop μ-loop
 loop-holds c = (omega arith, refl, record { long = refl; is = refl })
 
 sub-put-big-endian : tie.Need-sub-put-big-endian Inv-loop μ-loop
-sub-put-big-endian c = omega (arith, c .before .before .before .before .pre, puts-long (c .before .loop .inv .2) (omega (arith, c .before .before .before .before .pre)))
+sub-put-big-endian c =
+    let start : tie.Start Inv-loop μ-loop = search in
+    omega (arith, start .pre, puts-long (c .before .loop .inv .2) (omega (arith, start .pre)))
 
 part-put-big-endian-start : tie.Need-part-put-big-endian-start Inv-loop μ-loop
-part-put-big-endian-start c = omega (arith, c .before .before .before .before .pre, puts-long (c .before .loop .inv .2) (omega (arith, c .before .before .before .before .pre)))
+part-put-big-endian-start c =
+    let start : tie.Start Inv-loop μ-loop = search in
+    omega (arith, start .pre, puts-long (c .before .loop .inv .2) (omega (arith, start .pre)))
 
 shared-slice-read-put-big-endian : tie.Need-shared-slice-read-put-big-endian Inv-loop μ-loop
-shared-slice-read-put-big-endian c = omega (arith, c .before .before .before .before .before .before .pre .1)
+shared-slice-read-put-big-endian c =
+    let start : tie.Start Inv-loop μ-loop = search in
+    omega (arith, start .pre .1)
 
 loop-again : tie.Need-loop-again Inv-loop μ-loop
 loop-again c =
-    let s = c .before .before .before .before .before .before .before .before .before in
-    let l = c .before .before .before .before .before .before .loop in
+    let at-loop : tie.At-loop Inv-loop μ-loop = search in
+    let s : tie.Start Inv-loop μ-loop = search in
+    let l = at-loop .loop in
     let ls = now (s .args .lengths) in
     let room = room-after (l .inv .2) 2 (omega (arith, s .pre)) in
     let put = puts-tail (l .inv .2) (puts-number 2 (getD ls (l .i) 0) room (c .before .before .put-big-endian .ensures .1)) in
     (omega arith, omega arith, puts-as put (shorts-next ls (l .i) (omega (arith, s .pre .1))))
 
 same-length : tie.Need-same-length Inv-loop μ-loop
-same-length c = puts-long (c .before .loop .inv .2) (omega (arith, c .before .before .before .before .pre))
+same-length c =
+    let start : tie.Start Inv-loop μ-loop = search in
+    puts-long (c .before .loop .inv .2) (omega (arith, start .pre))
 
 returns : tie.Need-returns Inv-loop μ-loop
 returns c =
+    let s : tie.Start Inv-loop μ-loop = search in
     let l = c .before .loop in
-    let s = c .before .before .before .before in
     let ls = now (s .args .lengths) in
     let i : l .i ≡ 20 = omega arith in
     let at : l .at ≡ 40 = omega arith in

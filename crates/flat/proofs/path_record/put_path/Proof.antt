@@ -15,24 +15,33 @@ part-put-lengths-start : tie.Need-part-put-lengths-start
 part-put-lengths-start c = simp length-set (omega arith)
 
 put-lengths-requires : tie.Need-put-lengths-requires
-put-lengths-requires c κs = let s = c .before .before .before .before in (room-after (puts-first (now (s .args .flat)) (s .args .count % 256) (omega (arith, s .pre))) 40 (omega (arith, s .pre)), s .pre .1 .1)
+put-lengths-requires c κs =
+    let s : tie.Start = search in
+    (room-after (puts-first (now (s .args .flat)) (s .args .count % 256) (omega (arith, s .pre))) 40 (omega (arith, s .pre)), s .pre .1 .1)
 
 sub-put-bytes : tie.Need-sub-put-bytes
-sub-put-bytes c = let s = c .before .before .before .before .before .before .before in omega (arith, s .pre, puts-long (puts-tail (puts-first (now (s .args .flat)) (s .args .count % 256) (omega (arith, s .pre))) (c .before .before .put-lengths .ensures)) (omega (arith, s .pre)))
+sub-put-bytes c =
+    let s : tie.Start = search in
+    omega (arith, s .pre, puts-long (puts-tail (puts-first (now (s .args .flat)) (s .args .count % 256) (omega (arith, s .pre))) (c .before .before .put-lengths .ensures)) (omega (arith, s .pre)))
 
 part-put-bytes-start : tie.Need-part-put-bytes-start
-part-put-bytes-start c = let s = c .before .before .before .before .before .before .before in omega (arith, s .pre, puts-long (puts-tail (puts-first (now (s .args .flat)) (s .args .count % 256) (omega (arith, s .pre))) (c .before .before .put-lengths .ensures)) (omega (arith, s .pre)))
+part-put-bytes-start c =
+    let s : tie.Start = search in
+    omega (arith, s .pre, puts-long (puts-tail (puts-first (now (s .args .flat)) (s .args .count % 256) (omega (arith, s .pre))) (c .before .before .put-lengths .ensures)) (omega (arith, s .pre)))
 
 returns : tie.Need-returns
 unfolding pathFlat
 returns c =
-    let s = c .before .before .before .before .before .before .before .before .before .before .before in
+    let after-put-lengths : tie.After-put-lengths = search in
+    let s : tie.Start = search in
     let first = puts-first (now (s .args .flat)) (s .args .count % 256) (omega (arith, s .pre)) in
-    let second = puts-tail first (c .before .before .before .before .before .before .put-lengths .ensures) in
+    let second = puts-tail first (after-put-lengths .put-lengths .ensures) in
     puts-tail second (puts-put 600 (s .pre .1 .0) (room-after second 600 (s .pre .0)) (c .before .before .put-bytes .ensures .1))
 
 same-length : tie.Need-same-length
-same-length c = puts-long (returns c) (c .before .before .before .before .before .before .before .before .before .before .before .pre .0)
+same-length c =
+    let start : tie.Start = search in
+    puts-long (returns c) (start .pre .0)
 
 pub put-path-spec : {M : Type 1} → statement M
 put-path-spec =

@@ -23,25 +23,31 @@ loop-holds : tie.Need-loop-holds Inv-loop μ-loop
 loop-holds c = (omega arith, refl, refl)
 
 shared-slice-read-wide : tie.Need-shared-slice-read-wide Inv-loop μ-loop
-shared-slice-read-wide c = omega (arith, c .before .before .before .before .pre)
+shared-slice-read-wide c =
+    let start : tie.Start Inv-loop μ-loop = search in
+    omega (arith, start .pre)
 
 mul-lengths : tie.Need-mul-lengths Inv-loop μ-loop
 mul-lengths c = omega (arith, c .wide .ensures .1)
 
 shared-slice-read-wide-2 : tie.Need-shared-slice-read-wide-2 Inv-loop μ-loop
-shared-slice-read-wide-2 c = omega (arith, c .before .before .before .before .before .before .pre)
+shared-slice-read-wide-2 c =
+    let start : tie.Start Inv-loop μ-loop = search in
+    omega (arith, start .pre)
 
 add-lengths : tie.Need-add-lengths Inv-loop μ-loop
 add-lengths c = omega (arith, c .wide2 .ensures .1, c .before .before .wide .ensures .1)
 
 loop-again : tie.Need-loop-again Inv-loop μ-loop
 loop-again c =
-    let f = now (c .before .before .before .before .before .before .before .args .flat) in
-    let l = c .before .before .before .before .before .loop in
+    let at-loop : tie.At-loop Inv-loop μ-loop = search in
+    let start : tie.Start Inv-loop μ-loop = search in
+    let f = now (start .args .flat) in
+    let l = at-loop .loop in
     let high = c .before .before .wide in
     let low = c .wide2 in
     let v : high .result * 256 + low .result ≡ valueOf (take 2 (drop (2 * l .i) (drop 1 f))) =
-    rw (high .ensures .0, low .ensures .0, drop-drop (2 * l .i) 1 f) (short-there f (1 + 2 * l .i) (omega (arith, c .before .before .before .before .before .before .before .pre))) in
+    rw (high .ensures .0, low .ensures .0, drop-drop (2 * l .i) 1 f) (short-there f (1 + 2 * l .i) (omega (arith, start .pre))) in
     let t : take (l .i + 1) (set (l .lengths) (l .i) (high .result * 256 + low .result)) ≡ shortsIn (l .i + 1) (drop 1 f) =
     ap (λ (k : ℕ). take k (set (l .lengths) (l .i) (high .result * 256 + low .result))) (add-one (l .i))
     ∙ take-suc-set (l .lengths) (l .i) (high .result * 256 + low .result) (omega arith)
@@ -55,13 +61,20 @@ all c =
     sym (take-all 20 (l .lengths) (omega arith)) ∙ rw i at (l .inv .2)
 
 returns : tie.Need-returns Inv-loop μ-loop
-returns c = rw (all (c .before), not-true (c .before .before .before .before .args .marked) (c .if1 .taken))
+returns c =
+    let start : tie.Start Inv-loop μ-loop = search in
+    rw (all (c .before), not-true (start .args .marked) (c .if1 .taken))
 
 shared-slice-read-wide-3 : tie.Need-shared-slice-read-wide-3 Inv-loop μ-loop
-shared-slice-read-wide-3 c = omega (arith, c .before .before .before .before .before .pre)
+shared-slice-read-wide-3 c =
+    let start : tie.Start Inv-loop μ-loop = search in
+    omega (arith, start .pre)
 
 returns-2 : tie.Need-returns-2 Inv-loop μ-loop
-returns-2 c = rw (all (c .before .before .before), not-false (c .before .before .before .before .before .before .args .marked) (c .before .before .if1 .left), c .wide3 .ensures .0)
+returns-2 c =
+    let after-loop : tie.After-loop Inv-loop μ-loop = search in
+    let start : tie.Start Inv-loop μ-loop = search in
+    rw (all after-loop, not-false (start .args .marked) (c .before .before .if1 .left), c .wide3 .ensures .0)
 
 pub sizes-in-spec : {M : Type 1} → statement M
 sizes-in-spec =

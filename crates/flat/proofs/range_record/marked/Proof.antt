@@ -15,7 +15,9 @@ returns-2 c = rw (le-leb _ _ (c .before .before .if1 .left), lt-leb _ _ (c .if2 
 
 returns-3 : tie.Need-returns-3
 unfolding rangeMarked
-returns-3 c = rw (le-leb _ _ (c .before .before .before .before .if1 .left), le-leb _ _ (c .before .before .if2 .left)) (rw to-end at (c .marked .ensures))
+returns-3 c =
+    let else1 : tie.Else1 = search in
+    rw (le-leb _ _ (else1 .if1 .left), le-leb _ _ (c .before .before .if2 .left)) (rw to-end at (c .marked .ensures))
 
 pub marked-spec : {M : Type 1} → statement M
 marked-spec =

@@ -18,19 +18,26 @@ part-put-path-start : tie.Need-part-put-path-start
 part-put-path-start c = simp length-set (omega arith)
 
 put-path-requires-2 : tie.Need-put-path-requires-2
-put-path-requires-2 c κs = let s = c .before .before .before .before .before .before .before .before .before .before .before in (room-after (puts-byte (c .before .before .before .before .put-path .ensures) (c .before .bit .result) (omega (arith, s .pre))) 641 (s .pre .0), s .pre .2)
+put-path-requires-2 c κs =
+    let after-put-path : tie.After-put-path = search in
+    let s : tie.Start = search in
+    (room-after (puts-byte (after-put-path .put-path .ensures) (c .before .bit .result) (omega (arith, s .pre))) 641 (s .pre .0), s .pre .2)
 
 returns : tie.Need-returns
 returns c =
-    let s = c .before .before .before .before .before .before .before .before .before .before .before .before .before .before in
+    let after-bit : tie.After-bit = search in
+    let after-put-path : tie.After-put-path = search in
+    let s : tie.Start = search in
     let start = pathOf (now (s .args .start-bytes)) (now (s .args .start-lengths)) (s .args .start-count) in
     let end = pathOf (now (s .args .end-bytes)) (now (s .args .end-lengths)) (s .args .end-count) in
-    let mark = puts-byte (c .before .before .before .before .before .before .before .put-path .ensures) (c .before .before .before .before .bit .result) (omega (arith, s .pre)) in
+    let mark = puts-byte (after-put-path .put-path .ensures) (after-bit .bit .result) (omega (arith, s .pre)) in
     puts-as (puts-tail mark (c .before .before .put-path2 .ensures))
-    (append-assoc (pathFlat start) (c .before .before .before .before .bit .result ∷ []) (pathFlat end) ∙ ap (λ (b : ℕ). pathFlat start ++ (b ∷ pathFlat end)) (c .before .before .before .before .bit .ensures .0))
+    (append-assoc (pathFlat start) (after-bit .bit .result ∷ []) (pathFlat end) ∙ ap (λ (b : ℕ). pathFlat start ++ (b ∷ pathFlat end)) (after-bit .bit .ensures .0))
 
 same-length : tie.Need-same-length
-same-length c = puts-long (returns c) (c .before .before .before .before .before .before .before .before .before .before .before .before .before .before .pre .0)
+same-length c =
+    let start : tie.Start = search in
+    puts-long (returns c) (start .pre .0)
 
 pub put-paths-spec : {M : Type 1} → statement M
 put-paths-spec =

@@ -5,7 +5,10 @@ use Rattle.flat.proofs.range_record.put_range.Statement.{statement}
 use Rattle.flat.proofs.range_record.put_range.Tie as tie
 
 returns : tie.Need-returns
-returns c = rw append-assoc at (puts-tail (puts-tail (c .before .before .before .before .before .before .before .before .before .before .put-subspaces .ensures) (c .before .before .before .before .before .before .put-paths .ensures)) (c .before .before .put-times .ensures))
+returns c =
+    let after-put-paths : tie.After-put-paths = search in
+    let after-put-subspaces : tie.After-put-subspaces = search in
+    rw append-assoc at (puts-tail (puts-tail (after-put-subspaces .put-subspaces .ensures) (after-put-paths .put-paths .ensures)) (c .before .before .put-times .ensures))
 
 pub put-range-spec : {M : Type 1} → statement M
 put-range-spec =

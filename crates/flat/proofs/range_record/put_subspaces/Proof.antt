@@ -18,16 +18,20 @@ part-put-bytes-start c = simp length-set (omega arith)
 
 returns : tie.Need-returns
 returns c =
-    let s = c .before .before .before .before .before .before .before .before .before .before .before .before .before .before in
+    let after-bit : tie.After-bit = search in
+    let after-put-bytes : tie.After-put-bytes = search in
+    let s : tie.Start = search in
     let r = s .args .subspaces in
     let t = typed-subspaces r (s .good .1 .0) in
-    let first = puts-put 32 (t .start .0) (omega (arith, s .pre)) (c .before .before .before .before .before .before .before .before .put-bytes .ensures .1) in
-    let mark = puts-byte first (c .before .before .before .before .before .bit .result) (omega (arith, s .pre)) in
+    let first = puts-put 32 (t .start .0) (omega (arith, s .pre)) (after-put-bytes .put-bytes .ensures .1) in
+    let mark = puts-byte first (after-bit .bit .result) (omega (arith, s .pre)) in
     let whole = puts-tail mark (puts-put 32 (t .end .0) (room-after mark 32 (s .pre)) (c .before .before .put-bytes2 .ensures .1)) in
-    puts-as whole (append-assoc (r .start) (c .before .before .before .before .before .bit .result ∷ []) (r .end) ∙ ap (λ (b : ℕ). r .start ++ (b ∷ r .end)) (c .before .before .before .before .before .bit .ensures .0))
+    puts-as whole (append-assoc (r .start) (after-bit .bit .result ∷ []) (r .end) ∙ ap (λ (b : ℕ). r .start ++ (b ∷ r .end)) (after-bit .bit .ensures .0))
 
 same-length : tie.Need-same-length
-same-length c = puts-long (returns c) (c .before .before .before .before .before .before .before .before .before .before .before .before .before .before .pre)
+same-length c =
+    let start : tie.Start = search in
+    puts-long (returns c) (start .pre)
 
 pub put-subspaces-spec : {M : Type 1} → statement M
 put-subspaces-spec =

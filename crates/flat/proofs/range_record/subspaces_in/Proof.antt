@@ -8,10 +8,12 @@ use Rattle.flat.proofs.range_record.subspaces_in.Tie as tie
 
 returns : tie.Need-returns
 returns c =
-    let s = c .before .before .before .before .before .before in
+    let after-decode-id2 : tie.After-decode-id2 = search in
+    let after-decode-id : tie.After-decode-id = search in
+    let s : tie.Start = search in
     let f = now (s .args .flat) in
-    let start = id-there f (omega (arith, s .pre)) (c .before .before .before .before .decode-id .ensures) in
-    let end = id-there (drop 33 f) (from-room f 33 32 (omega (arith, s .pre))) (c .before .before .before .decode-id2 .ensures) in
+    let start = id-there f (omega (arith, s .pre)) (after-decode-id .decode-id .ensures) in
+    let end = id-there (drop 33 f) (from-room f 33 32 (omega (arith, s .pre))) (after-decode-id2 .decode-id2 .ensures) in
     rw (start, end)
 
 pub subspaces-in-spec : {M : Type 1} → statement M

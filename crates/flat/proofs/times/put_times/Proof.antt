@@ -17,15 +17,21 @@ part-put-big-endian-start c = simp length-set (omega arith)
 returns : tie.Need-returns
 unfolding timesFlat
 returns c =
-    let s = c .before .before .before .before .before .before .before .before .before .before .before .before in
+    let after-end-time : tie.After-end-time = search in
+    let after-bit : tie.After-bit = search in
+    let after-is-open : tie.After-is-open = search in
+    let after-put-big-endian : tie.After-put-big-endian = search in
+    let s : tie.Start = search in
     let a = s .args in
-    let first = puts-number 8 (a .times .start) (omega (arith, s .pre)) (c .before .before .before .before .before .before .before .before .before .put-big-endian .ensures .1) in
-    let mark = puts-byte first (c .before .before .before .before .before .bit .result) (omega (arith, s .pre)) in
-    let whole = puts-tail mark (puts-number 8 (c .before .before .before .end-time .result) (room-after mark 8 (s .pre)) (c .before .before .put-big-endian2 .ensures .1)) in
-    puts-as whole (rw (append-assoc, c .before .before .before .end-time .ensures, c .before .before .before .before .before .bit .ensures .0, c .before .before .before .before .before .before .is-open .ensures))
+    let first = puts-number 8 (a .times .start) (omega (arith, s .pre)) (after-put-big-endian .put-big-endian .ensures .1) in
+    let mark = puts-byte first (after-bit .bit .result) (omega (arith, s .pre)) in
+    let whole = puts-tail mark (puts-number 8 (after-end-time .end-time .result) (room-after mark 8 (s .pre)) (c .before .before .put-big-endian2 .ensures .1)) in
+    puts-as whole (rw (append-assoc, after-end-time .end-time .ensures, after-bit .bit .ensures .0, after-is-open .is-open .ensures))
 
 same-length : tie.Need-same-length
-same-length c = puts-long (returns c) (c .before .before .before .before .before .before .before .before .before .before .before .before .pre)
+same-length c =
+    let start : tie.Start = search in
+    puts-long (returns c) (start .pre)
 
 pub put-times-spec : {M : Type 1} → statement M
 put-times-spec =

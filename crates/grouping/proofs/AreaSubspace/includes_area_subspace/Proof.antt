@@ -13,7 +13,10 @@ returns-2 c = rw (c .before .if1 .left, c .if2 .taken)
 
 returns-3 : tie.Need-returns-3
 unfolding subspaceIncludes
-returns-3 c = rw (c .before .before .before .before .before .before .if1 .left, c .before .before .before .before .before .if2 .left) (c .same-bytes .ensures)
+returns-3 c =
+    let else2 : tie.Else2 = search in
+    let else1 : tie.Else1 = search in
+    rw (else1 .if1 .left, else2 .if2 .left) (c .same-bytes .ensures)
 
 pub includes-area-subspace-spec : {M : Type 1} → statement M
 includes-area-subspace-spec =

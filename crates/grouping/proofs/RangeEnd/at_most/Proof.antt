@@ -15,7 +15,9 @@ returns : tie.Need-returns
 returns c = rw (c .enum-told .given .1) (below-open (c .before .before .args .self))
 
 returns-2 : tie.Need-returns-2
-returns-2 c = rw (c .before .self .given .1, c .before .before .before .before .other .given .1)
+returns-2 c =
+    let after-other : tie.After-other = search in
+    rw (c .before .self .given .1, after-other .other .given .1)
 
 pub at-most-spec : {M : Type 1} → statement M
 at-most-spec =

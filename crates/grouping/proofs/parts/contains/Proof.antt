@@ -19,19 +19,31 @@ abbrev right : tie.Start → Area
 right c = areaWith (c .args .other-subspace) (pathOf (now (c .args .other-bytes)) (now (c .args .other-lengths)) (c .args .other-count)) (c .args .other-times)
 
 told : (c : tie.After-enum-told) → let l = left (c .before .before .before .before .before .before .before) in let r = right (c .before .before .before .before .before .before .before) in areaInside l r ≡ verdict (bounds (l .times) (r .times .start) && bounds (l .times) (endValue (r .times .end)))
-told c = included-told (left (c .before .before .before .before .before .before .before)) (right (c .before .before .before .before .before .before .before)) (sym (c .before .before .includes .ensures) ∙ c .enum-told .given .1)
+told c =
+    let start : tie.Start = search in
+    included-told (left start) (right start) (sym (c .before .before .includes .ensures) ∙ c .enum-told .given .1)
 
 returns : tie.Need-returns
-returns c = not-included (left (c .before .before .before .before .before .before)) (right (c .before .before .before .before .before .before)) (c .before .includes .result) (c .before .includes .ensures) (c .match .keys2)
+returns c =
+    let start : tie.Start = search in
+    not-included (left start) (right start) (c .before .includes .result) (c .before .includes .ensures) (c .match .keys2)
 
 returns-2 : tie.Need-returns-2
 returns-2 c = sym (told (c .before .before) ∙ rw (sym (c .before .bounds .ensures) ∙ not-true _ (c .if1 .taken)))
 
 returns-3 : tie.Need-returns-3
-returns-3 c = sym (told (c .before .before .before .before .before) ∙ rw ((sym (c .before .before .before .before .bounds .ensures) ∙ not-false _ (c .before .before .before .if1 .left)), ← (c .before .before .value .ensures), (sym (c .before .bounds2 .ensures) ∙ not-true _ (c .if2 .taken))))
+returns-3 c =
+    let else1 : tie.Else1 = search in
+    let after-bounds : tie.After-bounds = search in
+    let after-enum-told : tie.After-enum-told = search in
+    sym (told after-enum-told ∙ rw ((sym (after-bounds .bounds .ensures) ∙ not-false _ (else1 .if1 .left)), ← (c .before .before .value .ensures), (sym (c .before .bounds2 .ensures) ∙ not-true _ (c .if2 .taken))))
 
 returns-4 : tie.Need-returns-4
-returns-4 c = sym (told (c .before .before .before .before .before) ∙ rw ((sym (c .before .before .before .before .bounds .ensures) ∙ not-false _ (c .before .before .before .if1 .left)), ← (c .before .before .value .ensures), (sym (c .before .bounds2 .ensures) ∙ not-false _ (c .if2 .left))))
+returns-4 c =
+    let else1 : tie.Else1 = search in
+    let after-bounds : tie.After-bounds = search in
+    let after-enum-told : tie.After-enum-told = search in
+    sym (told after-enum-told ∙ rw ((sym (after-bounds .bounds .ensures) ∙ not-false _ (else1 .if1 .left)), ← (c .before .before .value .ensures), (sym (c .before .bounds2 .ensures) ∙ not-false _ (c .if2 .left))))
 
 pub contains-spec : {M : Type 1} → statement M
 contains-spec =

@@ -26,16 +26,27 @@ right-well : (c : tie.Else2) → wellFormedSubspace (c .before .before .before .
 right-well c = sym (c .before .well-formed2 .ensures) ∙ not-false _ (c .if2 .left)
 
 told : (c : tie.After-enum-told) → let l = left (c .before .before .before .before .before .before .before .before .before .before .before) in let r = right (c .before .before .before .before .before .before .before .before .before .before .before) in areaIncludes l r ≡ verdict (includesSubspace (subspaceOf (l .subspace)) (subspaceOf (r .subspace)) && includesRange (l .times) (r .times))
-told c = prefix-told (left (c .before .before .before .before .before .before .before .before .before .before .before)) (right (c .before .before .before .before .before .before .before .before .before .before .before)) (left-well (c .before .before .before .before .before)) (right-well (c .before .before .before)) (sym (c .before .before .is-prefix-of .ensures) ∙ c .enum-told .given .1)
+told c =
+    let else2 : tie.Else2 = search in
+    let else1 : tie.Else1 = search in
+    let start : tie.Start = search in
+    prefix-told (left start) (right start) (left-well else1) (right-well else2) (sym (c .before .before .is-prefix-of .ensures) ∙ c .enum-told .given .1)
 
 returns : tie.Need-returns
-returns c = sym (reference-malformed (left (c .before .before .before .before .before .before)) (right (c .before .before .before .before .before .before)) (sym (c .before .well-formed .ensures) ∙ not-true _ (c .if1 .taken)))
+returns c =
+    let start : tie.Start = search in
+    sym (reference-malformed (left start) (right start) (sym (c .before .well-formed .ensures) ∙ not-true _ (c .if1 .taken)))
 
 returns-2 : tie.Need-returns-2
-returns-2 c = sym (area-malformed (left (c .before .before .before .before .before .before .before .before)) (right (c .before .before .before .before .before .before .before .before)) (sym (c .before .well-formed2 .ensures) ∙ not-true _ (c .if2 .taken)))
+returns-2 c =
+    let start : tie.Start = search in
+    sym (area-malformed (left start) (right start) (sym (c .before .well-formed2 .ensures) ∙ not-true _ (c .if2 .taken)))
 
 returns-3 : tie.Need-returns-3
-returns-3 c = not-prefix (left (c .before .before .before .before .before .before .before .before .before .before)) (right (c .before .before .before .before .before .before .before .before .before .before)) (left-well (c .before .before .before .before)) (right-well (c .before .before)) (c .before .is-prefix-of .result) (c .before .is-prefix-of .ensures) (c .match .keys2)
+returns-3 c =
+    let else1 : tie.Else1 = search in
+    let start : tie.Start = search in
+    not-prefix (left start) (right start) (left-well else1) (right-well (c .before .before)) (c .before .is-prefix-of .result) (c .before .is-prefix-of .ensures) (c .match .keys2)
 
 returns-4 : tie.Need-returns-4
 unfolding subspaceIncludes
@@ -43,11 +54,17 @@ returns-4 c = sym (told (c .before .before) ∙ rw (sym (c .before .includes-are
 
 returns-5 : tie.Need-returns-5
 unfolding subspaceIncludes
-returns-5 c = sym (told (c .before .before .before .before) ∙ rw ((sym (c .before .before .before .includes-area-subspace .ensures) ∙ not-false _ (c .before .before .if3 .left)), (sym (c .before .includes-range .ensures) ∙ not-true _ (c .if4 .taken))))
+returns-5 c =
+    let after-includes-area-subspace : tie.After-includes-area-subspace = search in
+    let after-enum-told : tie.After-enum-told = search in
+    sym (told after-enum-told ∙ rw ((sym (after-includes-area-subspace .includes-area-subspace .ensures) ∙ not-false _ (c .before .before .if3 .left)), (sym (c .before .includes-range .ensures) ∙ not-true _ (c .if4 .taken))))
 
 returns-6 : tie.Need-returns-6
 unfolding subspaceIncludes
-returns-6 c = sym (told (c .before .before .before .before) ∙ rw ((sym (c .before .before .before .includes-area-subspace .ensures) ∙ not-false _ (c .before .before .if3 .left)), (sym (c .before .includes-range .ensures) ∙ not-false _ (c .if4 .left))))
+returns-6 c =
+    let after-includes-area-subspace : tie.After-includes-area-subspace = search in
+    let after-enum-told : tie.After-enum-told = search in
+    sym (told after-enum-told ∙ rw ((sym (after-includes-area-subspace .includes-area-subspace .ensures) ∙ not-false _ (c .before .before .if3 .left)), (sym (c .before .includes-range .ensures) ∙ not-false _ (c .if4 .left))))
 
 pub includes-spec : {M : Type 1} → statement M
 includes-spec =

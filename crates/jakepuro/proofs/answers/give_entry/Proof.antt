@@ -8,7 +8,10 @@ returns : tie.Need-returns
 returns c = stores-refused entryFlat (c .before .before .args .entry) (c .before .before .args .answer) (c .before .match .keys2) (c .refusal .ensures)
 
 returns-2 : tie.Need-returns-2
-returns-2 c = stores-accepted entryFlat (c .before .before .before .before .before .args .entry) (c .before .before .before .before .before .args .answer) _ (c .before .before .before .answer .given .1) (c .store .ensures)
+returns-2 c =
+    let after-answer : tie.After-answer = search in
+    let start : tie.Start = search in
+    stores-accepted entryFlat (start .args .entry) (start .args .answer) _ (after-answer .answer .given .1) (c .store .ensures)
 
 pub give-entry-spec : {M : Type 1} → statement M
 give-entry-spec = tie.close (tie.spec (λ c. search needs) (λ c κs. search needs) returns (λ c κs. search needs) returns-2)

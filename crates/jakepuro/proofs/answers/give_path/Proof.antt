@@ -8,7 +8,10 @@ returns : tie.Need-returns
 returns c = stores-refused pathFlat (c .before .before .args .path) (c .before .before .args .answer) (c .before .match .keys2) (c .refusal .ensures)
 
 returns-2 : tie.Need-returns-2
-returns-2 c = stores-accepted pathFlat (c .before .before .before .before .before .args .path) (c .before .before .before .before .before .args .answer) _ (c .before .before .before .answer .given .1) (c .store .ensures)
+returns-2 c =
+    let after-answer : tie.After-answer = search in
+    let start : tie.Start = search in
+    stores-accepted pathFlat (start .args .path) (start .args .answer) _ (after-answer .answer .given .1) (c .store .ensures)
 
 pub give-path-spec : {M : Type 1} → statement M
 give-path-spec = tie.close (tie.spec (λ c. search needs) (λ c κs. search needs) returns (λ c κs. search needs) returns-2)

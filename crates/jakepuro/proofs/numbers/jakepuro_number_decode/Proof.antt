@@ -9,16 +9,21 @@ use Rattle.jakepuro.proofs.numbers.jakepuro_number_decode.Tie as tie
 
 returns : tie.Need-returns
 returns c =
-    let a = c .before .before .before .before .args in
+    let start : tie.Start = search in
+    let a = start .args in
     let e = has-no-bits (c .before .before .width-of .result) (a .width) (c .enum-told .given .1) (c .before .before .width-of .ensures) in
     rw (tagged-refused (a .canonic) (a .width) (a .tag) (drop (a .start) (now (a .message))) e) (record { code = refl; count = refl; value = refl })
 
 returns-2 : tie.Need-returns-2
 returns-2 c =
-    let a = c .before .before .before .before .before .before .before .before .before .args in
-    let t = c .before .before .before .before .before .known .given .0 .0 in
-    let h = has-bits (c .before .before .before .before .before .before .before .width-of .result) (a .width) t (c .before .before .before .before .before .known .given .1) (c .before .before .before .before .before .before .before .width-of .ensures) in
-    stores-as (c .give-number .ensures) (c .before .before .before .relative-decode .ensures ∙ tagged-reads (a .canonic) (a .width) (a .tag) (drop (a .start) (now (a .message))) t h)
+    let after-relative-decode : tie.After-relative-decode = search in
+    let after-known : tie.After-known = search in
+    let after-width-of : tie.After-width-of = search in
+    let start : tie.Start = search in
+    let a = start .args in
+    let t = after-known .known .given .0 .0 in
+    let h = has-bits (after-width-of .width-of .result) (a .width) t (after-known .known .given .1) (after-width-of .width-of .ensures) in
+    stores-as (c .give-number .ensures) (after-relative-decode .relative-decode .ensures ∙ tagged-reads (a .canonic) (a .width) (a .tag) (drop (a .start) (now (a .message))) t h)
 
 pub jakepuro-number-decode-spec : {M : Type 1} → statement M
 jakepuro-number-decode-spec =

@@ -8,15 +8,20 @@ use Rattle.jakepuro.proofs.numbers.jakepuro_number_len_of_encoding.Tie 
 
 returns : tie.Need-returns
 returns c =
-    let a = c .before .before .before .before .before .args in
-    let e = has-no-bits (c .before .before .before .before .width-of .result) (a .width) (c .before .before .enum-told .given .1) (c .before .before .before .before .width-of .ensures) in
+    let after-width-of : tie.After-width-of = search in
+    let start : tie.Start = search in
+    let a = start .args in
+    let e = has-no-bits (after-width-of .width-of .result) (a .width) (c .before .before .enum-told .given .1) (after-width-of .width-of .ensures) in
     told-as (c .tell-length .ensures) (length-barred (tagged (a .width)) (a .value) 5 (tagged-barred (a .width) (a .value) e))
 
 returns-2 : tie.Need-returns-2
 returns-2 c =
-    let a = c .before .before .before .before .before .before .before .args in
-    let t = c .before .before .before .before .known .given .0 .0 in
-    let h = has-bits (c .before .before .before .before .before .before .width-of .result) (a .width) t (c .before .before .before .before .known .given .1) (c .before .before .before .before .before .before .width-of .ensures) in
+    let after-known : tie.After-known = search in
+    let after-width-of : tie.After-width-of = search in
+    let start : tie.Start = search in
+    let a = start .args in
+    let t = after-known .known .given .0 .0 in
+    let h = has-bits (after-width-of .width-of .result) (a .width) t (after-known .known .given .1) (after-width-of .width-of .ensures) in
     let n = rw (h .1) at (c .before .before .relative-len-of-encoding .ensures .0) in
     told-as (c .tell-length2 .ensures) (length-allowed (tagged (a .width)) (a .value) _ (tagged-allowed (a .width) (a .value) t h) n)
 

@@ -4,7 +4,11 @@ use Rattle.jakepuro.proofs.paths.jakepuro_path_encode.Statement.{statem
 use Rattle.jakepuro.proofs.paths.jakepuro_path_encode.Tie as tie
 
 returns : tie.Need-returns
-returns c = encodes (rw (c .before .before .before .before .before .before .before .before .before .before .sizes .ensures, c .before .before .before .before .before .before .before .before .before .bytes .ensures) at (c .before .before .before .before .encode .ensures)) (c .tell-length .ensures)
+returns c =
+    let after-encode : tie.After-encode = search in
+    let after-bytes : tie.After-bytes = search in
+    let after-sizes : tie.After-sizes = search in
+    encodes (rw (after-sizes .sizes .ensures, after-bytes .bytes .ensures) at (after-encode .encode .ensures)) (c .tell-length .ensures)
 
 pub jakepuro-path-encode-spec : {M : Type 1} → statement M
 jakepuro-path-encode-spec =

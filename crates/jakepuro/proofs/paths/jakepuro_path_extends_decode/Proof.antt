@@ -4,7 +4,11 @@ use Rattle.jakepuro.proofs.paths.jakepuro_path_extends_decode.Statement
 use Rattle.jakepuro.proofs.paths.jakepuro_path_extends_decode.Tie as tie
 
 returns : tie.Need-returns
-returns c = rw (c .before .before .before .before .before .before .before .before .before .sizes .ensures, c .before .before .before .before .before .before .before .before .bytes .ensures) at (stores-as (c .give-path .ensures) (c .before .before .before .before .decode-path-extends-path .ensures .answer))
+returns c =
+    let after-decode-path-extends-path : tie.After-decode-path-extends-path = search in
+    let after-bytes : tie.After-bytes = search in
+    let after-sizes : tie.After-sizes = search in
+    rw (after-sizes .sizes .ensures, after-bytes .bytes .ensures) at (stores-as (c .give-path .ensures) (after-decode-path-extends-path .decode-path-extends-path .ensures .answer))
 
 pub jakepuro-path-extends-decode-spec : {M : Type 1} → statement M
 jakepuro-path-extends-decode-spec =

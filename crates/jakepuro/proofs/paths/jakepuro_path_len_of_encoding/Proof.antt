@@ -4,7 +4,10 @@ use Rattle.jakepuro.proofs.paths.jakepuro_path_len_of_encoding.Statemen
 use Rattle.jakepuro.proofs.paths.jakepuro_path_len_of_encoding.Tie as tie
 
 returns : tie.Need-returns
-returns c = rw (c .before .before .before .before .before .before .before .sizes .ensures, c .before .before .before .before .before .before .bytes .ensures) at (told-as (c .tell-length .ensures) (c .before .before .len-of-encoding .ensures))
+returns c =
+    let after-bytes : tie.After-bytes = search in
+    let after-sizes : tie.After-sizes = search in
+    rw (after-sizes .sizes .ensures, after-bytes .bytes .ensures) at (told-as (c .tell-length .ensures) (c .before .before .len-of-encoding .ensures))
 
 pub jakepuro-path-len-of-encoding-spec : {M : Type 1} → statement M
 jakepuro-path-len-of-encoding-spec =

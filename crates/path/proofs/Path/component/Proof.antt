@@ -31,19 +31,27 @@ array-share-prefix-lengths : tie.Need-array-share-prefix-lengths
 array-share-prefix-lengths c = let f = here (c .before .before) in omega (arith, f .lengths, f .well .count)
 
 slice-aggregate-sum : tie.Need-slice-aggregate-sum
-slice-aggregate-sum c = let f = here (c .before .before .before) in sym (length-take-le _ _ (omega (arith, f .lengths, f .well .count)))
+slice-aggregate-sum c =
+    let else1 : tie.Else1 = search in
+    let f = here else1 in sym (length-take-le _ _ (omega (arith, f .lengths, f .well .count)))
 
 sum-requires : tie.Need-sum-requires
 sum-requires c κs =
-    let f = here (c .before .before .before) in
-    let a = c .before .before .before .before .before .args in
+    let else1 : tie.Else1 = search in
+    let start : tie.Start = search in
+    let f = here else1 in
+    let a = start .args in
     omega (arith, start-is (a .t1) f (a .i) (omega arith), start-small (a .t1) f (a .i))
 
 mul-t13 : tie.Need-mul-t13
-mul-t13 c = omega (arith, here (c .before .before .before .before) .well .count)
+mul-t13 c =
+    let else1 : tie.Else1 = search in
+    omega (arith, here else1 .well .count)
 
 element-copy-out-t16 : tie.Need-element-copy-out-t16
-element-copy-out-t16 c = omega (arith, here (c .before .before .before .before) .well .count)
+element-copy-out-t16 c =
+    let else1 : tie.Else1 = search in
+    omega (arith, here else1 .well .count)
 
 returns-3 : tie.Need-returns-3
 unfolding componentAt lengthAt

@@ -20,13 +20,19 @@ returns : tie.Need-returns
 returns c = sym (equal-malformed _ _ (sym (c .before .before .longest-common-prefix .ensures) ∙ c .enum-told .given .1))
 
 returns-2 : tie.Need-returns-2
-returns-2 c = sym (told (c .before .before .before) ∙ rw (ne-eqb _ _ (c .if1 .taken)))
+returns-2 c =
+    let after-common : tie.After-common = search in
+    sym (told after-common ∙ rw (ne-eqb _ _ (c .if1 .taken)))
 
 returns-3 : tie.Need-returns-3
-returns-3 c = sym (told (c .before .before .before .before .before) ∙ rw (eq-eqb _ _ (c .before .before .if1 .left), ne-eqb _ _ (c .if2 .taken)))
+returns-3 c =
+    let after-common : tie.After-common = search in
+    sym (told after-common ∙ rw (eq-eqb _ _ (c .before .before .if1 .left), ne-eqb _ _ (c .if2 .taken)))
 
 returns-4 : tie.Need-returns-4
-returns-4 c = sym (told (c .before .before .before .before .before) ∙ rw (eq-eqb _ _ (c .before .before .if1 .left), eq-eqb _ _ (c .if2 .left)))
+returns-4 c =
+    let after-common : tie.After-common = search in
+    sym (told after-common ∙ rw (eq-eqb _ _ (c .before .before .if1 .left), eq-eqb _ _ (c .if2 .left)))
 
 pub equals-spec : {M : Type 1} → statement M
 equals-spec = tie.close (tie.spec (λ c κs. search needs) (λ c. search needs) (λ c. search needs) returns returns-2 returns-3 returns-4)

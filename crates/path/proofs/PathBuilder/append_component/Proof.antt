@@ -24,8 +24,8 @@ returns c =
 
 returns-2 : tie.Need-returns-2
 returns-2 c =
+    let s : tie.Start = search in
     let m = c .before .before .is-made in
-    let s = c .before .before .before .before in
     let b = s .args .self in
     let is = sym (m .ensures) ∙ not-false (m .result) (c .before .if1 .left) in
     c .push-component .ensures ∙ appends b (now (s .args .component)) is (rebuilt b (bytes-long s) (lengths-long s) is)

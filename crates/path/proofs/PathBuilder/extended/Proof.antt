@@ -31,46 +31,70 @@ fits : (c : tie.Start) → c .args .self .total + sumOf (take (c .args .k) (c .a
 fits c = extended-fits (c .args .self) (c .args .path) (c .args .k) (c .pre) (formed c)
 
 array-share-prefix-sizes : tie.Need-array-share-prefix-sizes
-array-share-prefix-sizes c = there (c .before .before .before)
+array-share-prefix-sizes c =
+    let start : tie.Start = search in
+    there start
 
 slice-aggregate-sum : tie.Need-slice-aggregate-sum
-slice-aggregate-sum c = sym (taken (c .before .before .before .before))
+slice-aggregate-sum c =
+    let start : tie.Start = search in
+    sym (taken start)
 
 sum-requires : tie.Need-sum-requires
-sum-requires c κs = omega (arith, fits (c .before .before .before .before))
+sum-requires c κs =
+    let start : tie.Start = search in
+    omega (arith, fits start)
 
 part-bytes-end : tie.Need-part-bytes-end
-part-bytes-end c = let s = c .before .before .before .before .before .before in omega (arith, extended-bytes (s .args .self) (s .args .path) (s .args .k) (s .pre) (formed s))
+part-bytes-end c =
+    let s : tie.Start = search in
+    omega (arith, extended-bytes (s .args .self) (s .args .path) (s .args .k) (s .pre) (formed s))
 
 array-share-prefix-source : tie.Need-array-share-prefix-source
-array-share-prefix-source c = omega (arith, fits (c .before .before .before .before .before .before .before), formed (c .before .before .before .before .before .before .before) .bytes, c .before .before .sum .ensures)
+array-share-prefix-source c =
+    let start : tie.Start = search in
+    omega (arith, fits start, formed start .bytes, c .before .before .sum .ensures)
 
 slice-aggregate-put-bytes : tie.Need-slice-aggregate-put-bytes
-slice-aggregate-put-bytes c = let s = c .before .before .before .before .before .before .before .before in sym (length-take-le (c .before .before .before .sum .result) (s .args .path .bytes) (omega (arith, fits s, formed s .bytes, c .before .before .before .sum .ensures)))
+slice-aggregate-put-bytes c =
+    let after-sum : tie.After-sum = search in
+    let s : tie.Start = search in
+    sym (length-take-le (after-sum .sum .result) (s .args .path .bytes) (omega (arith, fits s, formed s .bytes, after-sum .sum .ensures)))
 
 part-lengths-end : tie.Need-part-lengths-end
-part-lengths-end c = let s = c .before .before .before .before .before .before .before .before .before .before .before in omega (arith, extended-lengths (s .args .self) (s .args .path) (s .args .k) (s .pre) (formed s))
+part-lengths-end c =
+    let s : tie.Start = search in
+    omega (arith, extended-lengths (s .args .self) (s .args .path) (s .args .k) (s .pre) (formed s))
 
 array-share-prefix-sizes-2 : tie.Need-array-share-prefix-sizes-2
-array-share-prefix-sizes-2 c = there (c .before .before .before .before .before .before .before .before .before .before .before .before)
+array-share-prefix-sizes-2 c =
+    let start : tie.Start = search in
+    there start
 
 slice-aggregate-put-lengths : tie.Need-slice-aggregate-put-lengths
-slice-aggregate-put-lengths c = sym (taken (c .before .before .before .before .before .before .before .before .before .before .before .before .before))
+slice-aggregate-put-lengths c =
+    let start : tie.Start = search in
+    sym (taken start)
 
 put-lengths-requires : tie.Need-put-lengths-requires
 put-lengths-requires c κs =
-    let s = c .before .before .before .before .before .before .before .before .before .before .before .before .before in
+    let s : tie.Start = search in
     let a = s .args in
     let long = extended-lengths (a .self) (a .path) (a .k) (s .pre) (formed s) in
     rw (taken s, rest-part (a .self .path .count) 20 (a .self .path .lengths) long, length-drop) (omega (arith, s .pre .few, long))
 
 add-t26 : tie.Need-add-t26
-add-t26 c = omega (arith, fits (c .before .before .before .before .before .before .before .before .before .before .before .before .before .before .before), c .before .before .before .before .before .before .before .before .before .before .sum .ensures)
+add-t26 c =
+    let after-sum : tie.After-sum = search in
+    let start : tie.Start = search in
+    omega (arith, fits start, after-sum .sum .ensures)
 
 returns : tie.Need-returns
 returns c =
-    let s = c .before .before .before .before .before .before .before .before .before .before .before .before .before .before .before in
-    extended-is (s .args .self) (s .args .path) (s .args .k) (s .pre) (formed s) (c .before .before .before .before .before .before .before .before .before .before .sum .result) (c .before .before .before .before .before .before .put-bytes .last .0) (c .before .put-lengths .last .0) (c .before .before .before .before .before .before .before .before .before .before .sum .ensures) (c .before .before .before .before .before .before .put-bytes .ensures .1) (c .before .put-lengths .ensures)
+    let after-put-bytes : tie.After-put-bytes = search in
+    let after-sum : tie.After-sum = search in
+    let s : tie.Start = search in
+    extended-is (s .args .self) (s .args .path) (s .args .k) (s .pre) (formed s) (after-sum .sum .result) (after-put-bytes .put-bytes .last .0) (c .before .put-lengths .last .0) (after-sum .sum .ensures) (after-put-bytes .put-bytes .ensures .1) (c .before .put-lengths .ensures)
 
 pub extended-spec : {M : Type 1} → statement M
 extended-spec =

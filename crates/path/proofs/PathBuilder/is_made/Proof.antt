@@ -25,10 +25,14 @@ returns c =
     rw (← (w .ensures), not-true (w .result) (c .if1 .taken))
 
 array-share-prefix-lengths : tie.Need-array-share-prefix-lengths
-array-share-prefix-lengths c = omega (arith, lengths-long (c .before .before .before .before), well (c .before) .count)
+array-share-prefix-lengths c =
+    let start : tie.Start = search in
+    omega (arith, lengths-long start, well (c .before) .count)
 
 slice-aggregate-sum : tie.Need-slice-aggregate-sum
-slice-aggregate-sum c = sym (length-take-le _ _ (omega (arith, lengths-long (c .before .before .before .before .before), well (c .before .before) .count)))
+slice-aggregate-sum c =
+    let start : tie.Start = search in
+    sym (length-take-le _ _ (omega (arith, lengths-long start, well (c .before .before) .count)))
 
 sum-requires : tie.Need-sum-requires
 sum-requires c κs = omega (arith, well (c .before .before) .total)
@@ -36,8 +40,10 @@ sum-requires c κs = omega (arith, well (c .before .before) .total)
 returns-2 : tie.Need-returns-2
 unfolding isBuilder
 returns-2 c =
-    let w = c .before .before .before .before .before .well-formed in
-    rw (← (w .ensures), not-false (w .result) (c .before .before .before .before .if1 .left), ← (c .before .sum .ensures))
+    let else1 : tie.Else1 = search in
+    let after-well-formed : tie.After-well-formed = search in
+    let w = after-well-formed .well-formed in
+    rw (← (w .ensures), not-false (w .result) (else1 .if1 .left), ← (c .before .sum .ensures))
 
 pub is-made-spec : {M : Type 1} → statement M
 is-made-spec = tie.close (tie.spec (λ c κs. search needs) returns array-share-prefix-lengths slice-aggregate-sum sum-requires returns-2)

@@ -24,7 +24,7 @@ suffix-well c = sym (c .before .well-formed2 .ensures) ∙ not-false (c .before 
 
 prefix-formed : (c : tie.Else1) → Formed (c .before .before .before .args .prefix)
 prefix-formed c =
-    let s = c .before .before .before in
+    let s : tie.Start = search in
     record {
       bytes = length-unmapped ℕ (s .args .prefix .bytes) 600 (s .good .0 .1 .1 .0 .1 .0 .1);
       lengths = length-unmapped ℕ (s .args .prefix .lengths) 20 (s .good .0 .1 .1 .1 .0 .1 .0 .1);
@@ -33,7 +33,7 @@ prefix-formed c =
 
 suffix-formed : (c : tie.Else2) → Formed (c .before .before .before .before .before .args .suffix)
 suffix-formed c =
-    let s = c .before .before .before .before .before in
+    let s : tie.Start = search in
     record {
       bytes = length-unmapped ℕ (s .args .suffix .bytes) 600 (s .good .1 .0 .1 .1 .0 .1 .0 .1);
       lengths = length-unmapped ℕ (s .args .suffix .lengths) 20 (s .good .1 .0 .1 .1 .1 .0 .1 .0 .1);
@@ -43,21 +43,30 @@ suffix-formed c =
 -- the builder of the whole prefix, its total, and the suffix's
 first-is : (c : tie.After-extended) → c .extended .result ≡ builderFrom (componentsOf (c .before .before .before .before .before .before .args .prefix))
 first-is c =
-    let n = c .before .before .before .before .before .new in
-    rw (built-components (n .result) [] (n .ensures), whole _ (prefix-formed (c .before .before .before))) at (c .extended .ensures)
+    let else1 : tie.Else1 = search in
+    let after-new : tie.After-new = search in
+    let n = after-new .new in
+    rw (built-components (n .result) [] (n .ensures), whole _ (prefix-formed else1)) at (c .extended .ensures)
 
 first-total : (c : tie.After-extended) → c .extended .result .total ≡ totalOf (componentsOf (c .before .before .before .before .before .before .args .prefix))
 first-total c = built-total _ _ (first-is c)
 
 more-is : (c : tie.After-sum) → c .sum .result ≡ totalOf (componentsOf (c .before .before .before .before .before .before .before .before .before .args .suffix))
-more-is c = c .sum .ensures ∙ sym (total-is _ (suffix-formed (c .before .before .before .before)))
+more-is c =
+    let else2 : tie.Else2 = search in
+    c .sum .ensures ∙ sym (total-is _ (suffix-formed else2))
 
 -- the paths fit together where the tests did not turn them away
 fits : (c : tie.Else3) → totalOf (componentsOf (c .before .before .before .before .before .before .before .before .before .before .before .args .prefix)) + totalOf (componentsOf (c .before .before .before .before .before .before .before .before .before .before .before .args .suffix)) ≤ 600
-fits c = omega (arith, c .if3 .left, first-total (c .before .before .before .before .before), more-is (c .before .before), total-small _ (prefix-formed (c .before .before .before .before .before .before .before .before)))
+fits c =
+    let after-extended : tie.After-extended = search in
+    let else1 : tie.Else1 = search in
+    omega (arith, c .if3 .left, first-total after-extended, more-is (c .before .before), total-small _ (prefix-formed else1))
 
 few : (c : tie.Else4) → c .before .before .before .before .before .before .before .before .before .before .before .before .args .prefix .count + c .before .before .before .before .before .before .before .before .before .before .before .before .args .suffix .count ≤ 20
-few c = omega (arith, prefix-formed (c .before .before .before .before .before .before .before .before .before) .well .count)
+few c =
+    let else1 : tie.Else1 = search in
+    omega (arith, prefix-formed else1 .well .count)
 
 returns : tie.Need-returns
 unfolding joinedBuilder
@@ -68,51 +77,76 @@ returns c =
 returns-2 : tie.Need-returns-2
 unfolding joinedBuilder
 returns-2 c =
+    let after-new : tie.After-new = search in
     let w = c .before .well-formed2 in
-    rw (prefix-well (c .before .before), ← (w .ensures), not-true (w .result) (c .if2 .taken), c .before .before .before .before .new .ensures)
+    rw (prefix-well (c .before .before), ← (w .ensures), not-true (w .result) (c .if2 .taken), after-new .new .ensures)
 
 extended-requires : tie.Need-extended-requires
 extended-requires c κs =
-    let p = c .before .before .before .before .before .args .prefix in
-    let n = c .before .before .before .before .new in
+    let after-new : tie.After-new = search in
+    let start : tie.Start = search in
+    let p = start .args .prefix in
+    let n = after-new .new in
     extendable-empty (n .result) p (p .count) (n .ensures) (prefix-formed (c .before .before)) (omega arith)
 
 array-share-prefix-lengths : tie.Need-array-share-prefix-lengths
 array-share-prefix-lengths c = let f = suffix-formed (c .before .before) in omega (arith, f .lengths, f .well .count)
 
 slice-aggregate-sum : tie.Need-slice-aggregate-sum
-slice-aggregate-sum c = let f = suffix-formed (c .before .before .before) in sym (length-take-le _ _ (omega (arith, f .lengths, f .well .count)))
+slice-aggregate-sum c =
+    let else2 : tie.Else2 = search in
+    let f = suffix-formed else2 in sym (length-take-le _ _ (omega (arith, f .lengths, f .well .count)))
 
 sum-requires : tie.Need-sum-requires
-sum-requires c κs = omega (arith, suffix-formed (c .before .before .before) .well .total)
+sum-requires c κs =
+    let else2 : tie.Else2 = search in
+    omega (arith, suffix-formed else2 .well .total)
 
 sub-if3 : tie.Need-sub-if3
-sub-if3 c = omega (arith, first-total (c .before .before .before .before), total-small _ (prefix-formed (c .before .before .before .before .before .before .before)))
+sub-if3 c =
+    let after-extended : tie.After-extended = search in
+    let else1 : tie.Else1 = search in
+    omega (arith, first-total after-extended, total-small _ (prefix-formed else1))
 
 returns-3 : tie.Need-returns-3
 unfolding joinedBuilder
 returns-3 c =
-    let a = c .before .before .before .before .before .before .before .before .before .before .before .args in
-    let long = lt-leb (totalOf (componentsOf (a .prefix)) + totalOf (componentsOf (a .suffix))) 600 (omega (arith, c .if3 .taken, first-total (c .before .before .before .before .before), more-is (c .before .before))) in
-    rw (prefix-well (c .before .before .before .before .before .before .before .before), suffix-well (c .before .before .before .before .before .before), long, c .before .before .before .before .before .before .before .before .before .before .new .ensures)
+    let after-extended : tie.After-extended = search in
+    let else2 : tie.Else2 = search in
+    let else1 : tie.Else1 = search in
+    let after-new : tie.After-new = search in
+    let start : tie.Start = search in
+    let a = start .args in
+    let long = lt-leb (totalOf (componentsOf (a .prefix)) + totalOf (componentsOf (a .suffix))) 600 (omega (arith, c .if3 .taken, first-total after-extended, more-is (c .before .before))) in
+    rw (prefix-well else1, suffix-well else2, long, after-new .new .ensures)
 
 sub-if4 : tie.Need-sub-if4
-sub-if4 c = prefix-formed (c .before .before .before .before .before .before .before .before) .well .count
+sub-if4 c =
+    let else1 : tie.Else1 = search in
+    prefix-formed else1 .well .count
 
 returns-4 : tie.Need-returns-4
 unfolding joinedBuilder
 returns-4 c =
-    let a = c .before .before .before .before .before .before .before .before .before .before .before .before .args in
+    let else2 : tie.Else2 = search in
+    let else1 : tie.Else1 = search in
+    let after-new : tie.After-new = search in
+    let start : tie.Start = search in
+    let a = start .args in
     let short = le-leb (totalOf (componentsOf (a .prefix)) + totalOf (componentsOf (a .suffix))) 600 (fits (c .before)) in
     let many = lt-leb (a .prefix .count + a .suffix .count) 20 (omega arith) in
-    rw (prefix-well (c .before .before .before .before .before .before .before .before .before), suffix-well (c .before .before .before .before .before .before .before), short, many, c .before .before .before .before .before .before .before .before .before .before .before .new .ensures)
+    rw (prefix-well else1, suffix-well else2, short, many, after-new .new .ensures)
 
 extended-requires-2 : tie.Need-extended-requires-2
 extended-requires-2 c κs =
-    let a = c .before .before .before .before .before .before .before .before .before .before .before .before .args in
-    let g = suffix-formed (c .before .before .before .before .before .before .before) in
-    let count = count-is (a .prefix) (prefix-formed (c .before .before .before .before .before .before .before .before .before)) in
-    extendable (c .before .before .before .before .before .before .extended .result) (componentsOf (a .prefix)) (a .suffix) (a .suffix .count) (first-is (c .before .before .before .before .before .before)) (suffix-well (c .before .before .before .before .before .before .before))
+    let after-extended : tie.After-extended = search in
+    let else2 : tie.Else2 = search in
+    let else1 : tie.Else1 = search in
+    let start : tie.Start = search in
+    let a = start .args in
+    let g = suffix-formed else2 in
+    let count = count-is (a .prefix) (prefix-formed else1) in
+    extendable (after-extended .extended .result) (componentsOf (a .prefix)) (a .suffix) (a .suffix .count) (first-is after-extended) (suffix-well else2)
     (omega arith)
     (omega (arith, count, few c))
     (rw (whole (a .suffix) g) (fits (c .before)))
@@ -120,11 +154,15 @@ extended-requires-2 c κs =
 returns-5 : tie.Need-returns-5
 unfolding joinedBuilder
 returns-5 c =
-    let a = c .before .before .before .before .before .before .before .before .before .before .before .before .before .args in
+    let after-extended : tie.After-extended = search in
+    let else2 : tie.Else2 = search in
+    let else1 : tie.Else1 = search in
+    let start : tie.Start = search in
+    let a = start .args in
     let short = le-leb (totalOf (componentsOf (a .prefix)) + totalOf (componentsOf (a .suffix))) 600 (fits (c .before .before)) in
     let not-many = le-leb (a .prefix .count + a .suffix .count) 20 (few (c .before)) in
-    let both = rw (built-components (c .before .before .before .before .before .before .before .extended .result) (componentsOf (a .prefix)) (first-is (c .before .before .before .before .before .before .before)), whole (a .suffix) (suffix-formed (c .before .before .before .before .before .before .before .before))) at (c .extended2 .ensures) in
-    rw (prefix-well (c .before .before .before .before .before .before .before .before .before .before), suffix-well (c .before .before .before .before .before .before .before .before), short, not-many, both)
+    let both = rw (built-components (after-extended .extended .result) (componentsOf (a .prefix)) (first-is after-extended), whole (a .suffix) (suffix-formed else2)) at (c .extended2 .ensures) in
+    rw (prefix-well else1, suffix-well else2, short, not-many, both)
 
 pub new-from-joined-spec : {M : Type 1} → statement M
 new-from-joined-spec =

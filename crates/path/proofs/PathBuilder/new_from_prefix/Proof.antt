@@ -19,7 +19,7 @@ well c = sym (c .before .well-formed .ensures) ∙ not-false (c .before .well-fo
 -- and what owning it tells of its arrays
 formed : (c : tie.Else1) → Formed (c .before .before .before .args .path)
 formed c =
-    let s = c .before .before .before in
+    let s : tie.Start = search in
     record {
       bytes = length-unmapped ℕ (s .args .path .bytes) 600 (s .good .0 .1 .1 .0 .1 .0 .1);
       lengths = length-unmapped ℕ (s .args .path .lengths) 20 (s .good .0 .1 .1 .1 .0 .1 .0 .1);
@@ -34,18 +34,23 @@ returns c =
 
 returns-2 : tie.Need-returns-2
 unfolding prefixBuilder
-returns-2 c = rw (well (c .before), lt-leb _ _ (c .if2 .taken), c .before .before .before .new .ensures)
+returns-2 c =
+    let after-new : tie.After-new = search in
+    rw (well (c .before), lt-leb _ _ (c .if2 .taken), after-new .new .ensures)
 
 extended-requires : tie.Need-extended-requires
 extended-requires c κs =
-    let a = c .before .before .before .before .args in
-    let n = c .before .before .before .new in
+    let after-new : tie.After-new = search in
+    let start : tie.Start = search in
+    let a = start .args in
+    let n = after-new .new in
     extendable-empty (n .result) (a .path) (a .k) (n .ensures) (formed (c .before)) (c .if2 .left)
 
 returns-3 : tie.Need-returns-3
 unfolding prefixBuilder
 returns-3 c =
-    let n = c .before .before .before .before .new in
+    let after-new : tie.After-new = search in
+    let n = after-new .new in
     let grown = rw (built-components (n .result) [] (n .ensures)) at (c .extended .ensures) in
     rw (well (c .before .before), le-leb _ _ (c .before .if2 .left), grown)
 

@@ -35,21 +35,27 @@ returns c =
     rw (← (f .ensures), not-true (f .result) (c .if1 .taken))
 
 loop-holds : tie.Need-loop-holds Inv-loop μ-loop
-loop-holds c = let a = c .before .before .before .before .args in (omega arith, paste-zero _ (a .self .total) (now (a .component)), refl)
+loop-holds c =
+    let start : tie.Start Inv-loop μ-loop = search in
+    let a = start .args in (omega arith, paste-zero _ (a .self .total) (now (a .component)), refl)
 
 add-k : tie.Need-add-k Inv-loop μ-loop
 add-k c = omega (arith, room (c .before .before) .fits)
 
 element-write-path : tie.Need-element-write-path Inv-loop μ-loop
-element-write-path c = omega (arith, room (c .before .before .before) .fits)
+element-write-path c =
+    let else1 : tie.Else1 Inv-loop μ-loop = search in
+    omega (arith, room else1 .fits)
 
 loop-again : tie.Need-loop-again Inv-loop μ-loop
 loop-again c =
+    let else1 : tie.Else1 Inv-loop μ-loop = search in
+    let start : tie.Start Inv-loop μ-loop = search in
     let l = c .before .before .loop in
-    let r = room (c .before .before .before) in
-    let a = c .before .before .before .before .before .before .before .args in (
+    let r = room else1 in
+    let a = start .args in (
       omega arith,
-      rw (l .inv .1, add-one (l .i)) (paste-suc _ (a .self .total) (now (a .component)) (l .i) 0 (omega (arith, bytes-long (c .before .before .before .before .before .before .before), r .fits)) (omega arith)),
+      rw (l .inv .1, add-one (l .i)) (paste-suc _ (a .self .total) (now (a .component)) (l .i) 0 (omega (arith, bytes-long start, r .fits)) (omega arith)),
       l .inv .2,
     )
 
@@ -68,9 +74,11 @@ add-self c = omega (arith, room (c .before .before) .fits)
 returns-2 : tie.Need-returns-2 Inv-loop μ-loop
 unfolding pushComponent grown
 returns-2 c =
+    let after-fits-after : tie.After-fits-after Inv-loop μ-loop = search in
+    let start : tie.Start Inv-loop μ-loop = search in
     let l = c .before .loop in
-    let f = c .before .before .before .fits-after in
-    let a = c .before .before .before .before .before .before .args in
+    let f = after-fits-after .fits-after in
+    let a = start .args in
     let b = a .self .path .bytes in
     let t = a .self .total in
     let s = now (a .component) in

@@ -17,7 +17,9 @@ abbrev right : tie.Start → Path
 right c = pathOf (now (c .args .other-bytes)) (now (c .args .other-lengths)) (c .args .other-count)
 
 told : (c : tie.After-common) → prefixOf (left (c .before .before .before .before .before .before .before)) (right (c .before .before .before .before .before .before .before)) ≡ verdict (eqb (c .common .given .0 .0) (c .before .before .before .before .before .before .before .args .count))
-told c = prefix-verdict (left (c .before .before .before .before .before .before .before)) (right (c .before .before .before .before .before .before .before)) _ (sym (c .before .before .longest-common-prefix .ensures) ∙ c .common .given .1)
+told c =
+    let start : tie.Start = search in
+    prefix-verdict (left start) (right start) _ (sym (c .before .before .longest-common-prefix .ensures) ∙ c .common .given .1)
 
 returns : tie.Need-returns
 returns c = sym (prefix-malformed _ _ (sym (c .before .before .longest-common-prefix .ensures) ∙ c .enum-told .given .1))

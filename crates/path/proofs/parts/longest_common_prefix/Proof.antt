@@ -25,13 +25,15 @@ right-well c = sym (c .before .well-formed2 .ensures) ∙ not-false _ (c .if2 .l
 returns : tie.Need-returns
 unfolding commonPrefix
 returns c =
-    let e : wellFormed (left (c .before .before .before .before .before .before)) ≡ false = sym (c .before .well-formed .ensures) ∙ not-true _ (c .if1 .taken) in
+    let start : tie.Start = search in
+    let e : wellFormed (left start) ≡ false = sym (c .before .well-formed .ensures) ∙ not-true _ (c .if1 .taken) in
     rw e
 
 returns-2 : tie.Need-returns-2
 unfolding commonPrefix
 returns-2 c =
-    let e : wellFormed (right (c .before .before .before .before .before .before .before .before)) ≡ false = sym (c .before .well-formed2 .ensures) ∙ not-true _ (c .if2 .taken) in
+    let start : tie.Start = search in
+    let e : wellFormed (right start) ≡ false = sym (c .before .well-formed2 .ensures) ∙ not-true _ (c .if2 .taken) in
     rw (left-well (c .before .before), e)
 
 shared-components-requires : tie.Need-shared-components-requires
@@ -39,7 +41,9 @@ shared-components-requires c κs = (left-well (c .before .before), right-well c)
 
 returns-3 : tie.Need-returns-3
 unfolding commonPrefix
-returns-3 c = rw (left-well (c .before .before .before), right-well (c .before)) (ap count.Components (c .shared-components .ensures))
+returns-3 c =
+    let else1 : tie.Else1 = search in
+    rw (left-well else1, right-well (c .before)) (ap count.Components (c .shared-components .ensures))
 
 pub longest-common-prefix-spec : {M : Type 1} → statement M
 longest-common-prefix-spec =

@@ -30,37 +30,51 @@ components-holds : tie.Need-components-holds Inv-loop μ-loop Inv-components μ-
 components-holds c = together (parts-formed (c .pre .0)) (parts-formed (c .pre .1))
 
 shared-slice-read-len : tie.Need-shared-slice-read-len Inv-loop μ-loop Inv-components μ-components
-shared-slice-read-len c = let t = c .before .before .before .components .inv in omega (arith, t .left .lengths, t .left .well .count)
+shared-slice-read-len c =
+    let at-components : tie.At-components Inv-loop μ-loop Inv-components μ-components = search in
+    let t = at-components .components .inv in omega (arith, t .left .lengths, t .left .well .count)
 
 shared-slice-read-if2 : tie.Need-shared-slice-read-if2 Inv-loop μ-loop Inv-components μ-components
-shared-slice-read-if2 c = let t = c .before .before .before .before .components .inv in omega (arith, t .right .lengths, t .right .well .count)
+shared-slice-read-if2 c =
+    let at-components : tie.At-components Inv-loop μ-loop Inv-components μ-components = search in
+    let t = at-components .components .inv in omega (arith, t .right .lengths, t .right .well .count)
 
 loop-holds : tie.Need-loop-holds Inv-loop μ-loop Inv-components μ-components
 loop-holds c = (omega arith, refl)
 
 add-j : tie.Need-add-j Inv-loop μ-loop Inv-components μ-components
-add-j c = omega (arith, inside (c .before .before .before .before .before))
+add-j c =
+    let else1 : tie.Else1 Inv-loop μ-loop Inv-components μ-components = search in
+    omega (arith, inside else1)
 
 shared-slice-read-if3 : tie.Need-shared-slice-read-if3 Inv-loop μ-loop Inv-components μ-components
-shared-slice-read-if3 c = omega (arith, inside (c .before .before .before .before .before .before), c .before .before .before .before .before .before .before .before .components .inv .left .bytes)
+shared-slice-read-if3 c =
+    let else1 : tie.Else1 Inv-loop μ-loop Inv-components μ-components = search in
+    let at-components : tie.At-components Inv-loop μ-loop Inv-components μ-components = search in
+    omega (arith, inside else1, at-components .components .inv .left .bytes)
 
 shared-slice-read-if3-2 :
     tie.Need-shared-slice-read-if3-2 Inv-loop μ-loop Inv-components μ-components
 shared-slice-read-if3-2 c = omega (arith, inside (c .before .before .before .before .before .before .before), c .before .before .before .before .before .before .before .before .before .components .inv .right .bytes)
 
 add-i : tie.Need-add-i Inv-loop μ-loop Inv-components μ-components
-add-i c = omega (arith, inside (c .before .before .before .before .before .before .before .before))
+add-i c =
+    let else1 : tie.Else1 Inv-loop μ-loop Inv-components μ-components = search in
+    omega (arith, inside else1)
 
 loop-again : tie.Need-loop-again Inv-loop μ-loop Inv-components μ-components
 loop-again c =
-    let e = c .before .before .before .before .before .before .before .before in
-    let l = c .before .before .before .before .loop in
+    let at-loop : tie.At-loop Inv-loop μ-loop Inv-components μ-components = search in
+    let e : tie.Else1 Inv-loop μ-loop Inv-components μ-components = search in
+    let l = at-loop .loop in
     let a = e .before .before .before .args in
     let t = e .before .before .components .inv in
     (omega arith, agree-next (now (a .bytes)) (now (a .other-bytes)) (e .before .before .components .at) (l .i) (omega (arith, inside e, t .left .bytes)) (omega (arith, inside e, t .right .bytes)) (l .inv .1) (c .if3 .left))
 
 add-at : tie.Need-add-at Inv-loop μ-loop Inv-components μ-components
-add-at c = omega (arith, inside (c .before .before .before .before .before))
+add-at c =
+    let else1 : tie.Else1 Inv-loop μ-loop Inv-components μ-components = search in
+    omega (arith, inside else1)
 
 components-again : tie.Need-components-again Inv-loop μ-loop Inv-components μ-components
 components-again c =
@@ -78,13 +92,15 @@ returns-2 c = sym (right-ends (c .before .before .components .inv) (omega arith)
 
 returns-3 : tie.Need-returns-3 Inv-loop μ-loop Inv-components μ-components
 returns-3 c =
-    let e = c .before .before .before in
+    let e : tie.Else1 Inv-loop μ-loop Inv-components μ-components = search in
     sym (lengths-differ (e .before .before .components .inv) (e .before .components-test .taken) (e .if1 .left) (c .if2 .taken))
 
 returns-4 : tie.Need-returns-4 Inv-loop μ-loop Inv-components μ-components
 returns-4 c =
-    let e = c .before .before .before .before .before .before .before .before in
-    sym (bytes-differ (e .before .before .components .inv) (e .before .components-test .taken) (e .if1 .left) (c .before .before .before .before .before .if2 .left) (c .before .before .before .before .loop .i) (omega arith) (c .if3 .taken))
+    let at-loop : tie.At-loop Inv-loop μ-loop Inv-components μ-components = search in
+    let else2 : tie.Else2 Inv-loop μ-loop Inv-components μ-components = search in
+    let e : tie.Else1 Inv-loop μ-loop Inv-components μ-components = search in
+    sym (bytes-differ (e .before .before .components .inv) (e .before .components-test .taken) (e .if1 .left) (else2 .if2 .left) (at-loop .loop .i) (omega arith) (c .if3 .taken))
 
 pub shared-components-spec : {M : Type 1} → statement M
 shared-components-spec =

@@ -17,13 +17,15 @@ returns-2 c = rw (le-leb _ _ (c .before .if1 .left), le-ltb _ _ (c .if2 .taken))
 returns-3 : tie.Need-returns-3
 unfolding fitsAfter
 returns-3 c =
-    let a = c .before .before .before .args in
+    let start : tie.Start = search in
+    let a = start .args in
     rw (le-leb _ _ (c .before .before .if1 .left), lt-ltb _ _ (c .before .if2 .left), lt-leb (a .total + a .n) 600 (omega arith))
 
 returns-4 : tie.Need-returns-4
 unfolding fitsAfter
 returns-4 c =
-    let a = c .before .before .before .args in
+    let start : tie.Start = search in
+    let a = start .args in
     rw (le-leb _ _ (c .before .before .if1 .left), lt-ltb _ _ (c .before .if2 .left)) (room-left (a .total) (a .n) 600 (c .if3 .left))
 
 pub fits-after-spec : {M : Type 1} → statement M

@@ -14,7 +14,7 @@ path c = pathOf (now (c .args .bytes)) (now (c .args .lengths)) (c .args .count)
 
 returns : tie.Need-returns
 returns c =
-    let s = c .before .before .before .before .before .before .before in
+    let s : tie.Start = search in
     let l = now (s .args .buffer) in
     let e = c .before .before .encode-suffix .ensures in (
       e .0 ∙ ap (λ (f : Format Path). writeAnswer f (path s) (length l)) plain-suffix,

@@ -12,7 +12,9 @@ abbrev path : tie.Start → Path
 path c = pathOf (now (c .args .bytes)) (now (c .args .lengths)) (c .args .count)
 
 returns : tie.Need-returns
-returns c = c .suffix-len .ensures ∙ ap (λ (f : Format Path). lengthAnswer f (path (c .before .before .before))) plain-suffix
+returns c =
+    let start : tie.Start = search in
+    c .suffix-len .ensures ∙ ap (λ (f : Format Path). lengthAnswer f (path start)) plain-suffix
 
 pub len-of-encoding-spec : {M : Type 1} → statement M
 len-of-encoding-spec = tie.close (tie.spec (λ c κs. search needs) returns)

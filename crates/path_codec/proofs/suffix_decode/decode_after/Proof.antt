@@ -43,41 +43,65 @@ sub-if3 : tie.Need-sub-if3
 sub-if3 c = known (c .before) .count
 
 returns-3 : tie.Need-returns-3
-returns-3 c = rw (c .refuse3 .ensures) (gives-refused 2 refl (after-many _ _ _ _ _ _ (formed (c .before .before .before)) (fits (c .before .before)) (omega (arith, c .before .if3 .taken, known (c .before .before .before) .count))))
+returns-3 c =
+    let else1 : tie.Else1 = search in
+    rw (c .refuse3 .ensures) (gives-refused 2 refl (after-many _ _ _ _ _ _ (formed else1) (fits (c .before .before)) (omega (arith, c .before .if3 .taken, known else1 .count))))
 
 put-lengths-requires : tie.Need-put-lengths-requires
-put-lengths-requires c κs = known (c .before .before .before .before .before .before) .count
+put-lengths-requires c κs =
+    let else1 : tie.Else1 = search in
+    known else1 .count
 
 sub-decode-all : tie.Need-sub-decode-all
-sub-decode-all c = omega (arith, known (c .before .before .before .before .before .before .before .before) .total, known (c .before .before .before .before .before .before .before .before) .long)
+sub-decode-all c =
+    let else1 : tie.Else1 = search in
+    omega (arith, known else1 .total, known else1 .long)
 
 part-all-start : tie.Need-part-all-start
-part-all-start c = omega (arith, known (c .before .before .before .before .before .before .before .before) .total, known (c .before .before .before .before .before .before .before .before) .long)
+part-all-start c =
+    let else1 : tie.Else1 = search in
+    omega (arith, known else1 .total, known else1 .long)
 
 sub-decode-all-2 : tie.Need-sub-decode-all-2
-sub-decode-all-2 c = known (c .before .before .before .before .before .before .before .before .before) .count
+sub-decode-all-2 c =
+    let else1 : tie.Else1 = search in
+    known else1 .count
 
 part-sizes-start : tie.Need-part-sizes-start
-part-sizes-start c = known (c .before .before .before .before .before .before .before .before .before) .count
+part-sizes-start c =
+    let else1 : tie.Else1 = search in
+    known else1 .count
 
 returns-4 : tie.Need-returns-4
 returns-4 c =
-    let x = no-value (c .before .before .before .before .decode-all .result) (c .before .match .keys2) in
-    rw (c .refuse4 .ensures) (gives-refused (x .why) (x .beside _) (after-refused _ _ _ _ _ _ (formed (c .before .before .before .before .before .before .before .before .before .before .before .before .before .before .before)) (fits (c .before .before .before .before .before .before .before .before .before .before .before .before .before .before)) (few (c .before .before .before .before .before .before .before .before .before .before .before .before .before)) _ _ (sym (x .beside _) ∙ c .before .before .before .before .decode-all .ensures)))
+    let after-decode-all : tie.After-decode-all = search in
+    let else3 : tie.Else3 = search in
+    let else2 : tie.Else2 = search in
+    let else1 : tie.Else1 = search in
+    let x = no-value (after-decode-all .decode-all .result) (c .before .match .keys2) in
+    rw (c .refuse4 .ensures) (gives-refused (x .why) (x .beside _) (after-refused _ _ _ _ _ _ (formed else1) (fits else2) (few else3) _ _ (sym (x .beside _) ∙ after-decode-all .decode-all .ensures)))
 
 returns-5 : tie.Need-returns-5
 returns-5 c =
-    let a = c .before .before .before .before .before .before .before .before .before .before .before .before .before .before .before .before .before .before .before .before .args in
+    let after-decode-all : tie.After-decode-all = search in
+    let after-put-lengths : tie.After-put-lengths = search in
+    let after-put-bytes : tie.After-put-bytes = search in
+    let else3 : tie.Else3 = search in
+    let else2 : tie.Else2 = search in
+    let else1 : tie.Else1 = search in
+    let after-shared-slice-known : tie.After-shared-slice-known = search in
+    let start : tie.Start = search in
+    let a = start .args in
     let ls = now (a .lengths) in
     let bs = now (a .bytes) in
-    let d = c .before .before .before .before .decode-all in
-    let k = known (c .before .before .before .before .before .before .before .before .before .before .before .before .before .before .before) in
+    let d = after-decode-all .decode-all in
+    let k = known else1 in
     let here = restOf (d .last .1 .1 .1 .1 .0) (d .last .1 .1 .1 .1 .1 .0) in
     let told = c .enum-told .given .1 in
-    let all = c .before .before .before .before .before .before .before .before .before .before .before .put-bytes .ensures .1 ∙ put-over bs (replicate 600 0) (omega (arith, k .total, k .long)) in
-    let e = after-accepted _ ls bs (a .total) (a .count) (now (a .message)) (formed (c .before .before .before .before .before .before .before .before .before .before .before .before .before .before .before)) (fits (c .before .before .before .before .before .before .before .before .before .before .before .before .before .before)) (few (c .before .before .before .before .before .before .before .before .before .before .before .before .before)) (λ i. omega (arith, c .before .before .before .before .before .before .before .before .before .before .before .before .before .before .before .before .before .before .before .shared-slice-known .given i)) _ _ here
+    let all = after-put-bytes .put-bytes .ensures .1 ∙ put-over bs (replicate 600 0) (omega (arith, k .total, k .long)) in
+    let e = after-accepted _ ls bs (a .total) (a .count) (now (a .message)) (formed else1) (fits else2) (few else3) (λ i. omega (arith, after-shared-slice-known .shared-slice-known .given i)) _ _ here
     (sym (ap (λ (x : Decoded). answerOf x here) told) ∙ d .ensures) _
-    (λ cs n same. stands ls bs k cs (length ls + a .count) _ _ (d .last .1 .1 .1 .1 .0) (d .last .1 .1 .1 .1 .1 .0) (ap (λ (j : ℕ). length ls + j) (sym n)) all (c .before .before .before .before .before .before .before .before .put-lengths .ensures) same) in
+    (λ cs n same. stands ls bs k cs (length ls + a .count) _ _ (d .last .1 .1 .1 .1 .0) (d .last .1 .1 .1 .1 .1 .0) (ap (λ (j : ℕ). length ls + j) (sym n)) all (after-put-lengths .put-lengths .ensures) same) in
     rw told (gives-accepted e)
 
 pub decode-after-spec : {M : Type 1} → statement M

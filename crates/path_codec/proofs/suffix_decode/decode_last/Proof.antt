@@ -13,7 +13,9 @@ use Rattle.path_codec.proofs.suffix_decode.decode_last.Tie as tie
 
 -- past each test there is room
 room : (c : tie.Else3) → Room (c .before .before .before .before .before .before .args .n + 1) (c .before .before .before .before .before .before .args .total) (now (c .before .before .before .before .before .before .args .bytes)) (now (c .before .before .before .before .before .before .args .lengths))
-room c = c .before .before .before .before .before .before .pre .1 (c .before .before .if1 .left)
+room c =
+    let start : tie.Start = search in
+    start .pre .1 (c .before .before .if1 .left)
 
 returns : tie.Need-returns
 returns c = sym (last-over _ _ _ _ _ _ (c .if1 .taken))
@@ -31,15 +33,20 @@ part-put-bytes-start : tie.Need-part-put-bytes-start
 part-put-bytes-start c = omega (arith, room c .totals)
 
 mul-lengths : tie.Need-mul-lengths
-mul-lengths c = omega (arith, room (c .before .before .before .before .before) .counts)
+mul-lengths c =
+    let else3 : tie.Else3 = search in
+    omega (arith, room else3 .counts)
 
 slice-write-lengths : tie.Need-slice-write-lengths
-slice-write-lengths c = omega (arith, room (c .before .before .before .before .before) .counts)
+slice-write-lengths c =
+    let else3 : tie.Else3 = search in
+    omega (arith, room else3 .counts)
 
 returns-4 : tie.Need-returns-4
 returns-4 c =
-    let a = c .before .before .before .before .before .before .before .before .before .before .before .args in
-    let e = c .before .before .before .before .before in
+    let e : tie.Else3 = search in
+    let start : tie.Start = search in
+    let a = start .args in
     let m = now (a .message) in
     let part : a .at + (a .total - a .used) - a .at ≡ a .total - a .used = omega arith in
     let long : length (take (a .total - a .used) (drop (a .at) m)) ≡ a .total - a .used = length-take-le (a .total - a .used) (drop (a .at) m) (rw length-drop (e .if3 .left)) in

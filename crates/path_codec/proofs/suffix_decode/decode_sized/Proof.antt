@@ -13,21 +13,26 @@ use Rattle.path_codec.proofs.suffix_decode.decode_sized.Tie as tie
 
 -- the length that was read, and where its bytes begin
 length-is : (c : tie.After-known-told) → let a = c .before .before .before .before .before .args in readStandalone (a .canonic) (drop (a .at) (now (a .message))) ≡ accepted (c .before .number .given .0 .0) (c .before .number .given .0 .1 .0)
-length-is c = sym (c .before .before .before .decode .ensures) ∙ ap numberAnswer (c .before .number .given .1)
+length-is c =
+    let after-decode : tie.After-decode = search in
+    sym (after-decode .decode .ensures) ∙ ap numberAnswer (c .before .number .given .1)
 
 begins : (c : tie.After-known-told) → c .before .before .before .before .before .args .at + c .before .number .given .0 .1 .0 ≤ length (now (c .before .before .before .before .before .args .message))
 begins c =
-    let a = c .before .before .before .before .before .args in
-    length-inside (a .canonic) (now (a .message)) (a .at) _ _ (length-is c) (c .before .before .before .before .before .pre)
+    let start : tie.Start = search in
+    let a = start .args in
+    length-inside (a .canonic) (now (a .message)) (a .at) _ _ (length-is c) (start .pre)
 
 returns : tie.Need-returns
 returns c =
-    let a = c .before .before .before .before .args in
+    let start : tie.Start = search in
+    let a = start .args in
     rw (c .length-refusal .ensures) (sized-refused (a .canonic) (now (a .message)) (a .at) (c .before .before .decode .result) (c .before .match .keys2) (c .before .before .decode .ensures))
 
 returns-2 : tie.Need-returns-2
 returns-2 c =
-    let a = c .before .before .before .before .before .before .args in
+    let start : tie.Start = search in
+    let a = start .args in
     sized-long (a .canonic) (now (a .message)) (a .at) _ _ (length-is (c .before)) (c .if1 .taken)
 
 add-begin : tie.Need-add-begin
@@ -38,16 +43,18 @@ sub-if2 c = begins (c .before)
 
 returns-3 : tie.Need-returns-3
 returns-3 c =
-    let a = c .before .before .before .before .before .before .before .args in
-    sized-short (a .canonic) (now (a .message)) (a .at) _ _ (length-is (c .before .before)) (c .before .before .before .before .before .before .before .pre) (c .before .if1 .left) (c .if2 .taken)
+    let start : tie.Start = search in
+    let a = start .args in
+    sized-short (a .canonic) (now (a .message)) (a .at) _ _ (length-is (c .before .before)) (start .pre) (c .before .if1 .left) (c .if2 .taken)
 
 add-t11 : tie.Need-add-t11
 add-t11 c = omega (arith, begins (c .before .before), c .if2 .left)
 
 returns-4 : tie.Need-returns-4
 returns-4 c =
-    let a = c .before .before .before .before .before .before .before .args in
-    sized-there (a .canonic) (now (a .message)) (a .at) _ _ (length-is (c .before .before)) (c .before .before .before .before .before .before .before .pre) (c .before .if1 .left) (c .if2 .left)
+    let start : tie.Start = search in
+    let a = start .args in
+    sized-there (a .canonic) (now (a .message)) (a .at) _ _ (length-is (c .before .before)) (start .pre) (c .before .if1 .left) (c .if2 .left)
 
 pub decode-sized-spec : {M : Type 1} → statement M
 decode-sized-spec =

@@ -18,54 +18,77 @@ first-is : (c : tie.After-relative-decode) → let a = c .before .before .before
 first-is c = sym (rw (c .before .unpack-tags .ensures) at (c .relative-decode .ensures))
 
 first-value : (c : tie.After-known-told) → let a = c .before .before .before .before .before .before .before .before .args in readNumber (a .canonic) 4 (unpackTags (getD (now (a .message)) (a .start) 0) .total) (drop (a .start + 1) (now (a .message))) ≡ accepted (c .before .number .given .0 .0) (c .before .number .given .0 .1 .0)
-first-value c = first-is (c .before .before .before) ∙ ap numberAnswer (c .before .number .given .1)
+first-value c =
+    let after-relative-decode : tie.After-relative-decode = search in
+    first-is after-relative-decode ∙ ap numberAnswer (c .before .number .given .1)
 
 first-inside : (c : tie.After-known-told) → c .before .before .before .before .before .before .before .before .args .start + 1 + c .before .number .given .0 .1 .0 ≤ length (now (c .before .before .before .before .before .before .before .before .args .message))
 first-inside c =
-    let a = c .before .before .before .before .before .before .before .before .args in
-    omega (arith, number-bounded 4 _ (a .canonic) .bound (drop (a .start + 1) (now (a .message))) _ _ (first-value c), length-drop (a .start + 1) (now (a .message)), c .before .before .before .before .before .before .if1 .left)
+    let else1 : tie.Else1 = search in
+    let start : tie.Start = search in
+    let a = start .args in
+    omega (arith, number-bounded 4 _ (a .canonic) .bound (drop (a .start + 1) (now (a .message))) _ _ (first-value c), length-drop (a .start + 1) (now (a .message)), else1 .if1 .left)
 
 -- the second, after it
 second-is : (c : tie.After-relative-decode2) → let a = c .before .before .before .before .before .before .before .before .before .args in readNumber (a .canonic) 4 (unpackTags (getD (now (a .message)) (a .start) 0) .count) (drop (a .start + 1 + c .before .before .number .given .0 .1 .0) (now (a .message))) ≡ numberAnswer (c .relative-decode2 .result)
-second-is c = sym (rw (c .before .before .before .before .before .unpack-tags .ensures) at (c .relative-decode2 .ensures))
+second-is c =
+    let after-unpack-tags : tie.After-unpack-tags = search in
+    sym (rw (after-unpack-tags .unpack-tags .ensures) at (c .relative-decode2 .ensures))
 
 second-value : (c : tie.After-known-told2) → let a = c .before .before .before .before .before .before .before .before .before .before .before .before .args in readNumber (a .canonic) 4 (unpackTags (getD (now (a .message)) (a .start) 0) .count) (drop (a .start + 1 + c .before .before .before .before .before .number .given .0 .1 .0) (now (a .message))) ≡ accepted (c .before .number2 .given .0 .0) (c .before .number2 .given .0 .1 .0)
-second-value c = second-is (c .before .before .before) ∙ ap numberAnswer (c .before .number2 .given .1)
+second-value c =
+    let after-relative-decode2 : tie.After-relative-decode2 = search in
+    second-is after-relative-decode2 ∙ ap numberAnswer (c .before .number2 .given .1)
 
 second-inside : (c : tie.After-known-told2) → c .before .before .before .before .before .before .before .before .before .before .before .before .args .start + 1 + c .before .before .before .before .before .number .given .0 .1 .0 + c .before .number2 .given .0 .1 .0 ≤ length (now (c .before .before .before .before .before .before .before .before .before .before .before .before .args .message))
 second-inside c =
-    let a = c .before .before .before .before .before .before .before .before .before .before .before .before .args in
-    let at = a .start + 1 + c .before .before .before .before .before .number .given .0 .1 .0 in
-    omega (arith, first-inside (c .before .before .before .before), number-bounded 4 _ (a .canonic) .bound (drop at (now (a .message))) _ _ (second-value c), length-drop at (now (a .message)))
+    let after-known-told : tie.After-known-told = search in
+    let after-number : tie.After-number = search in
+    let start : tie.Start = search in
+    let a = start .args in
+    let at = a .start + 1 + after-number .number .given .0 .1 .0 in
+    omega (arith, first-inside after-known-told, number-bounded 4 _ (a .canonic) .bound (drop at (now (a .message))) _ _ (second-value c), length-drop at (now (a .message)))
 
 returns : tie.Need-returns
 returns c = sym (sizes-none _ (now (c .before .before .args .message)) _ (c .if1 .taken))
 
 returns-2 : tie.Need-returns-2
 returns-2 c =
-    let a = c .before .before .before .before .before .before .before .args in
+    let else1 : tie.Else1 = search in
+    let start : tie.Start = search in
+    let a = start .args in
     let x = no-number (c .before .before .relative-decode .result) (c .before .match .keys2) in
-    rw (c .number-refusal .ensures) (x .sizes ∙ sym (sizes-first (a .canonic) (now (a .message)) (a .start) (c .before .before .before .before .before .if1 .left) (x .why) (first-is (c .before .before) ∙ x .number)))
+    rw (c .number-refusal .ensures) (x .sizes ∙ sym (sizes-first (a .canonic) (now (a .message)) (a .start) (else1 .if1 .left) (x .why) (first-is (c .before .before) ∙ x .number)))
 
 add-relative-decode : tie.Need-add-relative-decode
 add-relative-decode c = omega (arith, first-inside c)
 
 returns-3 : tie.Need-returns-3
 returns-3 c =
-    let a = c .before .before .before .before .before .before .before .before .before .before .before .args in
+    let after-known-told : tie.After-known-told = search in
+    let else1 : tie.Else1 = search in
+    let start : tie.Start = search in
+    let a = start .args in
     let x = no-number (c .before .before .relative-decode2 .result) (c .before .match2 .keys2) in
-    rw (c .number-refusal2 .ensures) (x .sizes ∙ sym (sizes-second (a .canonic) (now (a .message)) (a .start) (c .before .before .before .before .before .before .before .before .before .if1 .left) _ _ (first-value (c .before .before .before)) (x .why) (second-is (c .before .before) ∙ x .number)))
+    rw (c .number-refusal2 .ensures) (x .sizes ∙ sym (sizes-second (a .canonic) (now (a .message)) (a .start) (else1 .if1 .left) _ _ (first-value after-known-told) (x .why) (second-is (c .before .before) ∙ x .number)))
 
 add-t12 : tie.Need-add-t12
-add-t12 c = omega (arith, first-inside (c .before .before .before .before), second-inside c)
+add-t12 c =
+    let after-known-told : tie.After-known-told = search in
+    omega (arith, first-inside after-known-told, second-inside c)
 
 add-t17 : tie.Need-add-t17
-add-t17 c = omega (arith, first-inside (c .before .before .before .before), second-inside c)
+add-t17 c =
+    let after-known-told : tie.After-known-told = search in
+    omega (arith, first-inside after-known-told, second-inside c)
 
 returns-4 : tie.Need-returns-4
 returns-4 c =
-    let a = c .before .before .before .before .before .before .before .before .before .before .before .before .args in
-    sym (sizes-both (a .canonic) (now (a .message)) (a .start) (c .before .before .before .before .before .before .before .before .before .before .if1 .left) _ _ (first-value (c .before .before .before .before)) _ _ (second-value c))
+    let after-known-told : tie.After-known-told = search in
+    let else1 : tie.Else1 = search in
+    let start : tie.Start = search in
+    let a = start .args in
+    sym (sizes-both (a .canonic) (now (a .message)) (a .start) (else1 .if1 .left) _ _ (first-value after-known-told) _ _ (second-value c))
 
 pub decode-sizes-spec : {M : Type 1} → statement M
 decode-sizes-spec =

@@ -23,32 +23,46 @@ abbrev μ-loop : tie.MeasureT-loop
 -- the component that was read
 reads-part : (c : tie.After-known-told Inv-loop μ-loop) → let p = c .before .component .given .0 in ReadsSized (c .before .before .before .before .before .before .before .before .before .args .canonic) (now (c .before .before .before .before .before .before .before .before .before .args .message)) (c .before .before .before .before .before .loop .at) (component.Bytes (p .0) (p .1 .0))
 reads-part c =
-    let a = c .before .before .before .before .before .before .before .before .before .args in
-    subst (λ (x : DecodedComponent). ReadsSized (a .canonic) (now (a .message)) (c .before .before .before .before .before .loop .at) x) (c .before .component .given .1) (c .before .before .before .decode-sized .ensures)
+    let after-decode-sized : tie.After-decode-sized Inv-loop μ-loop = search in
+    let at-loop : tie.At-loop Inv-loop μ-loop = search in
+    let start : tie.Start Inv-loop μ-loop = search in
+    let a = start .args in
+    subst (λ (x : DecodedComponent). ReadsSized (a .canonic) (now (a .message)) (at-loop .loop .at) x) (c .before .component .given .1) (after-decode-sized .decode-sized .ensures)
 
 loop-holds : tie.Need-loop-holds Inv-loop μ-loop
-loop-holds c = held-first (c .before .before .before .pre .0)
+loop-holds c =
+    let start : tie.Start Inv-loop μ-loop = search in
+    held-first (start .pre .0)
 
 decode-sized-requires : tie.Need-decode-sized-requires Inv-loop μ-loop
 decode-sized-requires c κs = c .before .loop .inv .inside
 
 same-length : tie.Need-same-length Inv-loop μ-loop
-same-length c = c .before .before .before .before .loop .inv .long
+same-length c =
+    let at-loop : tie.At-loop Inv-loop μ-loop = search in
+    at-loop .loop .inv .long
 
 same-length-2 : tie.Need-same-length-2 Inv-loop μ-loop
-same-length-2 c = c .before .before .before .before .loop .inv .many
+same-length-2 c =
+    let at-loop : tie.At-loop Inv-loop μ-loop = search in
+    at-loop .loop .inv .many
 
 returns : tie.Need-returns Inv-loop μ-loop
 returns c =
+    let in-loop : tie.In-loop Inv-loop μ-loop = search in
+    let at-loop : tie.At-loop Inv-loop μ-loop = search in
     let x = no-component (c .before .before .decode-sized .result) (c .before .match .keys2) in
     let refused-so = sym (c .before .before .decode-sized .ensures .answer) ∙ x .component _ _ in
-    rw (c .component-refusal .ensures, x .beside _) (sym (turn-refused (c .before .before .before .before .loop .inv) (x .why) (c .before .before .before .loop-test .taken) refused-so))
+    rw (c .component-refusal .ensures, x .beside _) (sym (turn-refused (at-loop .loop .inv) (x .why) (in-loop .loop-test .taken) refused-so))
 
 sub-len : tie.Need-sub-len Inv-loop μ-loop
 sub-len c = reads-part c .inside .1
 
 add-if1 : tie.Need-add-if1 Inv-loop μ-loop
-add-if1 c = omega (arith, reads-part c .inside .3, c .before .before .before .before .before .loop .inv .small, c .before .before .before .before .before .before .before .before .before .pre .1)
+add-if1 c =
+    let at-loop : tie.At-loop Inv-loop μ-loop = search in
+    let start : tie.Start Inv-loop μ-loop = search in
+    omega (arith, reads-part c .inside .3, at-loop .loop .inv .small, start .pre .1)
 
 sub-put-bytes-2 : tie.Need-sub-put-bytes-2 Inv-loop μ-loop
 sub-put-bytes-2 c = reads-part (c .before .before) .inside .1
@@ -60,22 +74,35 @@ part-put-bytes-end-2 : tie.Need-part-put-bytes-end-2 Inv-loop μ-loop
 part-put-bytes-end-2 c = omega (arith, reads-part (c .before .before) .inside .2)
 
 sub-lengths : tie.Need-sub-lengths Inv-loop μ-loop
-sub-lengths c = omega (arith, c .before .before .before .before .before .before .before .before .before .before .before .loop .inv .counts)
+sub-lengths c =
+    let at-loop : tie.At-loop Inv-loop μ-loop = search in
+    omega (arith, at-loop .loop .inv .counts)
 
 mul-lengths : tie.Need-mul-lengths Inv-loop μ-loop
-mul-lengths c = omega (arith, c .before .before .before .before .before .before .before .before .before .before .before .before .before .before .before .pre .1)
+mul-lengths c =
+    let start : tie.Start Inv-loop μ-loop = search in
+    omega (arith, start .pre .1)
 
 slice-write-lengths : tie.Need-slice-write-lengths Inv-loop μ-loop
-slice-write-lengths c = omega (arith, c .before .before .before .before .before .before .before .before .before .before .before .loop .inv .many, c .before .before .before .before .before .before .before .before .before .before .before .before .before .before .before .pre .2 .counts, c .before .before .before .before .before .before .before .before .before .before .before .loop .inv .counts)
+slice-write-lengths c =
+    let at-loop : tie.At-loop Inv-loop μ-loop = search in
+    let start : tie.Start Inv-loop μ-loop = search in
+    omega (arith, at-loop .loop .inv .many, start .pre .2 .counts, at-loop .loop .inv .counts)
 
 add-used : tie.Need-add-used Inv-loop μ-loop
-add-used c = omega (arith, reads-part (c .before) .inside .3, c .before .before .before .before .before .before .loop .inv .small, c .before .before .before .before .before .before .before .before .before .before .pre .1)
+add-used c =
+    let at-loop : tie.At-loop Inv-loop μ-loop = search in
+    let start : tie.Start Inv-loop μ-loop = search in
+    omega (arith, reads-part (c .before) .inside .3, at-loop .loop .inv .small, start .pre .1)
 
 loop-again : tie.Need-loop-again Inv-loop μ-loop
 loop-again c =
-    let l = c .before .before .before .before .before .before .loop in
-    let room = c .before .before .before .before .before .before .before .before .before .before .pre .2 in
-    let more = c .before .before .before .before .before .loop-test .taken in
+    let in-loop : tie.In-loop Inv-loop μ-loop = search in
+    let at-loop : tie.At-loop Inv-loop μ-loop = search in
+    let start : tie.Start Inv-loop μ-loop = search in
+    let l = at-loop .loop in
+    let room = start .pre .2 in
+    let more = in-loop .loop-test .taken in
     let r = reads-part (c .before) in
     turn (l .inv) room _ _ r more (restOf (c .if1 .bytes) (c .if1 .lengths))
     (⊎-elim (λ w. rw (w .6) (put-end-long (l .used) (l .bytes) (w .3 .last .0) (omega (arith, w .0 .taken, l .inv .long, room .totals)) (w .3 .kept .0))) (λ w. rw (w .1)) (c .if1 .came))
@@ -86,10 +113,18 @@ loop-again c =
     (c .if1 .came))
 
 decode-last-requires : tie.Need-decode-last-requires Inv-loop μ-loop
-decode-last-requires c κs = (c .before .before .before .loop .inv .inside, end-room (c .before .before .before .loop .inv) (c .before .before .before .before .before .before .before .pre .2))
+decode-last-requires c κs =
+    let at-loop : tie.At-loop Inv-loop μ-loop = search in
+    let start : tie.Start Inv-loop μ-loop = search in
+    (at-loop .loop .inv .inside, end-room (at-loop .loop .inv) (start .pre .2))
 
 returns-2 : tie.Need-returns-2 Inv-loop μ-loop
-returns-2 c = c .before .before .before .before .decode-last .ensures ∙ sym (end-last (c .before .before .before .before .before .before .before .before .loop .inv) (c .before .before .before .before .before .before .before .before .before .before .before .before .pre .2) (c .before .before .before .before .before .before .before .loop-test .left))
+returns-2 c =
+    let after-decode-last : tie.After-decode-last Inv-loop μ-loop = search in
+    let after-loop : tie.After-loop Inv-loop μ-loop = search in
+    let at-loop : tie.At-loop Inv-loop μ-loop = search in
+    let start : tie.Start Inv-loop μ-loop = search in
+    after-decode-last .decode-last .ensures ∙ sym (end-last (at-loop .loop .inv) (start .pre .2) (after-loop .loop-test .left))
 
 pub decode-some-spec : {M : Type 1} → statement M
 decode-some-spec =

@@ -19,10 +19,14 @@ abbrev μ-loop : tie.MeasureT-loop
 
 -- what the loop found
 sums : (c : tie.After-loop Inv-loop μ-loop) → c .before .loop .total ≡ sumOf (now (c .before .before .before .args .lengths))
-sums c = omega (arith, c .before .loop .inv .2, sum-end (now (c .before .before .before .args .lengths)) (c .before .loop .i) (omega arith))
+sums c =
+    let start : tie.Start Inv-loop μ-loop = search in
+    omega (arith, c .before .loop .inv .2, sum-end (now (start .args .lengths)) (c .before .loop .i) (omega arith))
 
 short : (c : tie.After-loop Inv-loop μ-loop) → allAtMost 300 (now (c .before .before .before .args .lengths)) ≡ true
-short c = c .before .loop .inv .3 ∙ at-most-end 300 (now (c .before .before .before .args .lengths)) (c .before .loop .i) (omega arith)
+short c =
+    let start : tie.Start Inv-loop μ-loop = search in
+    c .before .loop .inv .3 ∙ at-most-end 300 (now (start .args .lengths)) (c .before .loop .i) (omega arith)
 
 returns : tie.Need-returns Inv-loop μ-loop
 returns c = sym (parts-many _ _ (c .if1 .taken))
@@ -32,21 +36,30 @@ loop-holds c = (omega arith, omega arith, omega arith, refl)
 
 returns-2 : tie.Need-returns-2 Inv-loop μ-loop
 returns-2 c =
-    let l = c .before .before .before .loop in
-    let s = now (c .before .before .before .before .before .args .lengths) in
-    sym (parts-long s _ (c .before .before .before .before .if1 .left) (l .inv .3 ∙ at-most-next 300 s (l .i) (omega arith) ∙ rw (lt-leb _ _ (c .if2 .taken))))
+    let at-loop : tie.At-loop Inv-loop μ-loop = search in
+    let else1 : tie.Else1 Inv-loop μ-loop = search in
+    let start : tie.Start Inv-loop μ-loop = search in
+    let l = at-loop .loop in
+    let s = now (start .args .lengths) in
+    sym (parts-long s _ (else1 .if1 .left) (l .inv .3 ∙ at-most-next 300 s (l .i) (omega arith) ∙ rw (lt-leb _ _ (c .if2 .taken))))
 
 loop-again : tie.Need-loop-again Inv-loop μ-loop
 loop-again c =
-    let l = c .before .before .before .loop in
-    let s = now (c .before .before .before .before .before .args .lengths) in
+    let at-loop : tie.At-loop Inv-loop μ-loop = search in
+    let start : tie.Start Inv-loop μ-loop = search in
+    let l = at-loop .loop in
+    let s = now (start .args .lengths) in
     (omega arith, omega arith, omega (arith, l .inv .2, sum-next s (l .i) (omega arith)), l .inv .3 ∙ at-most-next 300 s (l .i) (omega arith) ∙ rw (le-leb _ _ (c .if2 .left)))
 
 returns-3 : tie.Need-returns-3 Inv-loop μ-loop
-returns-3 c = sym (parts-over _ _ (c .before .before .before .if1 .left) (short (c .before)) (omega (arith, sums (c .before))))
+returns-3 c =
+    let else1 : tie.Else1 Inv-loop μ-loop = search in
+    sym (parts-over _ _ (else1 .if1 .left) (short (c .before)) (omega (arith, sums (c .before))))
 
 returns-4 : tie.Need-returns-4 Inv-loop μ-loop
-returns-4 c = rw (sums (c .before)) (sym (parts-within _ _ (c .before .before .before .if1 .left) (short (c .before)) (omega (arith, sums (c .before)))))
+returns-4 c =
+    let else1 : tie.Else1 Inv-loop μ-loop = search in
+    rw (sums (c .before)) (sym (parts-within _ _ (else1 .if1 .left) (short (c .before)) (omega (arith, sums (c .before)))))
 
 pub parts-ok-spec : {M : Type 1} → statement M
 parts-ok-spec =

@@ -17,13 +17,14 @@ reference c = pathOf (now (c .args .of-bytes)) (now (c .args .of-lengths)) (c .a
 
 returns : tie.Need-returns
 returns c =
-    let s = c .before .before .before .before .before .before .before in
+    let s : tie.Start = search in
     length-barred (againstPath (reference s)) (path s) 5 (rw (uncommon (reference s) (path s) (sym (c .before .before .longest-common-prefix .ensures) ∙ c .enum-told .given .1)))
 
 returns-2 : tie.Need-returns-2
 returns-2 c =
-    let s = c .before .before .before .before .before .before .before .before .before in
-    let same = shared-against (reference s) (path s) _ (common (reference s) (path s) _ (sym (c .before .before .before .before .longest-common-prefix .ensures) ∙ c .before .before .common .given .1)) in
+    let after-longest-common-prefix : tie.After-longest-common-prefix = search in
+    let s : tie.Start = search in
+    let same = shared-against (reference s) (path s) _ (common (reference s) (path s) _ (sym (after-longest-common-prefix .longest-common-prefix .ensures) ∙ c .before .before .common .given .1)) in
     c .shared-len .ensures ∙ same-length (sharedFrom (c .before .before .common .given .0 .0)) (path s) (againstPath (reference s)) (same .0) (same .1)
 
 pub relative-len-of-encoding-spec : {M : Type 1} → statement M

@@ -20,23 +20,26 @@ path c = pathOf (now (c .args .bytes)) (now (c .args .lengths)) (c .args .count)
 -- the suffix's length
 suffix-is : (c : tie.After-known-told)
     → (suffixFrom (c .before .before .before .before .before .before .args .k) .check (path (c .before .before .before .before .before .before)) ≡ allowed) × (c .before .suffix .given .0 .0 ≡ length (suffixFrom (c .before .before .before .before .before .before .args .k) .encode (path (c .before .before .before .before .before .before))))
-suffix-is c = length-wrote (suffixFrom (c .before .before .before .before .before .before .args .k)) (path (c .before .before .before .before .before .before)) _ (sym (c .before .before .before .suffix-len .ensures) ∙ ap outcomeOf (c .before .suffix .given .1))
+suffix-is c =
+    let after-suffix-len : tie.After-suffix-len = search in
+    let start : tie.Start = search in
+    length-wrote (suffixFrom (start .args .k)) (path start) _ (sym (after-suffix-len .suffix-len .ensures) ∙ ap outcomeOf (c .before .suffix .given .1))
 
 returns : tie.Need-returns
 returns c =
-    let s = c .before .before .before .before in
+    let s : tie.Start = search in
     let none = no-length (c .before .suffix-len .result) (c .match .keys2) in
     none .is ∙ length-barred (sharedFrom (s .args .k)) (path s) (none .why) (length-denied (suffixFrom (s .args .k)) (path s) (none .why) (sym (c .before .suffix-len .ensures) ∙ none .is))
 
 add-t9 : tie.Need-add-t9
 add-t9 c =
-    let s = c .before .before .before .before .before .before .before in
+    let s : tie.Start = search in
     let l = suffix-is (c .before) in
     omega (arith, l .1, suffix-within (path s) (s .args .k) (l .0), c .len-of-encoding .ensures)
 
 returns-2 : tie.Need-returns-2
 returns-2 c =
-    let s = c .before .before .before .before .before .before .before in
+    let s : tie.Start = search in
     let l = suffix-is (c .before) in
     length-allowed (sharedFrom (s .args .k)) (path s) _ (l .0) (shared-long (path s) (s .args .k) _ _ (c .len-of-encoding .ensures .0) (l .1))
 

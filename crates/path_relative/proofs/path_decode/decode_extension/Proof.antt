@@ -31,17 +31,25 @@ prefix s = pathOf (now (s .args .bytes)) (now (s .args .lengths)) (s .args .coun
 -- the sizes, and where the components begin
 sizes-are : (c : tie.After-known-told) → let a = c .before .before .before .before .before .before .before .args in let h = c .before .sizes .given .0 in
     readSizes (a .canonic) (drop (a .start) (now (a .message))) ≡ accepted (sizesFrom (h .0) (h .1 .0)) (h .1 .1 .0)
-sizes-are c = sym (c .before .before .before .decode-sizes .ensures) ∙ ap sizesAnswer (c .before .sizes .given .1)
+sizes-are c =
+    let after-decode-sizes : tie.After-decode-sizes = search in
+    sym (after-decode-sizes .decode-sizes .ensures) ∙ ap sizesAnswer (c .before .sizes .given .1)
 
 begins : (c : tie.After-known-told) → c .before .before .before .before .before .before .before .args .start + c .before .sizes .given .0 .1 .1 .0 ≤ length (now (c .before .before .before .before .before .before .before .args .message))
-begins c = let a = c .before .before .before .before .before .before .before .args in sizes-inside (a .canonic) (now (a .message)) (a .start) _ _ (sizes-are c)
+begins c =
+    let start : tie.Start = search in
+    let a = start .args in sizes-inside (a .canonic) (now (a .message)) (a .start) _ _ (sizes-are c)
 
 -- the bytes of the prefix
 total-small : (c : tie.After-sum) → c .sum .result ≤ 600
-total-small c = let s = c .before .before .before .before .before .before .before .before .before in omega (arith, c .sum .ensures, lead-small (prefix s) (s .pre) (s .args .count) (omega arith))
+total-small c =
+    let s : tie.Start = search in
+    omega (arith, c .sum .ensures, lead-small (prefix s) (s .pre) (s .args .count) (omega arith))
 
 total-sum : (c : tie.After-sum) → totalOf (componentsOf (prefix (c .before .before .before .before .before .before .before .before .before))) ≡ c .sum .result
-total-sum c = let s = c .before .before .before .before .before .before .before .before .before in total-is (prefix s) (parts-formed (s .pre)) ∙ sym (c .sum .ensures)
+total-sum c =
+    let s : tie.Start = search in
+    total-is (prefix s) (parts-formed (s .pre)) ∙ sym (c .sum .ensures)
 
 total-fits : (c : tie.Else1) → totalOf (componentsOf (prefix (c .before .before .before .before .before .before .before .before .before .before))) + c .before .before .before .before .sizes .given .0 .0 ≤ 600
 total-fits c = omega (arith, c .if1 .left, total-small (c .before), total-sum (c .before))
@@ -50,71 +58,106 @@ total-fits c = omega (arith, c .if1 .left, total-small (c .before), total-sum (c
 after : (c : tie.After-decode-after) → let s = c .before .before .before .before .before .before .before .before .before .before .before .before .before .before .before in let h = c .before .before .before .before .before .before .before .before .before .sizes .given .0 in
     GivesPath (c .decode-after .result) (readAfter (s .args .canonic) (used (prefix s)) (take (sumOf (used (prefix s))) (now (s .args .bytes))) (h .0) (h .1 .0) (drop (s .args .start + h .1 .1 .0) (now (s .args .message))))
 after c =
-    let a = c .before .before .before .before .before .before .before .before .before .before .before .before .before .before .before .args in
-    rw (c .before .before .before .before .before .before .sum .ensures, to-end (a .start + c .before .before .before .before .before .before .before .before .before .sizes .given .0 .1 .1 .0) (now (a .message))) at (c .decode-after .ensures)
+    let after-sum : tie.After-sum = search in
+    let after-sizes : tie.After-sizes = search in
+    let start : tie.Start = search in
+    let a = start .args in
+    rw (after-sum .sum .ensures, to-end (a .start + after-sizes .sizes .given .0 .1 .1 .0) (now (a .message))) at (c .decode-after .ensures)
 
 extends-at : (c : tie.After-decode-after) → let s = c .before .before .before .before .before .before .before .before .before .before .before .before .before .before .before in let h = c .before .before .before .before .before .before .before .before .before .sizes .given .0 in
     readExtendsPath (s .args .canonic) (prefix s) (drop (s .args .start) (now (s .args .message)))
     ≡ shift (h .1 .1 .0) (readAfter (s .args .canonic) (used (prefix s)) (take (sumOf (used (prefix s))) (now (s .args .bytes))) (h .0) (h .1 .0) (drop (s .args .start + h .1 .1 .0) (now (s .args .message))))
 extends-at c =
-    let s = c .before .before .before .before .before .before .before .before .before .before .before .before .before .before .before in
-    extends-after _ (prefix s) (s .pre) (now (s .args .message)) (s .args .start) _ _ _ (sizes-are (c .before .before .before .before .before .before .before .before)) (λ i. omega (arith, c .before .before .before .before .before .before .before .before .before .before .before .before .before .before .shared-slice-known .given i)) (total-fits (c .before .before .before .before .before)) (omega (arith, c .before .before .before .before .if2 .left, parts-formed (s .pre) .well .count))
+    let else2 : tie.Else2 = search in
+    let else1 : tie.Else1 = search in
+    let after-known-told : tie.After-known-told = search in
+    let after-shared-slice-known : tie.After-shared-slice-known = search in
+    let s : tie.Start = search in
+    extends-after _ (prefix s) (s .pre) (now (s .args .message)) (s .args .start) _ _ _ (sizes-are after-known-told) (λ i. omega (arith, after-shared-slice-known .shared-slice-known .given i)) (total-fits else1) (omega (arith, else2 .if2 .left, parts-formed (s .pre) .well .count))
 
 returns : tie.Need-returns
 returns c =
-    let s = c .before .before .before .before .before .before .before in
-    let x = no-sizes (c .before .before .before .decode-sizes .result) (c .before .before .match .keys2) in
-    rw (c .refuse .ensures, c .before .sizes-refusal .ensures) (gives-refused (x .why) (x .path) (extends-sizes _ (prefix s) (s .pre) (now (s .args .message)) (s .args .start) (x .why) (sym (c .before .before .before .decode-sizes .ensures) ∙ x .sizes)))
+    let after-decode-sizes : tie.After-decode-sizes = search in
+    let s : tie.Start = search in
+    let x = no-sizes (after-decode-sizes .decode-sizes .result) (c .before .before .match .keys2) in
+    rw (c .refuse .ensures, c .before .sizes-refusal .ensures) (gives-refused (x .why) (x .path) (extends-sizes _ (prefix s) (s .pre) (now (s .args .message)) (s .args .start) (x .why) (sym (after-decode-sizes .decode-sizes .ensures) ∙ x .sizes)))
 
 slice-aggregate-sum : tie.Need-slice-aggregate-sum
-slice-aggregate-sum c = let s = c .before .before .before .before .before .before .before .before in sym (lead-long (prefix s) (s .pre) (s .args .count) (omega arith))
+slice-aggregate-sum c =
+    let s : tie.Start = search in
+    sym (lead-long (prefix s) (s .pre) (s .args .count) (omega arith))
 
 sum-requires : tie.Need-sum-requires
-sum-requires c κs = let s = c .before .before .before .before .before .before .before .before in omega (arith, lead-small (prefix s) (s .pre) (s .args .count) (omega arith))
+sum-requires c κs =
+    let s : tie.Start = search in
+    omega (arith, lead-small (prefix s) (s .pre) (s .args .count) (omega arith))
 
 sub-if1 : tie.Need-sub-if1
 sub-if1 c = total-small c
 
 returns-2 : tie.Need-returns-2
 returns-2 c =
-    let s = c .before .before .before .before .before .before .before .before .before .before .before in
-    rw (extends-long _ (prefix s) (s .pre) (now (s .args .message)) (s .args .start) _ _ _ (sizes-are (c .before .before .before .before)) (λ i. omega (arith, c .before .before .before .before .before .before .before .before .before .before .shared-slice-known .given i)) (omega (arith, c .before .if1 .taken, total-small (c .before .before), total-sum (c .before .before)))) (c .decode-outside .ensures)
+    let after-known-told : tie.After-known-told = search in
+    let after-shared-slice-known : tie.After-shared-slice-known = search in
+    let s : tie.Start = search in
+    rw (extends-long _ (prefix s) (s .pre) (now (s .args .message)) (s .args .start) _ _ _ (sizes-are after-known-told) (λ i. omega (arith, after-shared-slice-known .shared-slice-known .given i)) (omega (arith, c .before .if1 .taken, total-small (c .before .before), total-sum (c .before .before)))) (c .decode-outside .ensures)
 
 sub-if2 : tie.Need-sub-if2
-sub-if2 c = parts-formed (c .before .before .before .before .before .before .before .before .before .before .pre) .well .count
+sub-if2 c =
+    let start : tie.Start = search in
+    parts-formed (start .pre) .well .count
 
 returns-3 : tie.Need-returns-3
 returns-3 c =
-    let s = c .before .before .before .before .before .before .before .before .before .before .before .before in
-    rw (extends-many _ (prefix s) (s .pre) (now (s .args .message)) (s .args .start) _ _ _ (sizes-are (c .before .before .before .before .before)) (λ i. omega (arith, c .before .before .before .before .before .before .before .before .before .before .before .shared-slice-known .given i)) (total-fits (c .before .before)) (omega (arith, c .before .if2 .taken, parts-formed (s .pre) .well .count))) (c .decode-outside2 .ensures)
+    let after-known-told : tie.After-known-told = search in
+    let after-shared-slice-known : tie.After-shared-slice-known = search in
+    let s : tie.Start = search in
+    rw (extends-many _ (prefix s) (s .pre) (now (s .args .message)) (s .args .start) _ _ _ (sizes-are after-known-told) (λ i. omega (arith, after-shared-slice-known .shared-slice-known .given i)) (total-fits (c .before .before)) (omega (arith, c .before .if2 .taken, parts-formed (s .pre) .well .count))) (c .decode-outside2 .ensures)
 
 add-at : tie.Need-add-at
-add-at c = omega (arith, begins (c .before .before .before .before))
+add-at c =
+    let after-known-told : tie.After-known-told = search in
+    omega (arith, begins after-known-told)
 
 sub-decode-after : tie.Need-sub-decode-after
-sub-decode-after c = begins (c .before .before .before .before)
+sub-decode-after c =
+    let after-known-told : tie.After-known-told = search in
+    begins after-known-told
 
 part-decode-after-start : tie.Need-part-decode-after-start
-part-decode-after-start c = omega (arith, begins (c .before .before .before .before))
+part-decode-after-start c =
+    let after-known-told : tie.After-known-told = search in
+    omega (arith, begins after-known-told)
 
 slice-aggregate-decode-after : tie.Need-slice-aggregate-decode-after
-slice-aggregate-decode-after c = let s = c .before .before .before .before .before .before .before .before .before .before .before .before .before in sym (length-take-le _ _ (omega (arith, total-small (c .before .before .before .before), parts-formed (s .pre) .bytes)))
+slice-aggregate-decode-after c =
+    let after-sum : tie.After-sum = search in
+    let s : tie.Start = search in
+    sym (length-take-le _ _ (omega (arith, total-small after-sum, parts-formed (s .pre) .bytes)))
 
 slice-aggregate-decode-after-2 : tie.Need-slice-aggregate-decode-after-2
-slice-aggregate-decode-after-2 c = let s = c .before .before .before .before .before .before .before .before .before .before .before .before .before .before in sym (lead-long (prefix s) (s .pre) (s .args .count) (omega arith))
+slice-aggregate-decode-after-2 c =
+    let s : tie.Start = search in
+    sym (lead-long (prefix s) (s .pre) (s .args .count) (omega arith))
 
 returns-4 : tie.Need-returns-4
 returns-4 c = rw (extends-at (c .before)) (later-refused _ _ (c .match2 .keys2) (after (c .before)))
 
 add-t20 : tie.Need-add-t20
 add-t20 c =
-    let a = c .before .before .before .before .before .before .before .before .before .before .before .before .before .before .before .before .before .before .before .args in
-    let n = c .before .before .before .before .before .before .before .before .before .before .before .before .before .sizes .given .0 .1 .1 .0 in
-    let e = sym (after (c .before .before .before .before) .answer) ∙ ap (λ (d : Decoded). answerOf d (c .before .before .before .before .decode-after .result .path)) (c .before .before .answer .given .1) in
-    omega (arith, begins (c .before .before .before .before .before .before .before .before .before .before .before .before), after-bounded (a .canonic) _ _ _ _ .bound (drop (a .start + n) (now (a .message))) _ _ e, length-drop (a .start + n) (now (a .message)))
+    let after-decode-after : tie.After-decode-after = search in
+    let after-known-told : tie.After-known-told = search in
+    let after-sizes : tie.After-sizes = search in
+    let start : tie.Start = search in
+    let a = start .args in
+    let n = after-sizes .sizes .given .0 .1 .1 .0 in
+    let e = sym (after after-decode-after .answer) ∙ ap (λ (d : Decoded). answerOf d (after-decode-after .decode-after .result .path)) (c .before .before .answer .given .1) in
+    omega (arith, begins after-known-told, after-bounded (a .canonic) _ _ _ _ .bound (drop (a .start + n) (now (a .message))) _ _ e, length-drop (a .start + n) (now (a .message)))
 
 returns-5 : tie.Need-returns-5
-returns-5 c = rw (extends-at (c .before .before .before .before)) (later-accepted _ _ _ (c .before .before .answer .given .1) (after (c .before .before .before .before)))
+returns-5 c =
+    let after-decode-after : tie.After-decode-after = search in
+    rw (extends-at after-decode-after) (later-accepted _ _ _ (c .before .before .answer .given .1) (after after-decode-after))
 
 pub decode-extension-spec : {M : Type 1} → statement M
 decode-extension-spec =

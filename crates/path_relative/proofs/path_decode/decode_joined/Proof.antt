@@ -30,85 +30,114 @@ reference s = pathOf (now (s .args .bytes)) (now (s .args .lengths)) (s .args .c
 
 inside : (c : tie.After-sum) → c .sum .result ≤ length (now (c .before .before .before .before .before .args .bytes))
 inside c =
-    let s = c .before .before .before .before .before in
+    let s : tie.Start = search in
     omega (arith, c .sum .ensures, lead-small (reference s) (s .pre .formed) (s .args .k) (s .pre .there), parts-formed (s .pre .formed) .bytes)
 
 -- the components that follow, after the reference's first
 after : (c : tie.After-decode-after) → let a = c .before .before .before .before .before .before .before .before .args in
     GivesPath (c .decode-after .result) (readAfter (a .canonic) (take (a .k) (now (a .lengths))) (take (sumOf (take (a .k) (now (a .lengths)))) (now (a .bytes))) (a .total) (a .more) (now (a .message)))
-after c = rw (c .before .before .before .sum .ensures) at (c .decode-after .ensures)
+after c =
+    let after-sum : tie.After-sum = search in
+    rw (after-sum .sum .ensures) at (c .decode-after .ensures)
 
 taken : (c : tie.After-enum-told) → let a = c .before .before .before .before .before .before .before .before .before .before .before .args in
     readAfter (a .canonic) (take (a .k) (now (a .lengths))) (take (sumOf (take (a .k) (now (a .lengths)))) (now (a .bytes))) (a .total) (a .more) (now (a .message))
     ≡ accepted (c .before .before .before .decode-after .result .path) (c .enum-told .given .0 .0)
-taken c = sym (after (c .before .before .before) .answer) ∙ ap (λ (d : Decoded). answerOf d (c .before .before .before .decode-after .result .path)) (c .enum-told .given .1)
+taken c =
+    let after-decode-after : tie.After-decode-after = search in
+    sym (after after-decode-after .answer) ∙ ap (λ (d : Decoded). answerOf d (after-decode-after .decode-after .result .path)) (c .enum-told .given .1)
 
 read : (c : tie.After-enum-told) → let s = c .before .before .before .before .before .before .before .before .before .before .before in After (take (s .args .k) (componentsOf (reference s))) (c .before .before .before .decode-after .result .path)
 read c =
-    let s = c .before .before .before .before .before .before .before .before .before .before .before in
-    lead-read (reference s) (s .pre .formed) (s .args .k) (s .pre .there) _ _ _ _ _ _ (λ i. omega (arith, c .before .before .before .before .before .before .before .before .before .shared-slice-known2 .given i)) (λ i. omega (arith, c .before .before .before .before .before .before .before .before .before .before .shared-slice-known .given i)) (taken c)
+    let after-shared-slice-known2 : tie.After-shared-slice-known2 = search in
+    let after-shared-slice-known : tie.After-shared-slice-known = search in
+    let s : tie.Start = search in
+    lead-read (reference s) (s .pre .formed) (s .args .k) (s .pre .there) _ _ _ _ _ _ (λ i. omega (arith, after-shared-slice-known2 .shared-slice-known2 .given i)) (λ i. omega (arith, after-shared-slice-known .shared-slice-known .given i)) (taken c)
 
 -- strictly, the shared count decides
 judged : (c : tie.After-enum-told) → let s = c .before .before .before .before .before .before .before .before .before .before .before in let p = c .before .before .before .decode-after .result .path in
     readJoined (s .args .canonic) (reference s) (s .args .k) (s .args .total) (s .args .more) (now (s .args .message))
     ≡ passed (eqb (shared (componentsOf (reference s)) (componentsOf p)) (s .args .k)) (accepted p (c .enum-told .given .0 .0))
 judged c =
-    let s = c .before .before .before .before .before .before .before .before .before .before .before in
+    let s : tie.Start = search in
     joined-strict _ (reference s) (s .pre .formed) _ (s .pre .there) _ _ _ _ _ (not-false _ (c .before .before .if1 .left)) (taken c)
 
 accepts : (c : tie.After-enum-told) → let s = c .before .before .before .before .before .before .before .before .before .before .before in let p = c .before .before .before .decode-after .result .path in
     eqb (shared (componentsOf (reference s)) (componentsOf p)) (s .args .k) ≡ true
     → GivesPath (c .before .before .before .decode-after .result) (readJoined (s .args .canonic) (reference s) (s .args .k) (s .args .total) (s .args .more) (now (s .args .message)))
 accepts c ok =
+    let after-decode-after : tie.After-decode-after = search in
     let e = rw ok at (judged c) in
-    record { answer = ap (λ (d : Decoded). answerOf d (c .before .before .before .decode-after .result .path)) (c .enum-told .given .1) ∙ sym e; value = rw e }
+    record { answer = ap (λ (d : Decoded). answerOf d (after-decode-after .decode-after .result .path)) (c .enum-told .given .1) ∙ sym e; value = rw e }
 
 slice-aggregate-sum : tie.Need-slice-aggregate-sum
-slice-aggregate-sum c = let s = c .before .before .before .before in sym (lead-long (reference s) (s .pre .formed) (s .args .k) (s .pre .there))
+slice-aggregate-sum c =
+    let s : tie.Start = search in
+    sym (lead-long (reference s) (s .pre .formed) (s .args .k) (s .pre .there))
 
 sum-requires : tie.Need-sum-requires
-sum-requires c κs = let s = c .before .before .before .before in omega (arith, lead-small (reference s) (s .pre .formed) (s .args .k) (s .pre .there))
+sum-requires c κs =
+    let s : tie.Start = search in
+    omega (arith, lead-small (reference s) (s .pre .formed) (s .args .k) (s .pre .there))
 
 slice-aggregate-decode-after : tie.Need-slice-aggregate-decode-after
 slice-aggregate-decode-after c = sym (length-take-le _ _ (inside (c .before)))
 
 slice-aggregate-decode-after-2 : tie.Need-slice-aggregate-decode-after-2
-slice-aggregate-decode-after-2 c = let s = c .before .before .before .before .before .before .before in sym (lead-long (reference s) (s .pre .formed) (s .args .k) (s .pre .there))
+slice-aggregate-decode-after-2 c =
+    let s : tie.Start = search in
+    sym (lead-long (reference s) (s .pre .formed) (s .args .k) (s .pre .there))
 
 returns : tie.Need-returns
 returns c =
-    let s = c .before .before .before .before .before .before .before .before .before in
+    let s : tie.Start = search in
     rw (joined-lenient _ (reference s) (s .pre .formed) _ (s .pre .there) _ _ _ (not-true _ (c .if1 .taken))) (after (c .before))
 
 returns-2 : tie.Need-returns-2
 returns-2 c =
-    let s = c .before .before .before .before .before .before .before .before .before .before in
+    let s : tie.Start = search in
     rw (joined-after _ (reference s) (s .pre .formed) _ (s .pre .there) _ _ _) (bind-refused _ _ (c .match .keys2) (after (c .before .before)))
 
 returns-3 : tie.Need-returns-3
-returns-3 c = let s = c .before .before .before .before .before .before .before .before .before .before .before .before in accepts (c .before) (no-more (reference s) (s .pre .formed) _ (s .pre .there) _ (read (c .before)) (c .if2 .taken))
+returns-3 c =
+    let s : tie.Start = search in
+    accepts (c .before) (no-more (reference s) (s .pre .formed) _ (s .pre .there) _ (read (c .before)) (c .if2 .taken))
 
 returns-4 : tie.Need-returns-4
-returns-4 c = let s = c .before .before .before .before .before .before .before .before .before .before .before .before .before in accepts (c .before .before) (no-rest (reference s) (s .pre .formed) _ (s .pre .there) _ (read (c .before .before)) (c .before .if2 .left) (c .if3 .taken))
+returns-4 c =
+    let s : tie.Start = search in
+    accepts (c .before .before) (no-rest (reference s) (s .pre .formed) _ (s .pre .there) _ (read (c .before .before)) (c .before .if2 .left) (c .if3 .taken))
 
 same-component-requires : tie.Need-same-component-requires
 same-component-requires c κs =
-    let s = c .before .before .before .before .before .before .before .before .before .before .before .before .before .before .before .before .before .before in
-    let x = read (c .before .before .before .before .before .before .before) in
-    rw (c .before .before .before .before .before .before .before .before .before .before .before .before .before .sum .ensures) (stands-here (reference s) (s .pre .formed) _ (s .pre .there) _ x (c .before .before .before .before .before .before .if2 .left), stands-read (reference s) (s .pre .formed) _ (s .pre .there) _ x (c .before .before .before .before .before .before .if2 .left) (c .before .before .before .before .before .if3 .left))
+    let else3 : tie.Else3 = search in
+    let else2 : tie.Else2 = search in
+    let after-enum-told : tie.After-enum-told = search in
+    let after-sum : tie.After-sum = search in
+    let s : tie.Start = search in
+    let x = read after-enum-told in
+    rw (after-sum .sum .ensures) (stands-here (reference s) (s .pre .formed) _ (s .pre .there) _ x (else2 .if2 .left), stands-read (reference s) (s .pre .formed) _ (s .pre .there) _ x (else2 .if2 .left) (else3 .if3 .left))
 
 returns-5 : tie.Need-returns-5
 returns-5 c =
-    let s = c .before .before .before .before .before .before .before .before .before .before .before .before .before .before .before .before .before .before .before .before .before in
-    let e = rw (c .before .before .before .before .before .before .before .before .before .before .before .before .before .before .before .before .sum .ensures) at (sym (c .before .before .same-component .ensures) ∙ c .before .if4 .taken) in
-    let no = same-judged (reference s) (s .pre .formed) _ (s .pre .there) _ (read (c .before .before .before .before .before .before .before .before .before .before)) (c .before .before .before .before .before .before .before .before .before .if2 .left) (c .before .before .before .before .before .before .before .before .if3 .left) e in
-    rw (c .refuse .ensures) (gives-refused 2 refl (judged (c .before .before .before .before .before .before .before .before .before .before) ∙ rw no))
+    let else3 : tie.Else3 = search in
+    let else2 : tie.Else2 = search in
+    let after-enum-told : tie.After-enum-told = search in
+    let after-sum : tie.After-sum = search in
+    let s : tie.Start = search in
+    let e = rw (after-sum .sum .ensures) at (sym (c .before .before .same-component .ensures) ∙ c .before .if4 .taken) in
+    let no = same-judged (reference s) (s .pre .formed) _ (s .pre .there) _ (read after-enum-told) (else2 .if2 .left) (else3 .if3 .left) e in
+    rw (c .refuse .ensures) (gives-refused 2 refl (judged after-enum-told ∙ rw no))
 
 returns-6 : tie.Need-returns-6
 returns-6 c =
-    let s = c .before .before .before .before .before .before .before .before .before .before .before .before .before .before .before .before .before .before .before .before in
-    let e = rw (c .before .before .before .before .before .before .before .before .before .before .before .before .before .before .before .sum .ensures) at (sym (c .before .same-component .ensures) ∙ c .if4 .left) in
-    accepts (c .before .before .before .before .before .before .before .before .before) (other-judged (reference s) (s .pre .formed) _ (s .pre .there) _ (read (c .before .before .before .before .before .before .before .before .before)) (c .before .before .before .before .before .before .before .before .if2 .left) (c .before .before .before .before .before .before .before .if3 .left) e)
+    let else3 : tie.Else3 = search in
+    let else2 : tie.Else2 = search in
+    let after-enum-told : tie.After-enum-told = search in
+    let after-sum : tie.After-sum = search in
+    let s : tie.Start = search in
+    let e = rw (after-sum .sum .ensures) at (sym (c .before .same-component .ensures) ∙ c .if4 .left) in
+    accepts after-enum-told (other-judged (reference s) (s .pre .formed) _ (s .pre .there) _ (read after-enum-told) (else2 .if2 .left) (else3 .if3 .left) e)
 
 pub decode-joined-spec : {M : Type 1} → statement M
 decode-joined-spec =

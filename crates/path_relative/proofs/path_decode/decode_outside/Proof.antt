@@ -11,7 +11,8 @@ returns c = bind-refused _ _ (c .match .keys2) (c .before .decode .ensures)
 
 returns-2 : tie.Need-returns-2
 returns-2 c =
-    let taken = sym (c .before .before .before .decode .ensures .answer) ∙ ap (λ (d : Decoded). answerOf d (c .before .before .before .decode .result .path)) (c .before .enum-told .given .1) in
+    let after-decode : tie.After-decode = search in
+    let taken = sym (after-decode .decode .ensures .answer) ∙ ap (λ (d : Decoded). answerOf d (after-decode .decode .result .path)) (c .before .enum-told .given .1) in
     rw (c .refuse .ensures) (gives-refused 2 refl (rw taken))
 
 pub decode-outside-spec : {M : Type 1} → statement M

@@ -39,30 +39,47 @@ well c = sym (c .before .well-formed .ensures) ∙ not-false _ (c .if1 .left)
 -- the shared count
 shared-are : (c : tie.After-known-told) → let a = c .before .before .before .before .before .before .before .before .before .args in let h = c .before .number .given .0 in
     readStandalone (a .canonic) (drop (a .start) (now (a .message))) ≡ accepted (h .0) (h .1 .0)
-shared-are c = sym (c .before .before .before .decode .ensures) ∙ ap numberAnswer (c .before .number .given .1)
+shared-are c =
+    let after-decode : tie.After-decode = search in
+    sym (after-decode .decode .ensures) ∙ ap numberAnswer (c .before .number .given .1)
 
 first-inside : (c : tie.After-known-told) → c .before .before .before .before .before .before .before .before .before .args .start + c .before .number .given .0 .1 .0 ≤ length (now (c .before .before .before .before .before .before .before .before .before .args .message))
-first-inside c = let a = c .before .before .before .before .before .before .before .before .before .args in standalone-inside (a .canonic) (now (a .message)) (a .start) _ _ (shared-are c)
+first-inside c =
+    let start : tie.Start = search in
+    let a = start .args in standalone-inside (a .canonic) (now (a .message)) (a .start) _ _ (shared-are c)
 
 -- the sizes, and where the components begin
 sizes-are : (c : tie.After-known-told2) → let a = c .before .before .before .before .before .before .before .before .before .before .before .before .before .args in let h = c .before .sizes .given .0 in
     readSizes (a .canonic) (drop (a .start + c .before .before .before .before .before .number .given .0 .1 .0) (now (a .message))) ≡ accepted (sizesFrom (h .0) (h .1 .0)) (h .1 .1 .0)
-sizes-are c = sym (c .before .before .before .decode-sizes .ensures) ∙ ap sizesAnswer (c .before .sizes .given .1)
+sizes-are c =
+    let after-decode-sizes : tie.After-decode-sizes = search in
+    sym (after-decode-sizes .decode-sizes .ensures) ∙ ap sizesAnswer (c .before .sizes .given .1)
 
 begins : (c : tie.After-known-told2) → c .before .before .before .before .before .before .before .before .before .before .before .before .before .args .start + c .before .before .before .before .before .number .given .0 .1 .0 + c .before .sizes .given .0 .1 .1 .0 ≤ length (now (c .before .before .before .before .before .before .before .before .before .before .before .before .before .args .message))
-begins c = let a = c .before .before .before .before .before .before .before .before .before .before .before .before .before .args in sizes-inside (a .canonic) (now (a .message)) (a .start + c .before .before .before .before .before .number .given .0 .1 .0) _ _ (sizes-are c)
+begins c =
+    let after-number : tie.After-number = search in
+    let start : tie.Start = search in
+    let a = start .args in sizes-inside (a .canonic) (now (a .message)) (a .start + after-number .number .given .0 .1 .0) _ _ (sizes-are c)
 
 -- what follows them
 joined-are : (c : tie.After-decode-joined) → let s = c .before .before .before .before .before .before .before .before .before .before .before .before .before .before .before .before in let h = c .before .before .before .before .sizes .given .0 in let n = c .before .before .before .before .before .before .before .before .number .given .0 in
     GivesPath (c .decode-joined .result) (readJoined (s .args .canonic) (reference s) (n .0) (h .0) (h .1 .0) (drop (s .args .start + n .1 .0 + h .1 .1 .0) (now (s .args .message))))
 joined-are c =
-    let a = c .before .before .before .before .before .before .before .before .before .before .before .before .before .before .before .before .args in
-    rw (to-end (a .start + c .before .before .before .before .before .before .before .before .number .given .0 .1 .0 + c .before .before .before .before .sizes .given .0 .1 .1 .0) (now (a .message))) at (c .decode-joined .ensures)
+    let after-sizes : tie.After-sizes = search in
+    let after-number : tie.After-number = search in
+    let start : tie.Start = search in
+    let a = start .args in
+    rw (to-end (a .start + after-number .number .given .0 .1 .0 + after-sizes .sizes .given .0 .1 .1 .0) (now (a .message))) at (c .decode-joined .ensures)
 
 joined-at : (c : tie.After-decode-joined) → let s = c .before .before .before .before .before .before .before .before .before .before .before .before .before .before .before .before in let h = c .before .before .before .before .sizes .given .0 in let n = c .before .before .before .before .before .before .before .before .number .given .0 in
     readAgainstPath (s .args .canonic) (reference s) (drop (s .args .start) (now (s .args .message)))
     ≡ shift (n .1 .0) (shift (h .1 .1 .0) (readJoined (s .args .canonic) (reference s) (n .0) (h .0) (h .1 .0) (drop (s .args .start + n .1 .0 + h .1 .1 .0) (now (s .args .message)))))
-joined-at c = let s = c .before .before .before .before .before .before .before .before .before .before .before .before .before .before .before .before in against-joined _ (reference s) (well (c .before .before .before .before .before .before .before .before .before .before .before)) (now (s .args .message)) (s .args .start) _ _ (shared-are (c .before .before .before .before .before .before .before)) _ _ _ (sizes-are (c .before .before .before))
+joined-at c =
+    let after-known-told2 : tie.After-known-told2 = search in
+    let after-known-told : tie.After-known-told = search in
+    let else1 : tie.Else1 = search in
+    let s : tie.Start = search in
+    against-joined _ (reference s) (well else1) (now (s .args .message)) (s .args .start) _ _ (shared-are after-known-told) _ _ _ (sizes-are after-known-told2)
 
 inside : (c : tie.After-path) → c .before .before .before .before .before .before .before .before .before .before .before .before .before .before .before .before .before .before .before .before .args .start + c .before .before .before .before .before .before .before .before .before .before .before .before .number .given .0 .1 .0 + c .before .before .before .before .before .before .before .before .sizes .given .0 .1 .1 .0 + c .before .before .answer .given .0 .0 ≤ length (now (c .before .before .before .before .before .before .before .before .before .before .before .before .before .before .before .before .before .before .before .before .args .message))
 inside c =
@@ -76,24 +93,31 @@ returns c = rw (c .refuse .ensures) (gives-refused 5 refl (against-malformed _ _
 
 returns-2 : tie.Need-returns-2
 returns-2 c =
-    let s = c .before .before .before .before .before .before .before .before .before in
-    let x = refused-number (pathFrom []) (c .before .before .before .decode .result) (c .before .before .match .keys2) in
-    rw (c .refuse2 .ensures, c .before .refusal .ensures) (gives-refused (x .why) (x .whole) (against-first _ (reference s) (well (c .before .before .before .before)) (now (s .args .message)) (s .args .start) (x .why) (sym (c .before .before .before .decode .ensures) ∙ x .number)))
+    let after-decode : tie.After-decode = search in
+    let else1 : tie.Else1 = search in
+    let s : tie.Start = search in
+    let x = refused-number (pathFrom []) (after-decode .decode .result) (c .before .before .match .keys2) in
+    rw (c .refuse2 .ensures, c .before .refusal .ensures) (gives-refused (x .why) (x .whole) (against-first _ (reference s) (well else1) (now (s .args .message)) (s .args .start) (x .why) (sym (after-decode .decode .ensures) ∙ x .number)))
 
 add-first : tie.Need-add-first
 add-first c = omega (arith, first-inside c)
 
 returns-3 : tie.Need-returns-3
 returns-3 c =
-    let s = c .before .before .before .before .before .before .before .before .before .before .before .before .before in
-    let x = no-sizes (c .before .before .before .decode-sizes .result) (c .before .before .match2 .keys2) in
-    rw (c .refuse3 .ensures, c .before .sizes-refusal .ensures) (gives-refused (x .why) (x .path) (against-sizes _ (reference s) (well (c .before .before .before .before .before .before .before .before)) (now (s .args .message)) (s .args .start) _ _ (shared-are (c .before .before .before .before)) (x .why) (sym (c .before .before .before .decode-sizes .ensures) ∙ x .sizes)))
+    let after-decode-sizes : tie.After-decode-sizes = search in
+    let after-known-told : tie.After-known-told = search in
+    let else1 : tie.Else1 = search in
+    let s : tie.Start = search in
+    let x = no-sizes (after-decode-sizes .decode-sizes .result) (c .before .before .match2 .keys2) in
+    rw (c .refuse3 .ensures, c .before .sizes-refusal .ensures) (gives-refused (x .why) (x .path) (against-sizes _ (reference s) (well else1) (now (s .args .message)) (s .args .start) _ _ (shared-are after-known-told) (x .why) (sym (after-decode-sizes .decode-sizes .ensures) ∙ x .sizes)))
 
 returns-4 : tie.Need-returns-4
 returns-4 c =
-    let s = c .before .before .before .before .before .before .before .before .before .before .before .before .before .before .before in
-    let w = well (c .before .before .before .before .before .before .before .before .before .before) in
-    rw (c .refuse4 .ensures) (gives-refused 2 refl (against-above _ (reference s) w (now (s .args .message)) (s .args .start) _ _ (shared-are (c .before .before .before .before .before .before)) _ _ _ (sizes-are (c .before .before)) (omega (arith, c .before .if2 .taken, count-is (reference s) (parts-formed w)))))
+    let after-known-told : tie.After-known-told = search in
+    let else1 : tie.Else1 = search in
+    let s : tie.Start = search in
+    let w = well else1 in
+    rw (c .refuse4 .ensures) (gives-refused 2 refl (against-above _ (reference s) w (now (s .args .message)) (s .args .start) _ _ (shared-are after-known-told) _ _ _ (sizes-are (c .before .before)) (omega (arith, c .before .if2 .taken, count-is (reference s) (parts-formed w)))))
 
 add-at : tie.Need-add-at
 add-at c = omega (arith, begins (c .before))
@@ -105,19 +129,27 @@ part-decode-joined-start : tie.Need-part-decode-joined-start
 part-decode-joined-start c = omega (arith, begins (c .before))
 
 decode-joined-requires : tie.Need-decode-joined-requires
-decode-joined-requires c κs = record { formed = well (c .before .before .before .before .before .before .before .before .before .before); there = omega (arith, c .before .if2 .left) }
+decode-joined-requires c κs =
+    let else1 : tie.Else1 = search in
+    record { formed = well else1; there = omega (arith, c .before .if2 .left) }
 
 returns-5 : tie.Need-returns-5
 returns-5 c = rw (joined-at (c .before)) (later-refused _ _ (c .match3 .keys2) (later-refused _ _ (c .match3 .keys2) (joined-are (c .before))))
 
 add-t29 : tie.Need-add-t29
-add-t29 c = omega (arith, inside c, short (c .before .before .before .before .before .before .before .before .before .before .before .before .before .before .before .before .before .before .before .before))
+add-t29 c =
+    let start : tie.Start = search in
+    omega (arith, inside c, short start)
 
 add-t32 : tie.Need-add-t32
-add-t32 c = omega (arith, inside c, short (c .before .before .before .before .before .before .before .before .before .before .before .before .before .before .before .before .before .before .before .before))
+add-t32 c =
+    let start : tie.Start = search in
+    omega (arith, inside c, short start)
 
 returns-6 : tie.Need-returns-6
-returns-6 c = rw (joined-at (c .before .before .before .before)) (later-accepted _ _ _ refl (later-accepted _ _ _ (c .before .before .answer .given .1) (joined-are (c .before .before .before .before))))
+returns-6 c =
+    let after-decode-joined : tie.After-decode-joined = search in
+    rw (joined-at after-decode-joined) (later-accepted _ _ _ refl (later-accepted _ _ _ (c .before .before .answer .given .1) (joined-are after-decode-joined)))
 
 pub relative-decode-spec : {M : Type 1} → statement M
 relative-decode-spec =

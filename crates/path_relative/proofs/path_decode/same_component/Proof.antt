@@ -9,7 +9,8 @@ use Rattle.path_relative.proofs.path_decode.same_component.Tie as tie
 
 returns : tie.Need-returns
 returns c =
-    let a = c .before .before .before .before .before .before .before .before .before .args in
+    let start : tie.Start = search in
+    let a = start .args in
     let n = getD (now (a .lengths)) (a .k) 0 in
     let m = getD (now (a .other-lengths)) (a .k) 0 in
     let first : a .at + n - a .at ≡ n = omega arith in

@@ -28,16 +28,25 @@ here c = parts-formed (well c)
 
 -- past both tests
 sums : (c : tie.Else2) → sumOf (take (c .before .before .before .before .before .before .args .k) (now (c .before .before .before .before .before .before .args .lengths))) ≤ 600
-sums c = omega (arith, suffix-sum (path (c .before .before .before .before .before .before)) (here (c .before)) (c .before .before .before .before .before .before .args .k) (c .if2 .left))
+sums c =
+    let start : tie.Start = search in
+    omega (arith, suffix-sum (path start) (here (c .before)) (start .args .k) (c .if2 .left))
 
 long : (c : tie.After-len-of) → c .len-of .result ≡ length (suffixFrom (c .before .before .before .before .before .before .before .before .args .k) .encode (path (c .before .before .before .before .before .before .before .before)))
-long c = c .len-of .ensures .0 ∙ suffix-is-long (path (c .before .before .before .before .before .before .before .before)) (here (c .before .before .before)) (c .before .before .before .before .before .before .before .before .args .k) (c .before .before .if2 .left)
+long c =
+    let else1 : tie.Else1 = search in
+    let start : tie.Start = search in
+    c .len-of .ensures .0 ∙ suffix-is-long (path start) (here else1) (start .args .k) (c .before .before .if2 .left)
 
 returns : tie.Need-returns
-returns c = put-barred _ _ (now (c .before .before .before .before .before .args .buffer)) 5 (suffix-malformed _ _ (sym (c .before .well-formed .ensures) ∙ not-true _ (c .if1 .taken)))
+returns c =
+    let start : tie.Start = search in
+    put-barred _ _ (now (start .args .buffer)) 5 (suffix-malformed _ _ (sym (c .before .well-formed .ensures) ∙ not-true _ (c .if1 .taken)))
 
 returns-2 : tie.Need-returns-2
-returns-2 c = put-barred _ _ (now (c .before .before .before .before .before .before .args .buffer)) 3 (suffix-outside _ _ (well (c .before)) (c .if2 .taken))
+returns-2 c =
+    let start : tie.Start = search in
+    put-barred _ _ (now (start .args .buffer)) 3 (suffix-outside _ _ (well (c .before)) (c .if2 .taken))
 
 mul-len-of : tie.Need-mul-len-of
 mul-len-of c = omega (arith, here (c .before) .well .count)
@@ -49,45 +58,76 @@ len-of-requires : tie.Need-len-of-requires
 len-of-requires c κs = suffix-lengths _ (here (c .before .before)) _ (c .before .if2 .left)
 
 returns-3 : tie.Need-returns-3
-returns-3 c = put-full _ _ (now (c .before .before .before .before .before .before .before .before .before .args .buffer)) (suffix-allowed _ _ (well (c .before .before .before .before)) (c .before .before .before .if2 .left)) _ (long (c .before)) (c .if3 .taken)
+returns-3 c =
+    let else2 : tie.Else2 = search in
+    let else1 : tie.Else1 = search in
+    let start : tie.Start = search in
+    put-full _ _ (now (start .args .buffer)) (suffix-allowed _ _ (well else1) (else2 .if2 .left)) _ (long (c .before)) (c .if3 .taken)
 
 slice-aggregate-total-of : tie.Need-slice-aggregate-total-of
-slice-aggregate-total-of c = let f = here (c .before .before .before .before .before) in let a = c .before .before .before .before .before .before .before .before .before .before .args in sym (length-take-le (a .k) (now (a .lengths)) (omega (arith, f .lengths, f .well .count)))
+slice-aggregate-total-of c =
+    let else1 : tie.Else1 = search in
+    let start : tie.Start = search in
+    let f = here else1 in let a = start .args in sym (length-take-le (a .k) (now (a .lengths)) (omega (arith, f .lengths, f .well .count)))
 
 total-of-requires : tie.Need-total-of-requires
-total-of-requires c κs = omega (arith, sums (c .before .before .before .before))
+total-of-requires c κs =
+    let else2 : tie.Else2 = search in
+    omega (arith, sums else2)
 
 sub-put-suffix : tie.Need-sub-put-suffix
-sub-put-suffix c = omega (arith, sums (c .before .before .before .before .before .before), here (c .before .before .before .before .before .before .before) .bytes, c .before .total-of .ensures)
+sub-put-suffix c =
+    let else2 : tie.Else2 = search in
+    let else1 : tie.Else1 = search in
+    omega (arith, sums else2, here else1 .bytes, c .before .total-of .ensures)
 
 part-put-suffix-start : tie.Need-part-put-suffix-start
-part-put-suffix-start c = omega (arith, sums (c .before .before .before .before .before .before), here (c .before .before .before .before .before .before .before) .bytes, c .before .total-of .ensures)
+part-put-suffix-start c =
+    let else2 : tie.Else2 = search in
+    let else1 : tie.Else1 = search in
+    omega (arith, sums else2, here else1 .bytes, c .before .total-of .ensures)
 
 part-put-suffix-end : tie.Need-part-put-suffix-end
-part-put-suffix-end c = omega (arith, here (c .before .before .before .before .before .before .before) .bytes)
+part-put-suffix-end c =
+    let else1 : tie.Else1 = search in
+    omega (arith, here else1 .bytes)
 
 mul-put-suffix : tie.Need-mul-put-suffix
-mul-put-suffix c = omega (arith, here (c .before .before .before .before .before .before .before .before) .well .count)
+mul-put-suffix c =
+    let else1 : tie.Else1 = search in
+    omega (arith, here else1 .well .count)
 
 part-put-suffix-end-2 : tie.Need-part-put-suffix-end-2
-part-put-suffix-end-2 c = omega (arith, here (c .before .before .before .before .before .before .before .before) .well .count, here (c .before .before .before .before .before .before .before .before) .lengths)
+part-put-suffix-end-2 c =
+    let else1 : tie.Else1 = search in
+    omega (arith, here else1 .well .count, here else1 .lengths)
 
 put-suffix-requires : tie.Need-put-suffix-requires
 put-suffix-requires c κs =
-    let f = here (c .before .before .before .before .before .before .before .before .before) in
-    let s = c .before .before .before .before .before .before .before .before .before .before .before .before .before .before in
-    let at = c .before .before .before .total-of in
+    let after-total-of : tie.After-total-of = search in
+    let else3 : tie.Else3 = search in
+    let after-len-of : tie.After-len-of = search in
+    let else2 : tie.Else2 = search in
+    let else1 : tie.Else1 = search in
+    let s : tie.Start = search in
+    let f = here else1 in
+    let at = after-total-of .total-of in
     let tail = to-end (at .result) (now (s .args .bytes)) in
-    rw (tail, at .ensures) (suffix-there (path s) f (s .args .k) (c .before .before .before .before .before .before .before .before .if2 .left), rw (← (suffix-cut (path s) f (s .args .k) (c .before .before .before .before .before .before .before .before .if2 .left))) (omega (arith, long (c .before .before .before .before .before .before), c .before .before .before .before .before .if3 .left)))
+    rw (tail, at .ensures) (suffix-there (path s) f (s .args .k) (else2 .if2 .left), rw (← (suffix-cut (path s) f (s .args .k) (else2 .if2 .left))) (omega (arith, long after-len-of, else3 .if3 .left)))
 
 returns-4 : tie.Need-returns-4
 returns-4 c =
-    let s = c .before .before .before .before .before .before .before .before .before .before .before .before .before .before .before .before .before in
-    let h = c .before .before .before .before .before .before .before .before .before .before .before .if2 .left in
-    let f = here (c .before .before .before .before .before .before .before .before .before .before .before .before) in
-    let at = c .before .before .before .before .before .before .total-of in
+    let after-total-of : tie.After-total-of = search in
+    let else3 : tie.Else3 = search in
+    let after-len-of : tie.After-len-of = search in
+    let else2 : tie.Else2 = search in
+    let else1 : tie.Else1 = search in
+    let s : tie.Start = search in
+    let h = else2 .if2 .left in
+    let f = here else1 in
+    let at = after-total-of .total-of in
     let tail = to-end (at .result) (now (s .args .bytes)) in
-    let put = put-fits _ (suffixFrom (s .args .k) .encode (path s)) (now (s .args .buffer)) (suffix-allowed (path s) (s .args .k) (well (c .before .before .before .before .before .before .before .before .before .before .before .before)) h) _ (long (c .before .before .before .before .before .before .before .before .before)) (c .before .before .before .before .before .before .before .before .if3 .left) in
+    let put = put-fits _ (suffixFrom (s .args .k) .encode (path s)) (now (s .args .buffer)) (suffix-allowed (path s) (s .args .k) (well else1) h) _ (long after-len-of) (else3 .if3 .left) in
     (put .0, rw (tail, at .ensures, ← (suffix-cut (path s) f (s .args .k) h)) at (c .before .before .put-suffix .ensures .1) ∙ put .1)
 
 pub encode-suffix-spec : {M : Type 1} → statement M

@@ -24,10 +24,14 @@ here : (c : tie.Else1) → Formed (path (c .before .before .before .before))
 here c = parts-formed (well c)
 
 returns : tie.Need-returns
-returns c = length-barred _ (path (c .before .before .before .before)) 5 (suffix-malformed _ _ (sym (c .before .well-formed .ensures) ∙ not-true _ (c .if1 .taken)))
+returns c =
+    let start : tie.Start = search in
+    length-barred _ (path start) 5 (suffix-malformed _ _ (sym (c .before .well-formed .ensures) ∙ not-true _ (c .if1 .taken)))
 
 returns-2 : tie.Need-returns-2
-returns-2 c = length-barred _ (path (c .before .before .before .before .before)) 3 (suffix-outside _ _ (well (c .before)) (c .if2 .taken))
+returns-2 c =
+    let start : tie.Start = search in
+    length-barred _ (path start) 3 (suffix-outside _ _ (well (c .before)) (c .if2 .taken))
 
 mul-len-of : tie.Need-mul-len-of
 mul-len-of c = omega (arith, here (c .before) .well .count)
@@ -40,9 +44,10 @@ len-of-requires c κs = suffix-lengths _ (here (c .before .before)) _ (c .before
 
 returns-3 : tie.Need-returns-3
 returns-3 c =
-    let s = c .before .before .before .before .before .before .before in
-    let long = c .len-of .ensures .0 ∙ suffix-is-long (path s) (here (c .before .before .before)) (s .args .k) (c .before .before .if2 .left) in
-    length-allowed (suffixFrom (s .args .k)) (path s) _ (suffix-allowed _ _ (well (c .before .before .before)) (c .before .before .if2 .left)) long
+    let else1 : tie.Else1 = search in
+    let s : tie.Start = search in
+    let long = c .len-of .ensures .0 ∙ suffix-is-long (path s) (here else1) (s .args .k) (c .before .before .if2 .left) in
+    length-allowed (suffixFrom (s .args .k)) (path s) _ (suffix-allowed _ _ (well else1) (c .before .before .if2 .left)) long
 
 pub suffix-len-spec : {M : Type 1} → statement M
 suffix-len-spec =

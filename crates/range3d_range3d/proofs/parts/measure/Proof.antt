@@ -16,18 +16,22 @@ well c = sym (c .before .well-formed2 .ensures) ∙ not-false _ (c .if2 .left)
 returns : tie.Need-returns
 unfolding measureIn
 returns c =
-    let e : wellFormedSubspaces (c .before .before .before .before .before .before .before .before .before .before .args .of-subspaces) ≡ false = sym (c .before .well-formed .ensures) ∙ not-true _ (c .if1 .taken) in
+    let start : tie.Start = search in
+    let e : wellFormedSubspaces (start .args .of-subspaces) ≡ false = sym (c .before .well-formed .ensures) ∙ not-true _ (c .if1 .taken) in
     rw e
 
 returns-2 : tie.Need-returns-2
 unfolding measureIn
 returns-2 c =
-    let e : wellFormedSubspaces (c .before .before .before .before .before .before .before .before .before .before .before .before .args .subspaces) ≡ false = sym (c .before .well-formed2 .ensures) ∙ not-true _ (c .if2 .taken) in
+    let start : tie.Start = search in
+    let e : wellFormedSubspaces (start .args .subspaces) ≡ false = sym (c .before .well-formed2 .ensures) ∙ not-true _ (c .if2 .taken) in
     rw (known-well (c .before .before), e)
 
 returns-3 : tie.Need-returns-3
 unfolding measureIn
-returns-3 c = rw (known-well (c .before .before .before), well (c .before)) (c .measure .ensures)
+returns-3 c =
+    let else1 : tie.Else1 = search in
+    rw (known-well else1, well (c .before)) (c .measure .ensures)
 
 pub measure-spec : {M : Type 1} → statement M
 measure-spec = tie.close (tie.spec (λ c κs. search needs) returns (λ c κs. search needs) returns-2 (λ c κs. search needs) returns-3)

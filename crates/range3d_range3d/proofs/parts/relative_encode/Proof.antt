@@ -19,11 +19,14 @@ known c =
     rangeWith (a .of-subspaces) (pathsWith (pathOf (now (a .of-start-bytes)) (now (a .of-start-lengths)) (a .of-start-count)) (a .of-end-open) (pathOf (now (a .of-end-bytes)) (now (a .of-end-lengths)) (a .of-end-count))) (a .of-times)
 
 paths-are : (c : tie.After-known-told) → let s = c .before .before .before .before .before .before .before .before .before .before .before .before .before in Measures (known s) (value s) (c .before .measured .given .0 .0) (c .before .measured .given .0 .1 .0) (c .before .measured .given .0 .1 .1 .0) (c .before .measured .given .0 .1 .1 .1 .0) (c .before .measured .given .0 .1 .1 .1 .1 .0)
-paths-are c = let s = c .before .before .before .before .before .before .before .before .before .before .before .before .before in measures (known s) (value s) _ _ _ _ _ (sym (c .before .before .before .measure .ensures) ∙ c .before .measured .given .1)
+paths-are c =
+    let after-measure : tie.After-measure = search in
+    let s : tie.Start = search in
+    measures (known s) (value s) _ _ _ _ _ (sym (after-measure .measure .ensures) ∙ c .before .measured .given .1)
 
 returns : tie.Need-returns
 returns c =
-    let s = c .before .before .before .before .before .before .before .before .before .before .before .before in
+    let s : tie.Start = search in
     let f = againstRange (known s) in
     put-barred (f .check (value s)) (f .encode (value s)) (now (s .args .buffer)) 5 (unmeasured (known s) (value s) (sym (c .before .before .measure .ensures) ∙ c .enum-told .given .1))
 
@@ -32,7 +35,8 @@ put-range-requires c κs = let m = paths-are (c .before) in (m .shares, m .long,
 
 returns-2 : tie.Need-returns-2
 returns-2 c =
-    let m = paths-are (c .before .before .before .before) in
+    let after-known-told : tie.After-known-told = search in
+    let m = paths-are after-known-told in
     rw (m .allows, ← (m .bytes)) (c .before .before .put-range .ensures)
 
 pub relative-encode-spec : {M : Type 1} → statement M

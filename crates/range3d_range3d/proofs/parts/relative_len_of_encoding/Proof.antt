@@ -20,10 +20,15 @@ known c =
     rangeWith (a .of-subspaces) (pathsWith (pathOf (now (a .of-start-bytes)) (now (a .of-start-lengths)) (a .of-start-count)) (a .of-end-open) (pathOf (now (a .of-end-bytes)) (now (a .of-end-lengths)) (a .of-end-count))) (a .of-times)
 
 paths-are : (c : tie.After-known-told) → let s = c .before .before .before .before .before .before .before .before .before .before .before .before in Measures (known s) (value s) (c .before .measured .given .0 .0) (c .before .measured .given .0 .1 .0) (c .before .measured .given .0 .1 .1 .0) (c .before .measured .given .0 .1 .1 .1 .0) (c .before .measured .given .0 .1 .1 .1 .1 .0)
-paths-are c = let s = c .before .before .before .before .before .before .before .before .before .before .before .before in measures (known s) (value s) _ _ _ _ _ (sym (c .before .before .before .measure .ensures) ∙ c .before .measured .given .1)
+paths-are c =
+    let after-measure : tie.After-measure = search in
+    let s : tie.Start = search in
+    measures (known s) (value s) _ _ _ _ _ (sym (after-measure .measure .ensures) ∙ c .before .measured .given .1)
 
 returns : tie.Need-returns
-returns c = let s = c .before .before .before .before .before .before .before .before .before .before .before in length-barred (againstRange (known s)) (value s) 5 (unmeasured (known s) (value s) (sym (c .before .before .measure .ensures) ∙ c .enum-told .given .1))
+returns c =
+    let s : tie.Start = search in
+    length-barred (againstRange (known s)) (value s) 5 (unmeasured (known s) (value s) (sym (c .before .before .measure .ensures) ∙ c .enum-told .given .1))
 
 add-t23 : tie.Need-add-t23
 add-t23 c = omega (arith, paths-are (c .before .before) .short, c .relative-len-of-encoding2 .ensures .1)
@@ -36,7 +41,7 @@ add-t25 c = omega (arith, paths-are (c .before .before) .short, c .relative-len-
 
 returns-2 : tie.Need-returns-2
 returns-2 c =
-    let s = c .before .before .before .before .before .before .before .before .before .before .before .before .before .before in
+    let s : tie.Start = search in
     let m = paths-are (c .before .before) in
     length-allowed (againstRange (known s)) (value s) _ (m .allows) (range-long (known s) (value s) m _ _ (c .before .relative-len-of-encoding .ensures .0) (c .relative-len-of-encoding2 .ensures .0))
 

@@ -26,18 +26,25 @@ known s = let a = s .args in rangeWith (a .of-subspaces) (pathsWith (pathOf (now
 
 ids-are : (c : tie.After-known-told) → let s = c .before .before .before .before .before .before .before .before .before in
     mapped subspacesFrom (readSubspaces (subspacesOf (s .args .of-subspaces)) (sourcesIn (s .args .header))) (now (s .args .message)) ≡ accepted (c .before .before .before .relative-decode .result .subspaces) (c .before .first-answer .given .0 .0)
-ids-are c = sym (c .before .before .before .relative-decode .ensures .answer) ∙ ap (λ (d : Decoded). answerOf d (c .before .before .before .relative-decode .result .subspaces)) (c .before .first-answer .given .1)
+ids-are c =
+    let after-relative-decode : tie.After-relative-decode = search in
+    sym (after-relative-decode .relative-decode .ensures .answer) ∙ ap (λ (d : Decoded). answerOf d (after-relative-decode .relative-decode .result .subspaces)) (c .before .first-answer .given .1)
 
 ids-in : (c : tie.After-known-told) → c .before .first-answer .given .0 .0 ≤ length (now (c .before .before .before .before .before .before .before .before .before .args .message))
-ids-in c = let s = c .before .before .before .before .before .before .before .before .before in subspaces-inside (known s) (s .args .header) (s .args .times) (now (s .args .message)) _ _ (ids-are c)
+ids-in c =
+    let s : tie.Start = search in
+    subspaces-inside (known s) (s .args .header) (s .args .times) (now (s .args .message)) _ _ (ids-are c)
 
 rest-told : (c : tie.After-decode-rest) → let s = c .before .before .before .before .before .before .before .before .before .before .before .before in let a = c .before .before .before .before .first-answer .given .0 .0 in
     GivesRange (c .decode-rest .result) (shift 2 (shift a (readRestOf (c .before .before .before .before .before .before .relative-decode .result .subspaces) (known s .paths) (s .args .of-times) (s .args .header) (s .args .times) (drop a (now (s .args .message))))))
-rest-told c = rw (to-end (c .before .before .before .before .first-answer .given .0 .0) (now (c .before .before .before .before .before .before .before .before .before .before .before .before .args .message))) at (c .decode-rest .ensures)
+rest-told c =
+    let after-first-answer : tie.After-first-answer = search in
+    let start : tie.Start = search in
+    rw (to-end (after-first-answer .first-answer .given .0 .0) (now (start .args .message))) at (c .decode-rest .ensures)
 
 returns : tie.Need-returns
 returns c =
-    let s = c .before .before .before .before .before .before .before .before in
+    let s : tie.Start = search in
     let x = no-value (c .before .before .relative-decode .result .answer) (c .before .match .keys2) in
     rw (c .refuse-early .ensures) (gives-early (known s .paths) _ (x .why) _ (x .beside _) (λ w. ap (shift 2) (parts-malformed (known s) (s .args .header) (s .args .times) (now (s .args .message)) w)) (λ w. ap (shift 2) (parts-subspaces (known s) (s .args .header) (s .args .times) (now (s .args .message)) (x .why) (sym (c .before .before .relative-decode .ensures .answer) ∙ x .beside _) w)))
 
@@ -49,12 +56,17 @@ part-decode-rest-start c = omega (arith, ids-in (c .before))
 
 decode-rest-requires : tie.Need-decode-rest-requires
 decode-rest-requires c κs =
-    let a = c .before .before .before .first-answer .given .0 .0 in
-    let m = now (c .before .before .before .before .before .before .before .before .before .before .before .args .message) in
-    rw (to-end a m) (omega (arith, length-drop a m, ids-in (c .before .before), c .before .before .before .before .before .before .before .before .before .before .before .pre))
+    let after-first-answer : tie.After-first-answer = search in
+    let start : tie.Start = search in
+    let a = after-first-answer .first-answer .given .0 .0 in
+    let m = now (start .args .message) in
+    rw (to-end a m) (omega (arith, length-drop a m, ids-in (c .before .before), start .pre))
 
 returns-2 : tie.Need-returns-2
-returns-2 c = let s = c .before .before .before .before .before .before .before .before .before .before .before .before in rw (parts-rest (known s) (s .args .header) (s .args .times) (now (s .args .message)) _ _ (ids-are (c .before .before .before))) (rest-told c)
+returns-2 c =
+    let after-known-told : tie.After-known-told = search in
+    let s : tie.Start = search in
+    rw (parts-rest (known s) (s .args .header) (s .args .times) (now (s .args .message)) _ _ (ids-are after-known-told)) (rest-told c)
 
 pub decode-parts-spec : {M : Type 1} → statement M
 decode-parts-spec =

@@ -35,38 +35,56 @@ parts-here s =
     readPartsOf (known s) (unpackHeader (getD m (s .args .start) 0)) (getD m (s .args .start + 1) 0) (drop (s .args .start + 1 + 1) m)
 
 parts-told : (c : tie.After-decode-parts) → GivesRange (c .decode-parts .result) (shift 2 (parts-here (c .before .before .before .before .before .before .before .before .before .before .before .before)))
-parts-told c = let a = c .before .before .before .before .before .before .before .before .before .before .before .before .args in rw (c .before .before .before .unpack .ensures, to-end (a .start + 1 + 1) (now (a .message))) at (c .decode-parts .ensures)
+parts-told c =
+    let after-unpack : tie.After-unpack = search in
+    let start : tie.Start = search in
+    let a = start .args in rw (after-unpack .unpack .ensures, to-end (a .start + 1 + 1) (now (a .message))) at (c .decode-parts .ensures)
 
 returns : tie.Need-returns
 returns c =
-    let s = c .before .before .before .before .before .before .before .before in
+    let s : tie.Start = search in
     rw (c .refuse-early .ensures) (gives-early (known s .paths) _ 1 _ refl (no-paths (known s) (s .pre) (now (s .args .message)) (s .args .start)) (range-short (known s) (s .pre) (now (s .args .message)) (s .args .start) (ltb-false _ _ (sym (c .before .before .has-header .ensures) ∙ not-true _ (c .before .if1 .taken)))))
 
 shared-slice-read-unpack : tie.Need-shared-slice-read-unpack
 shared-slice-read-unpack c = omega (arith, whole (c .before))
 
 add-second : tie.Need-add-second
-add-second c = omega (arith, whole (c .before .before), short (c .before .before .before .before .before .before .before .before .before))
+add-second c =
+    let start : tie.Start = search in
+    omega (arith, whole (c .before .before), short start)
 
 shared-slice-read-times : tie.Need-shared-slice-read-times
-shared-slice-read-times c = omega (arith, whole (c .before .before .before))
+shared-slice-read-times c =
+    let else1 : tie.Else1 = search in
+    omega (arith, whole else1)
 
 add-at : tie.Need-add-at
-add-at c = omega (arith, whole (c .before .before .before), short (c .before .before .before .before .before .before .before .before .before .before))
+add-at c =
+    let else1 : tie.Else1 = search in
+    let start : tie.Start = search in
+    omega (arith, whole else1, short start)
 
 sub-decode-parts : tie.Need-sub-decode-parts
-sub-decode-parts c = omega (arith, whole (c .before .before .before))
+sub-decode-parts c =
+    let else1 : tie.Else1 = search in
+    omega (arith, whole else1)
 
 part-decode-parts-start : tie.Need-part-decode-parts-start
-part-decode-parts-start c = omega (arith, whole (c .before .before .before))
+part-decode-parts-start c =
+    let else1 : tie.Else1 = search in
+    omega (arith, whole else1)
 
 decode-parts-requires : tie.Need-decode-parts-requires
 decode-parts-requires c κs =
-    let s = c .before .before .before .before .before .before .before .before .before .before .before in
-    rw (to-end (s .args .start + 1 + 1) (now (s .args .message))) (omega (arith, length-drop (s .args .start + 1 + 1) (now (s .args .message)), whole (c .before .before .before .before), short s))
+    let else1 : tie.Else1 = search in
+    let s : tie.Start = search in
+    rw (to-end (s .args .start + 1 + 1) (now (s .args .message))) (omega (arith, length-drop (s .args .start + 1 + 1) (now (s .args .message)), whole else1, short s))
 
 returns-2 : tie.Need-returns-2
-returns-2 c = let s = c .before .before .before .before .before .before .before .before .before .before .before .before in rw (range-parts (known s) (s .pre) (now (s .args .message)) (s .args .start) (whole (c .before .before .before .before .before))) (parts-told c)
+returns-2 c =
+    let else1 : tie.Else1 = search in
+    let s : tie.Start = search in
+    rw (range-parts (known s) (s .pre) (now (s .args .message)) (s .args .start) (whole else1)) (parts-told c)
 
 pub decode-range-spec : {M : Type 1} → statement M
 decode-range-spec =

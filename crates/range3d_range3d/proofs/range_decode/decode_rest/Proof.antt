@@ -25,27 +25,39 @@ known s = let a = s .args in pathsWith (pathOf (now (a .of-start-bytes)) (now (a
 
 paths-are : (c : tie.After-known-told) → let s = c .before .before .before .before .before .before .before .before .before in
     readAgainstPaths (s .args .header .«path_end_open») (sidesIn (s .args .header)) (known s) (now (s .args .message)) ≡ accepted (c .before .before .before .relative-decode .result .paths) (c .before .first-answer .given .0 .0)
-paths-are c = sym (c .before .before .before .relative-decode .ensures .answer) ∙ ap (λ (d : Decoded). answerOf d (c .before .before .before .relative-decode .result .paths)) (c .before .first-answer .given .1)
+paths-are c =
+    let after-relative-decode : tie.After-relative-decode = search in
+    sym (after-relative-decode .relative-decode .ensures .answer) ∙ ap (λ (d : Decoded). answerOf d (after-relative-decode .relative-decode .result .paths)) (c .before .first-answer .given .1)
 
 paths-in : (c : tie.After-known-told) → c .before .first-answer .given .0 .0 ≤ length (now (c .before .before .before .before .before .before .before .before .before .args .message))
-paths-in c = let s = c .before .before .before .before .before .before .before .before .before in paths-inside (s .args .subspaces) (known s) (s .args .of-times) (s .args .header) (s .args .times) (now (s .args .message)) _ _ (paths-are c)
+paths-in c =
+    let s : tie.Start = search in
+    paths-inside (s .args .subspaces) (known s) (s .args .of-times) (s .args .header) (s .args .times) (now (s .args .message)) _ _ (paths-are c)
 
 times-told : (c : tie.After-relative-decode2) → let s = c .before .before .before .before .before .before .before .before .before .before .before in
     answerOf (c .relative-decode2 .result .answer) (c .relative-decode2 .result .times)
     ≡ readTimes (s .args .of-times) (s .args .header .«times_end_open») (unpackTimes (s .args .times)) (drop (c .before .before .before .first-answer .given .0 .0) (now (s .args .message)))
-times-told c = rw (to-end (c .before .before .before .first-answer .given .0 .0) (now (c .before .before .before .before .before .before .before .before .before .before .before .args .message))) at (c .relative-decode2 .ensures .answer)
+times-told c =
+    let after-first-answer : tie.After-first-answer = search in
+    let start : tie.Start = search in
+    rw (to-end (after-first-answer .first-answer .given .0 .0) (now (start .args .message))) at (c .relative-decode2 .ensures .answer)
 
 times-are : (c : tie.After-known-told2) → let s = c .before .before .before .before .before .before .before .before .before .before .before .before .before .before in
     readTimes (s .args .of-times) (s .args .header .«times_end_open») (unpackTimes (s .args .times)) (drop (c .before .before .before .before .before .before .first-answer .given .0 .0) (now (s .args .message))) ≡ accepted (c .before .before .before .relative-decode2 .result .times) (c .before .second-answer .given .0 .0)
-times-are c = sym (times-told (c .before .before .before)) ∙ ap (λ (d : Decoded). answerOf d (c .before .before .before .relative-decode2 .result .times)) (c .before .second-answer .given .1)
+times-are c =
+    let after-relative-decode2 : tie.After-relative-decode2 = search in
+    sym (times-told after-relative-decode2) ∙ ap (λ (d : Decoded). answerOf d (after-relative-decode2 .relative-decode2 .result .times)) (c .before .second-answer .given .1)
 
 inside : (c : tie.After-known-told2) → c .before .before .before .before .before .before .first-answer .given .0 .0 + c .before .second-answer .given .0 .0 ≤ length (now (c .before .before .before .before .before .before .before .before .before .before .before .before .before .before .args .message))
-inside c = let s = c .before .before .before .before .before .before .before .before .before .before .before .before .before .before in rest-inside (s .args .subspaces) (known s) (s .args .of-times) (s .args .header) (s .args .times) (now (s .args .message)) _ _ (paths-are (c .before .before .before .before .before)) _ _ (times-are c)
+inside c =
+    let after-known-told : tie.After-known-told = search in
+    let s : tie.Start = search in
+    rest-inside (s .args .subspaces) (known s) (s .args .of-times) (s .args .header) (s .args .times) (now (s .args .message)) _ _ (paths-are after-known-told) _ _ (times-are c)
 
 returns : tie.Need-returns
 unfolding refusal
 returns c =
-    let s = c .before .before .before .before .before .before .before .before in
+    let s : tie.Start = search in
     let x = no-value (c .before .before .relative-decode .result .answer) (c .before .match .keys2) in
     rw (c .refuse .ensures) (gives-refused (x .why) (x .beside _) (ap (λ y. shift 2 (shift (s .args .a) y)) (rest-paths (s .args .subspaces) (known s) (s .args .of-times) (s .args .header) (s .args .times) (now (s .args .message)) (x .why) (sym (c .before .before .relative-decode .ensures .answer) ∙ x .beside _))))
 
@@ -58,23 +70,31 @@ part-relative-decode-start c = omega (arith, paths-in c)
 returns-2 : tie.Need-returns-2
 unfolding refusal
 returns-2 c =
-    let s = c .before .before .before .before .before .before .before .before .before .before .before .before .before in
+    let after-known-told : tie.After-known-told = search in
+    let s : tie.Start = search in
     let x = no-value (c .before .before .relative-decode2 .result .answer) (c .before .match2 .keys2) in
-    rw (c .refuse2 .ensures) (gives-refused (x .why) (x .beside _) (ap (λ y. shift 2 (shift (s .args .a) y)) (rest-times (s .args .subspaces) (known s) (s .args .of-times) (s .args .header) (s .args .times) (now (s .args .message)) _ _ (paths-are (c .before .before .before .before)) (x .why) (sym (times-told (c .before .before)) ∙ x .beside _))))
+    rw (c .refuse2 .ensures) (gives-refused (x .why) (x .beside _) (ap (λ y. shift 2 (shift (s .args .a) y)) (rest-times (s .args .subspaces) (known s) (s .args .of-times) (s .args .header) (s .args .times) (now (s .args .message)) _ _ (paths-are after-known-told) (x .why) (sym (times-told (c .before .before)) ∙ x .beside _))))
 
 add-t26 : tie.Need-add-t26
-add-t26 c = omega (arith, inside (c .before .before), c .before .before .before .before .before .before .before .before .before .before .before .before .before .before .before .before .pre)
+add-t26 c =
+    let start : tie.Start = search in
+    omega (arith, inside (c .before .before), start .pre)
 
 add-t29 : tie.Need-add-t29
-add-t29 c = omega (arith, inside (c .before .before), c .before .before .before .before .before .before .before .before .before .before .before .before .before .before .before .before .pre)
+add-t29 c =
+    let start : tie.Start = search in
+    omega (arith, inside (c .before .before), start .pre)
 
 add-t30 : tie.Need-add-t30
-add-t30 c = omega (arith, inside (c .before .before), c .before .before .before .before .before .before .before .before .before .before .before .before .before .before .before .before .pre)
+add-t30 c =
+    let start : tie.Start = search in
+    omega (arith, inside (c .before .before), start .pre)
 
 returns-3 : tie.Need-returns-3
 returns-3 c =
-    let s = c .before .before .before .before .before .before .before .before .before .before .before .before .before .before .before .before in
-    gives-accepted (ap (λ y. shift 2 (shift (s .args .a) y)) (rest-read (s .args .subspaces) (known s) (s .args .of-times) (s .args .header) (s .args .times) (now (s .args .message)) _ _ (paths-are (c .before .before .before .before .before .before .before)) _ _ (times-are (c .before .before))))
+    let after-known-told : tie.After-known-told = search in
+    let s : tie.Start = search in
+    gives-accepted (ap (λ y. shift 2 (shift (s .args .a) y)) (rest-read (s .args .subspaces) (known s) (s .args .of-times) (s .args .header) (s .args .times) (now (s .args .message)) _ _ (paths-are after-known-told) _ _ (times-are (c .before .before))))
 
 pub decode-rest-spec : {M : Type 1} → statement M
 decode-rest-spec =

@@ -13,14 +13,16 @@ use Rattle.range3d_range3d.proofs.range_decode.refuse_early.Tie as tie
 returns : tie.Need-returns
 unfolding earlyRefusal
 returns c =
-    let a = c .before .before .before .before .before .before .before .args in
+    let start : tie.Start = search in
+    let a = start .args in
     let e : wellFormedPaths (pathsWith (pathOf (now (a .of-start-bytes)) (now (a .of-start-lengths)) (a .of-start-count)) (a .of-end-open) (pathOf (now (a .of-end-bytes)) (now (a .of-end-lengths)) (a .of-end-count))) ≡ false = sym (c .before .before .well-formed .ensures) ∙ not-true _ (c .before .if1 .taken) in
     rw e (c .refuse .ensures)
 
 returns-2 : tie.Need-returns-2
 unfolding earlyRefusal
 returns-2 c =
-    let a = c .before .before .before .before .before .before .before .args in
+    let start : tie.Start = search in
+    let a = start .args in
     let e : wellFormedPaths (pathsWith (pathOf (now (a .of-start-bytes)) (now (a .of-start-lengths)) (a .of-start-count)) (a .of-end-open) (pathOf (now (a .of-end-bytes)) (now (a .of-end-lengths)) (a .of-end-count))) ≡ true = sym (c .before .before .well-formed .ensures) ∙ not-false _ (c .before .if1 .left) in
     rw e (c .refuse2 .ensures)
 

@@ -11,12 +11,14 @@ use Rattle.range3d_range3d.proofs.range_encode.put_head.Tie as tie
 
 returns : tie.Need-returns
 returns c =
-    let a = c .before .before .before .before .before .args in
+    let after-sources-of : tie.After-sources-of = search in
+    let start : tie.Start = search in
+    let a = start .args in
     let l = now (a .buffer) in
     let x = c .before .pack .result in
     let y = c .header-byte .result in
-    let is : x ∷ y ∷ [] ≡ headWith (a .of-subspaces) (a .subspaces) (a .start-from-start) (a .end-open) (a .end-from-start) (a .of-times) (a .times) = rw (c .header-byte .ensures, c .before .pack .ensures, c .before .before .is-open .ensures, c .before .before .before .sources-of .ensures) in
-    over-two l x y (c .before .before .before .before .before .pre) ∙ ap (λ (bs : List ℕ). over bs l) is
+    let is : x ∷ y ∷ [] ≡ headWith (a .of-subspaces) (a .subspaces) (a .start-from-start) (a .end-open) (a .end-from-start) (a .of-times) (a .times) = rw (c .header-byte .ensures, c .before .pack .ensures, c .before .before .is-open .ensures, after-sources-of .sources-of .ensures) in
+    over-two l x y (start .pre) ∙ ap (λ (bs : List ℕ). over bs l) is
 
 pub put-head-spec : {M : Type 1} → statement M
 put-head-spec =

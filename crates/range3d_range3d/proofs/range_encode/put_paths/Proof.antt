@@ -32,28 +32,37 @@ room c o = omega (arith, c .pre .1, ap length (both-closed (paths c) (c .args .s
 
 -- the start is written
 answer : (c : tie.After-encode-shared) → let s = c .before .before .before .before .before .before .before in outcomeOf (c .encode-shared .result) ≡ wrote (length (sharedFrom (s .args .start-shared) .encode (paths s .start)))
-answer c = c .encode-shared .ensures .0 ∙ sym (fits (c .before .before .before .before .before .before .before) .0)
+answer c =
+    let start : tie.Start = search in
+    c .encode-shared .ensures .0 ∙ sym (fits start .0)
 
 there : (c : tie.After-encode-shared) → let s = c .before .before .before .before .before .before .before in c .encode-shared .last .0 ≡ over (sharedFrom (s .args .start-shared) .encode (paths s .start)) (now (s .args .buffer))
-there c = c .encode-shared .ensures .1 ∙ sym (fits (c .before .before .before .before .before .before .before) .1)
+there c =
+    let start : tie.Start = search in
+    c .encode-shared .ensures .1 ∙ sym (fits start .1)
 
 long : (c : tie.After-known-told) → let s = c .before .before .before .before .before .before .before .before .before .before .before .before in c .before .start .given .0 .0 ≡ length (sharedFrom (s .args .start-shared) .encode (paths s .start))
-long c = written-is _ _ (ap outcomeOf (sym (c .before .start .given .1)) ∙ answer (c .before .before .before .before .before))
+long c =
+    let after-encode-shared : tie.After-encode-shared = search in
+    written-is _ _ (ap outcomeOf (sym (c .before .start .given .1)) ∙ answer after-encode-shared)
 
 inside : (c : tie.Else1) → c .before .before .start .given .0 .0 ≤ length (c .before .before .before .before .before .before .encode-shared .last .0)
 inside c =
-    let s = c .before .before .before .before .before .before .before .before .before .before .before .before .before in
-    omega (arith, next-inside (now (s .args .buffer)) (sharedFrom (s .args .start-shared) .encode (paths s .start)) (sharedFrom (s .args .end-shared) .encode (paths s .end)) _ _ (there (c .before .before .before .before .before .before)) (long (c .before)) (room s (c .if1 .left)))
+    let after-encode-shared : tie.After-encode-shared = search in
+    let s : tie.Start = search in
+    omega (arith, next-inside (now (s .args .buffer)) (sharedFrom (s .args .start-shared) .encode (paths s .start)) (sharedFrom (s .args .end-shared) .encode (paths s .end)) _ _ (there after-encode-shared) (long (c .before)) (room s (c .if1 .left)))
 
 returns : tie.Need-returns
 returns c =
-    let none = no-length (c .before .before .before .encode-shared .result) (c .match .keys2) in
-    absurd (wrote-not-denied _ (none .why) (sym (answer (c .before .before .before)) ∙ none .is))
+    let after-encode-shared : tie.After-encode-shared = search in
+    let none = no-length (after-encode-shared .encode-shared .result) (c .match .keys2) in
+    absurd (wrote-not-denied _ (none .why) (sym (answer after-encode-shared) ∙ none .is))
 
 returns-2 : tie.Need-returns-2
 returns-2 c =
-    let s = c .before .before .before .before .before .before .before .before .before .before .before .before .before in
-    there (c .before .before .before .before .before .before) ∙ ap (λ (bs : List ℕ). over bs (now (s .args .buffer))) (both-open (paths s) (s .args .start-shared) (s .args .end-shared) (c .if1 .taken))
+    let after-encode-shared : tie.After-encode-shared = search in
+    let s : tie.Start = search in
+    there after-encode-shared ∙ ap (λ (bs : List ℕ). over bs (now (s .args .buffer))) (both-open (paths s) (s .args .start-shared) (s .args .end-shared) (c .if1 .taken))
 
 sub-encode-shared : tie.Need-sub-encode-shared
 sub-encode-shared c = inside c
@@ -63,10 +72,13 @@ part-encode-shared-start c = inside c
 
 returns-3 : tie.Need-returns-3
 returns-3 c =
-    let s = c .before .before .before .before .before .before .before .before .before .before .before .before .before .before .before .before .before in
+    let else1 : tie.Else1 = search in
+    let after-known-told : tie.After-known-told = search in
+    let after-encode-shared : tie.After-encode-shared = search in
+    let s : tie.Start = search in
     let w = c .before .before .encode-shared2 in
-    let o = c .before .before .before .before .if1 .left in
-    put-next (now (s .args .buffer)) (sharedFrom (s .args .start-shared) .encode (paths s .start)) (sharedFrom (s .args .end-shared) .encode (paths s .end)) _ _ (there (c .before .before .before .before .before .before .before .before .before .before)) (long (c .before .before .before .before .before)) (room s o) (w .last .0) (rw (s .pre .0 .end o) at (w .ensures .1))
+    let o = else1 .if1 .left in
+    put-next (now (s .args .buffer)) (sharedFrom (s .args .start-shared) .encode (paths s .start)) (sharedFrom (s .args .end-shared) .encode (paths s .end)) _ _ (there after-encode-shared) (long after-known-told) (room s o) (w .last .0) (rw (s .pre .0 .end o) at (w .ensures .1))
     ∙ ap (λ (bs : List ℕ). over bs (now (s .args .buffer))) (both-closed (paths s) (s .args .start-shared) (s .args .end-shared) o)
 
 pub put-paths-spec : {M : Type 1} → statement M

@@ -11,15 +11,24 @@ returns c = rw (sym (c .before .well-formed .ensures) ∙ not-true _ (c .if1 .ta
 
 returns-2 : tie.Need-returns-2
 unfolding wellFormedPaths
-returns-2 c = rw (sym (c .before .before .before .well-formed .ensures) ∙ not-false _ (c .before .before .if1 .left), sym (c .before .well-formed2 .ensures) ∙ not-true _ (c .if2 .taken))
+returns-2 c =
+    let after-well-formed : tie.After-well-formed = search in
+    rw (sym (after-well-formed .well-formed .ensures) ∙ not-false _ (c .before .before .if1 .left), sym (c .before .well-formed2 .ensures) ∙ not-true _ (c .if2 .taken))
 
 returns-3 : tie.Need-returns-3
 unfolding wellFormedPaths
-returns-3 c = rw (sym (c .before .before .before .before .before .well-formed .ensures) ∙ not-false _ (c .before .before .before .before .if1 .left), sym (c .before .before .before .well-formed2 .ensures) ∙ not-false _ (c .before .before .if2 .left), c .before .if3 .taken)
+returns-3 c =
+    let after-well-formed2 : tie.After-well-formed2 = search in
+    let else1 : tie.Else1 = search in
+    let after-well-formed : tie.After-well-formed = search in
+    rw (sym (after-well-formed .well-formed .ensures) ∙ not-false _ (else1 .if1 .left), sym (after-well-formed2 .well-formed2 .ensures) ∙ not-false _ (c .before .before .if2 .left), c .before .if3 .taken)
 
 returns-4 : tie.Need-returns-4
 unfolding wellFormedPaths
-returns-4 c = rw (sym (c .before .before .before .before .well-formed .ensures) ∙ not-false _ (c .before .before .before .if1 .left), sym (c .before .before .well-formed2 .ensures) ∙ not-false _ (c .before .if2 .left), c .if3 .left)
+returns-4 c =
+    let else1 : tie.Else1 = search in
+    let after-well-formed : tie.After-well-formed = search in
+    rw (sym (after-well-formed .well-formed .ensures) ∙ not-false _ (else1 .if1 .left), sym (c .before .before .well-formed2 .ensures) ∙ not-false _ (c .before .if2 .left), c .if3 .left)
 
 pub well-formed-spec : {M : Type 1} → statement M
 well-formed-spec = tie.close (tie.spec (λ c κs. search needs) returns (λ c κs. search needs) returns-2 returns-3 returns-4)

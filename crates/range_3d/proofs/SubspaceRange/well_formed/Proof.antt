@@ -5,7 +5,9 @@ use Rattle.range_3d.proofs.SubspaceRange.well_formed.Tie as tie
 
 returns : tie.Need-returns
 unfolding wellFormedSubspaces
-returns c = rw (c .before .before .before .before .if1 .taken) (c .same-bytes .ensures)
+returns c =
+    let then1 : tie.Then1 = search in
+    rw (then1 .if1 .taken) (c .same-bytes .ensures)
 
 returns-2 : tie.Need-returns-2
 unfolding wellFormedSubspaces

@@ -9,13 +9,15 @@ use Rattle.range_paths.proofs.parts.empty.Tie as tie
 
 returns : tie.Need-returns
 returns c =
-    let a = c .before .before .before .before .args in
+    let start : tie.Start = search in
+    let a = start .args in
     let e : wellFormed (pathOf (now (a .bytes)) (now (a .lengths)) (a .count)) ≡ false = sym (c .before .well-formed .ensures) ∙ not-true _ (c .if1 .taken) in
     rw e
 
 returns-2 : tie.Need-returns-2
 returns-2 c =
-    let a = c .before .before .before .before .args in
+    let start : tie.Start = search in
+    let a = start .args in
     let e : wellFormed (pathOf (now (a .bytes)) (now (a .lengths)) (a .count)) ≡ true = sym (c .before .well-formed .ensures) ∙ not-false _ (c .if1 .left) in
     rw e
 

@@ -18,28 +18,52 @@ abbrev known : tie.Start → PathRange
 known c = let a = c .args in pathsWith (pathOf (now (a .start-bytes)) (now (a .start-lengths)) (a .start-count)) (a .end-open) (pathOf (now (a .end-bytes)) (now (a .end-lengths)) (a .end-count))
 
 with-start : (c : tie.After-known-told) → let s = c .before .before .before .before .before .before .before .before .before .before in Common (known s .start) (path s) (c .before .with-start .given .0 .0)
-with-start c = let s = c .before .before .before .before .before .before .before .before .before .before in common (known s .start) (path s) _ (sym (c .before .before .before .longest-common-prefix .ensures) ∙ c .before .with-start .given .1)
+with-start c =
+    let after-longest-common-prefix : tie.After-longest-common-prefix = search in
+    let s : tie.Start = search in
+    common (known s .start) (path s) _ (sym (after-longest-common-prefix .longest-common-prefix .ensures) ∙ c .before .with-start .given .1)
 
 with-end : (c : tie.After-known-told2) → let s = c .before .before .before .before .before .before .before .before .before .before .before .before .before .before .before in Common (known s .end) (path s) (c .before .with-end .given .0 .0)
-with-end c = let s = c .before .before .before .before .before .before .before .before .before .before .before .before .before .before .before in common (known s .end) (path s) _ (sym (c .before .before .before .longest-common-prefix2 .ensures) ∙ c .before .with-end .given .1)
+with-end c =
+    let after-longest-common-prefix2 : tie.After-longest-common-prefix2 = search in
+    let s : tie.Start = search in
+    common (known s .end) (path s) _ (sym (after-longest-common-prefix2 .longest-common-prefix2 .ensures) ∙ c .before .with-end .given .1)
 
 returns : tie.Need-returns
-returns c = let s = c .before .before .before .before .before .before .before .before .before in near-no-start (known s) (path s) (uncommon (known s .start) (path s) (sym (c .before .before .longest-common-prefix .ensures) ∙ c .enum-told .given .1))
+returns c =
+    let s : tie.Start = search in
+    near-no-start (known s) (path s) (uncommon (known s .start) (path s) (sym (c .before .before .longest-common-prefix .ensures) ∙ c .enum-told .given .1))
 
 returns-2 : tie.Need-returns-2
-returns-2 c = let s = c .before .before .before .before .before .before .before .before .before .before .before .before .before in near-not-empty (known s) (path s) (c .before .before .if1 .taken) (sym (c .before .empty .ensures) ∙ not-true _ (c .if2 .taken))
+returns-2 c =
+    let s : tie.Start = search in
+    near-not-empty (known s) (path s) (c .before .before .if1 .taken) (sym (c .before .empty .ensures) ∙ not-true _ (c .if2 .taken))
 
 returns-3 : tie.Need-returns-3
-returns-3 c = let s = c .before .before .before .before .before .before .before .before .before .before .before .before .before in near-open (known s) (path s) (c .before .before .if1 .taken) _ (with-start (c .before .before .before)) (sym (c .before .empty .ensures) ∙ not-false _ (c .if2 .left))
+returns-3 c =
+    let after-known-told : tie.After-known-told = search in
+    let s : tie.Start = search in
+    near-open (known s) (path s) (c .before .before .if1 .taken) _ (with-start after-known-told) (sym (c .before .empty .ensures) ∙ not-false _ (c .if2 .left))
 
 returns-4 : tie.Need-returns-4
-returns-4 c = let s = c .before .before .before .before .before .before .before .before .before .before .before .before .before .before in near-no-end (known s) (path s) (c .before .before .before .if1 .left) (uncommon (known s .end) (path s) (sym (c .before .before .longest-common-prefix2 .ensures) ∙ c .enum-told2 .given .1))
+returns-4 c =
+    let else1 : tie.Else1 = search in
+    let s : tie.Start = search in
+    near-no-end (known s) (path s) (else1 .if1 .left) (uncommon (known s .end) (path s) (sym (c .before .before .longest-common-prefix2 .ensures) ∙ c .enum-told2 .given .1))
 
 returns-5 : tie.Need-returns-5
-returns-5 c = let s = c .before .before .before .before .before .before .before .before .before .before .before .before .before .before .before .before in near-start (known s) (path s) (c .before .before .before .before .before .if1 .left) _ _ (with-start (c .before .before .before .before .before .before)) (with-end (c .before)) (c .if3 .taken)
+returns-5 c =
+    let else1 : tie.Else1 = search in
+    let after-known-told : tie.After-known-told = search in
+    let s : tie.Start = search in
+    near-start (known s) (path s) (else1 .if1 .left) _ _ (with-start after-known-told) (with-end (c .before)) (c .if3 .taken)
 
 returns-6 : tie.Need-returns-6
-returns-6 c = let s = c .before .before .before .before .before .before .before .before .before .before .before .before .before .before .before .before in near-end (known s) (path s) (c .before .before .before .before .before .if1 .left) _ _ (with-start (c .before .before .before .before .before .before)) (with-end (c .before)) (c .if3 .left)
+returns-6 c =
+    let else1 : tie.Else1 = search in
+    let after-known-told : tie.After-known-told = search in
+    let s : tie.Start = search in
+    near-end (known s) (path s) (else1 .if1 .left) _ _ (with-start after-known-told) (with-end (c .before)) (c .if3 .left)
 
 pub nearest-spec : {M : Type 1} → statement M
 nearest-spec =

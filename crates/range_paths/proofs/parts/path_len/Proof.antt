@@ -22,14 +22,15 @@ short c = shared-short (path c) (c .args .k) (verdict-allowed _ _ (c .pre) .0)
 
 returns : tie.Need-returns
 returns c =
-    let s = c .before .before .before .before in
+    let s : tie.Start = search in
     let none = no-length (c .before .shared-len .result) (c .match .keys2) in
     absurd (length-not-denied (sharedFrom (s .args .k)) (path s) (none .why) (s .pre) (sym (c .before .shared-len .ensures) ∙ none .is))
 
 returns-2 : tie.Need-returns-2
 returns-2 c =
-    let s = c .before .before .before .before .before .before in
-    let n = length-wrote (sharedFrom (s .args .k)) (path s) _ (sym (c .before .before .before .shared-len .ensures) ∙ ap outcomeOf (c .before .whole .given .1)) in
+    let after-shared-len : tie.After-shared-len = search in
+    let s : tie.Start = search in
+    let n = length-wrote (sharedFrom (s .args .k)) (path s) _ (sym (after-shared-len .shared-len .ensures) ∙ ap outcomeOf (c .before .whole .given .1)) in
     (n .1, omega (arith, n .1, short s))
 
 pub path-len-spec : {M : Type 1} → statement M

@@ -11,14 +11,16 @@ use Rattle.range_paths.proofs.parts.well_formed.Tie as tie
 returns : tie.Need-returns
 unfolding wellFormedPaths
 returns c =
-    let a = c .before .before .before .before .before .before .args in
+    let start : tie.Start = search in
+    let a = start .args in
     let e : wellFormed (pathOf (now (a .start-bytes)) (now (a .start-lengths)) (a .start-count)) ≡ false = sym (c .before .well-formed .ensures) ∙ not-true _ (c .if1 .taken) in
     rw e
 
 returns-2 : tie.Need-returns-2
 unfolding wellFormedPaths
 returns-2 c =
-    let a = c .before .before .before .before .before .before .before .args in
+    let start : tie.Start = search in
+    let a = start .args in
     let e : wellFormed (pathOf (now (a .start-bytes)) (now (a .start-lengths)) (a .start-count)) ≡ true = sym (c .before .before .well-formed .ensures) ∙ not-false _ (c .before .if1 .left) in
     rw e (c .end-formed .ensures)
 

@@ -15,7 +15,7 @@ known s = let a = s .args in pathsWith (pathOf (now (a .of-start-bytes)) (now (a
 
 returns : tie.Need-returns
 returns c =
-    let s = c .before .before .before .before .before .before .before .before in
+    let s : tie.Start = search in
     rw (c .refuse .ensures .0, c .refuse .ensures .1) (gives-refused 5 refl (paths-malformed (s .args .end-open) (s .args .sides) (known s) (now (s .args .message)) (other-fails (known s) (s .args .sides .«start_from_start») (sym (c .before .before .other-formed .ensures) ∙ not-true _ (c .before .if1 .taken)))))
 
 decode-end-requires : tie.Need-decode-end-requires
