@@ -1,9 +1,5 @@
 -- The laws of an area against an area, on plain values.
-use mathlib.Core.Path.{_≡_, refl, _∙_}
-use mathlib.Core.List.{List, [], _∷_, _++_}
-use mathlib.Core.Bool.{Bool, true, false, not}
-use Prim.Native.Nat.{ℕ}
-use borrow.Author.Tests.{not-true}
+use Rattle.codec.proofs.Prelude.{_≡_, refl, _∙_, List, [], _∷_, _++_, Bool, true, false, not, ℕ, not-true}
 use Rattle.codec.specs.Answers.{refused}
 use Rattle.codec.specs.Header.{readHeader, HeaderAs}
 use Rattle.codec.specs.Reads.{Reads, ReadsBack, Relaxes, Bounded, Tested, Mapped, Joined}

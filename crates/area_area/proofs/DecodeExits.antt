@@ -1,13 +1,5 @@
 -- What the readers' definitions answer at each exit of the code.
-use mathlib.Core.Path.{_≡_, refl, ap}
-use mathlib.Core.List.{List}
-use mathlib.Core.Bool.{Bool, true, false, cond, not}
-use mathlib.Core.Logic.{_⊎_, inl, inr}
-use Prim.Native.Nat.{ℕ, suc, _+_, _≤_, _<_}
-use native.Mathlib.Omega.{arith}
-use native.Mathlib.Numerals.{add-one}
-use lib.ListN.{length, drop, getD, drop-of-length-le}
-use lib.Seq.{drop-cons, drop-drop}
+use Rattle.codec.proofs.Prelude.{_≡_, refl, ap, List, Bool, true, false, cond, not, _⊎_, inl, inr, ℕ, suc, _+_, _≤_, _<_, arith, add-one, length, drop, getD, drop-of-length-le, drop-cons, drop-drop}
 use Rattle.codec.specs.Answers.{Answer, accepted, refused, answerOf}
 use Rattle.codec.specs.declared.Decoded.{Decoded}
 use Rattle.codec.specs.declared.Decoded.the-variants as decoded

@@ -1,9 +1,5 @@
 -- Areas against a well-formed area are a lawful format, and read back leniently too.
-use mathlib.Core.Path.{_≡_, ap, _∙_}
-use mathlib.Core.List.{List}
-use mathlib.Core.Bool.{Bool, true}
-use Prim.Native.Nat.{ℕ}
-use native.Mathlib.Omega.{arith}
+use Rattle.codec.proofs.Prelude.{_≡_, ap, _∙_, List, Bool, true, ℕ, arith}
 use Rattle.codec.specs.Format.{Format, verdictBy, Valid, Writes}
 use Rattle.codec.specs.Reads.{ReadsBack}
 use Rattle.codec.specs.Lawful.{Lawful}

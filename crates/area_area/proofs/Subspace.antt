@@ -1,9 +1,5 @@
 -- The laws of an area's subspace against the reference's.
-use mathlib.Core.Path.{_≡_, refl, sym, ap}
-use mathlib.Core.List.{List, []}
-use mathlib.Core.Bool.{Bool, true, false, cond, _&&_, not, true≢false, false≢true}
-use mathlib.Core.Option.{Option, none, some}
-use Prim.Native.Nat.{ℕ}
+use Rattle.codec.proofs.Prelude.{_≡_, refl, sym, ap, List, [], Bool, true, false, cond, _&&_, not, true≢false, false≢true, Option, none, some, ℕ}
 use Rattle.codec.specs.Bytes.{sameBytes}
 use Rattle.codec.specs.Reader.{give, someBytes}
 use Rattle.codec.specs.Reads.{Reads, Relaxes, Bounded, Nothing, SomeBytes, Tested, Mapped, Either}

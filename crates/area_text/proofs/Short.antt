@@ -1,9 +1,5 @@
 -- How long the text of an area's fields is.
-use mathlib.Core.Path.{_≡_}
-use mathlib.Core.Bool.{Bool, true, false, cond}
-use Prim.Native.Nat.{ℕ, _≤_}
-use native.Mathlib.Omega.{arith}
-use lib.ListN.{length}
+use Rattle.codec.proofs.Prelude.{_≡_, Bool, true, false, cond, ℕ, _≤_, arith, length}
 use Rattle.grouping.specs.declared.RangeEnd.{RangeEnd}
 use Rattle.grouping.specs.declared.RangeEnd.the-variants.{Closed, Open}
 use Rattle.grouping.specs.declared.AreaSubspace.{AreaSubspace}

@@ -1,10 +1,5 @@
 -- The laws of an area's times against the reference's.
-use mathlib.Core.Path.{_≡_, refl, sym, ap, _∙_}
-use mathlib.Core.List.{List}
-use mathlib.Core.Bool.{Bool, true, false, _&&_, _||_, not, true≢false, false≢true}
-use Prim.Native.Nat.{ℕ}
-use lib.Dec.{leb, eqb}
-use borrow.Author.Tests.{le-leb, eqb-true}
+use Rattle.codec.proofs.Prelude.{_≡_, refl, sym, ap, _∙_, List, Bool, true, false, _&&_, _||_, not, true≢false, false≢true, ℕ, leb, eqb, le-leb, eqb-true}
 use Rattle.codec.specs.Reader.{give}
 use Rattle.codec.specs.Reads.{Reads, Relaxes, Bounded, Nothing, Tested, Mapped, Joined, Either}
 use Rattle.codec.proofs.Tests.{and-right}

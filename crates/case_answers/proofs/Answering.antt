@@ -1,11 +1,5 @@
 -- Laws of a line's answer: by its length and its kind, and where it ends.
-use mathlib.Core.Path.{_≡_, ap}
-use mathlib.Core.List.{List}
-use Prim.Native.Nat.{ℕ, _+_, _-_, _≤_, _<_}
-use native.Mathlib.Omega.{arith}
-use borrow.Author.Tests.{le-leb, lt-leb}
-use lib.ListN.{length, length-append, length-drop}
-use lib.Seq.{length-take-le}
+use Rattle.codec.proofs.Prelude.{_≡_, ap, List, ℕ, _+_, _-_, _≤_, _<_, arith, le-leb, lt-leb, length, length-append, length-drop, length-take-le}
 use Rattle.text.specs.Parts.{partAt}
 use Rattle.text.specs.Buffer.{overAt}
 use Rattle.case_text.specs.Texts.{six, ended}

@@ -1,8 +1,5 @@
 -- How long an entry's ids and path are when they are printed.
-use mathlib.Core.List.{_++_}
-use Prim.Native.Nat.{_≤_}
-use native.Mathlib.Omega.{arith}
-use lib.ListN.{length, length-append}
+use Rattle.codec.proofs.Prelude.{_++_, _≤_, arith, length, length-append}
 use Rattle.entry.specs.declared.Entry.{Entry}
 use Rattle.entry.specs.Record.{TypedEntry}
 use Rattle.text.specs.Hex.{hexText}

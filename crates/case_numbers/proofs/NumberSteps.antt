@@ -1,11 +1,5 @@
 -- The ways out of a line of a compact number after a tag of w bits: each law takes the line's text to the text that was put.
-use mathlib.Core.Path.{_≡_, sym, ap, _∙_}
-use mathlib.Core.List.{List, _++_}
-use mathlib.Core.Bool.{Bool, cond}
-use Prim.Native.Nat.{ℕ, _^_, _≤_, _<_}
-use borrow.Author.Tests.{lt-ltb, le-ltb}
-use lib.Dec.{ltb}
-use lib.ListN.{length, take, drop}
+use Rattle.codec.proofs.Prelude.{_≡_, sym, ap, _∙_, List, _++_, Bool, cond, ℕ, _^_, _≤_, _<_, lt-ltb, le-ltb, ltb, length, take, drop}
 use Rattle.codec.specs.Answers.{Outcome, Answer, wrote}
 use Rattle.codec.specs.Format.{allowed, putAnswer, putBuffer}
 use Rattle.compact_u64.specs.Number.{minTag, numberBytes, readNumber}

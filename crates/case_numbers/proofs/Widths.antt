@@ -1,7 +1,5 @@
 -- The width of a tag, which was told from its field.
-use mathlib.Core.Path.{_≡_, sym}
-use mathlib.Core.List.{List}
-use Prim.Native.Nat.{ℕ}
+use Rattle.codec.proofs.Prelude.{_≡_, sym, List, ℕ}
 use Rattle.compact_u64.specs.declared.TagWidth.{TagWidth}
 use Rattle.compact_u64.specs.Answers.{bits}
 use Rattle.text.specs.Parts.{partAt}

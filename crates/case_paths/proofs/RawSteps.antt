@@ -1,16 +1,5 @@
 -- The ways out of a line of a record's raw parts, and of reading its lengths.
-use mathlib.Core.Path.{_≡_, refl, sym, ap, _∙_}
-use mathlib.Core.List.{List, [], _∷_, _++_, map, append-nil, append-assoc}
-use mathlib.Core.Bool.{Bool, true, false, cond, _&&_}
-use Prim.Native.Nat.{ℕ, _+_, _-_, _^_, _≤_, _<_}
-use types.Run.{OneOf}
-use denote.Enum.Declared.{tagOf}
-use native.Mathlib.Omega.{arith}
-use native.Mathlib.Numerals.{add-one}
-use borrow.Author.Tests.{eq-eqb, ne-eqb, le-ltb}
-use lib.Dec.{ltb}
-use lib.ListN.{length, take, drop, set, replicate, length-set, length-replicate, drop-of-length-le}
-use lib.Seq.{drop-cons, take-suc-set, take-all}
+use Rattle.codec.proofs.Prelude.{_≡_, refl, sym, ap, _∙_, List, [], _∷_, _++_, map, append-nil, append-assoc, Bool, true, false, cond, _&&_, ℕ, _+_, _-_, _^_, _≤_, _<_, OneOf, tagOf, arith, add-one, eq-eqb, ne-eqb, le-ltb, ltb, length, take, drop, set, replicate, length-set, length-replicate, drop-of-length-le, drop-cons, take-suc-set, take-all}
 use Rattle.codec.specs.Answers.{Outcome}
 use Rattle.codec.specs.Format.{lengthAnswer}
 use Rattle.path.specs.declared.Path.{Path}

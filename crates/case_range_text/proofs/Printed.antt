@@ -1,8 +1,5 @@
 -- How long the parts of a 3d range are when they are printed.
-use mathlib.Core.Bool.{Bool, true, false, cond}
-use Prim.Native.Nat.{_≤_}
-use native.Mathlib.Omega.{arith}
-use lib.ListN.{length, length-append}
+use Rattle.codec.proofs.Prelude.{Bool, true, false, cond, _≤_, arith, length, length-append}
 use Rattle.grouping.specs.declared.AreaSubspace.{AreaSubspace}
 use Rattle.range_3d.specs.declared.SubspaceRange.{SubspaceRange}
 use Rattle.range_3d.specs.declared.PathRange.{PathRange}

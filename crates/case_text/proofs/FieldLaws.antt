@@ -1,12 +1,5 @@
 -- What reading a field of a line in hex answers, and a message.
-use mathlib.Core.Path.{_≡_, refl, sym, _∙_}
-use mathlib.Core.List.{List, [], _∷_}
-use mathlib.Core.Logic.{⊎-elim}
-use Prim.Native.Nat.{ℕ, _+_}
-use types.Run.{OneOf}
-use denote.Enum.Declared.{tagOf}
-use native.Mathlib.Omega.{arith}
-use lib.ListN.{length}
+use Rattle.codec.proofs.Prelude.{_≡_, refl, sym, _∙_, List, [], _∷_, ⊎-elim, ℕ, _+_, OneOf, tagOf, arith, length}
 use Rattle.text.specs.Hex.{unhex}
 use Rattle.text.specs.Parts.{parts}
 use Rattle.text.specs.Fields.{readHex, hexBuffer}

@@ -1,14 +1,5 @@
 -- Laws of texts put into a buffer, one after another.
-use mathlib.Core.Path.{_≡_, refl, sym, ap, _∙_}
-use mathlib.Core.List.{List, [], _∷_, _++_}
-use mathlib.Core.Logic.{⊎-elim}
-use Prim.Native.Nat.{ℕ, _+_, _-_, _≤_, _<_}
-use types.Run.{OneOf}
-use denote.Enum.Declared.{tagOf}
-use native.Mathlib.Omega.{arith}
-use borrow.Author.Tests.{le-leb, lt-leb}
-use lib.ListN.{length, take, drop, length-append, length-drop}
-use lib.Seq.{take-at, length-take-le}
+use Rattle.codec.proofs.Prelude.{_≡_, refl, sym, ap, _∙_, List, [], _∷_, _++_, ⊎-elim, ℕ, _+_, _-_, _≤_, _<_, OneOf, tagOf, arith, le-leb, lt-leb, length, take, drop, length-append, length-drop, take-at, length-take-le}
 use Rattle.codec.specs.declared.Encoded.{Encoded}
 use Rattle.codec.specs.declared.Encoded.the-variants as encoded
 use Rattle.codec.specs.Answers.{outcomeOf}

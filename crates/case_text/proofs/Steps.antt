@@ -1,11 +1,5 @@
 -- What each way out of a line says of the answer to it: each law takes the text of the line, or of what is left of it, to the text that was put.
-use mathlib.Core.Path.{_≡_, sym, ap, _∙_}
-use mathlib.Core.List.{List, _++_}
-use mathlib.Core.Bool.{Bool, true, false}
-use Prim.Native.Nat.{ℕ, _≤_}
-use borrow.Author.Tests.{eq-eqb, ne-eqb}
-use lib.ListN.{length, take, drop}
-use lib.Seq.{length-take-le, take-at}
+use Rattle.codec.proofs.Prelude.{_≡_, sym, ap, _∙_, List, _++_, Bool, true, false, ℕ, _≤_, eq-eqb, ne-eqb, length, take, drop, length-take-le, take-at}
 use Rattle.path.specs.declared.Path.{Path}
 use Rattle.path_text.specs.declared.PathField.{PathField}
 use Rattle.path_text.specs.declared.Found.the-variants as found

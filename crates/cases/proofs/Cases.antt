@@ -1,5 +1,5 @@
 -- All examples of specs/Cases.antt hold, by computation.
-use mathlib.Core.Path.{refl}
+use Rattle.codec.proofs.Prelude.{refl}
 use Rattle.codec.specs.Format.{putAnswer}
 use Rattle.compact_u64.specs.Number.{minTag, encodingWidth, numberBytes, numberSaid, readNumber}
 use Rattle.path.specs.Record.{pathFrom, wellFormed}

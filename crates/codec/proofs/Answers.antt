@@ -1,11 +1,6 @@
 -- What stands beside a reader's answer, at its exits, and after bytes that were read before.
-use mathlib.Core.Path.{_≡_, refl, sym, _∙_}
-use mathlib.Core.List.{[], _∷_}
-use mathlib.Core.Logic.{⊎-elim}
-use Prim.Native.Nat.{ℕ, _+_}
-use native.Mathlib.Omega.{arith}
+use Rattle.codec.proofs.Prelude.{_≡_, refl, sym, _∙_, [], _∷_, ⊎-elim, ℕ, _+_, arith, OneOf}
 use denote.Enum.Declared as declared
-use types.Run.{OneOf}
 use Rattle.codec.specs.declared.Decoded.{Decoded}
 use Rattle.codec.specs.declared.Decoded.the-variants as decoded
 use Rattle.codec.specs.Answers.{Answer, accepted, refused, answerOf, Gives}

@@ -1,12 +1,5 @@
 -- A reader consumes no more bytes than there are, in either mode: a law for each of specs/Reader.antt.
-use Prim.Native.Nat.{ℕ, _≤_}
-use mathlib.Core.Path.{_≡_, refl}
-use mathlib.Core.List.{List, [], _∷_}
-use mathlib.Core.Bool.{Bool, true, false}
-use native.Mathlib.Omega.{arith}
-use lib.Dec.{leb}
-use borrow.Author.Tests.{leb-true}
-use lib.ListN.{length, take, drop, length-drop}
+use Rattle.codec.proofs.Prelude.{ℕ, _≤_, _≡_, refl, List, [], _∷_, Bool, true, false, arith, leb, leb-true, length, take, drop, length-drop}
 use Rattle.codec.specs.Answers.{accepted}
 use Rattle.codec.specs.Reader.{Reader, shift, passed, enough, give, oneByte, someBytes, andThen, guard, checked, mapped, choose, onFormed}
 use Rattle.codec.specs.Reads.{Bounded}

@@ -1,9 +1,5 @@
 -- Parts of a list of bytes are lists of bytes.
-use Prim.Native.Nat.{ℕ, zero, suc, _+_}
-use mathlib.Core.List.{List, [], _∷_, _++_}
-use native.Mathlib.Omega.{arith}
-use lib.ListN.{take, drop, replicate}
-use lib.Seq.{getD-drop}
+use Rattle.codec.proofs.Prelude.{ℕ, zero, suc, _+_, List, [], _∷_, _++_, arith, take, drop, replicate, getD-drop}
 use Rattle.codec.specs.Answers.{AllBytes}
 
 pub AllBytes·drop : (n : ℕ) (s : List ℕ) → AllBytes s → AllBytes (drop n s)

@@ -1,5 +1,5 @@
 -- All of specs/Demand3.antt follows from the four laws.
-use lib.ListN.{drop}
+use Rattle.codec.proofs.Prelude.{drop}
 use Rattle.codec.specs.Format.{Format}
 use Rattle.codec.specs.Reader.{Reader}
 use Rattle.codec.specs.Lawful.{Lawful}

@@ -1,13 +1,5 @@
 -- The laws that all headers share. None knows a place: a layout's own laws are computed over all bytes (`same-bytes`) or told by `omega`.
-use mathlib.Core.Path.{_≡_, refl, sym, ap, _∙_}
-use mathlib.Core.List.{[], _∷_}
-use mathlib.Core.Bool.{Bool, true, false, cond}
-use Prim.Native.Nat.{ℕ, zero, suc, _-_, _/_, _^_, _≤_, _<_}
-use native.Mathlib.Omega.{arith}
-use native.Mathlib.Nat.{mod-lt}
-use lib.Dec.{eqb}
-use lib.Pow.{pow-mono}
-use borrow.Author.Tests.{eqb-true, eqb-false}
+use Rattle.codec.proofs.Prelude.{_≡_, refl, sym, ap, _∙_, [], _∷_, Bool, true, false, cond, ℕ, zero, suc, _-_, _/_, _^_, _≤_, _<_, arith, mod-lt, eqb, pow-mono, eqb-true, eqb-false}
 use Rattle.codec.specs.Reader.{oneByte}
 use Rattle.codec.specs.Reads.{Reads, OneByte}
 use Rattle.codec.specs.Header.{field, flag, bit, Layout, readHeader, HeaderAs, every}

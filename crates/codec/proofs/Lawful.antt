@@ -1,12 +1,5 @@
 -- What follows from the four laws for single values, and how a record comes to have them.
-use mathlib.Core.Path.{_≡_, refl, sym, ap, _∙_}
-use mathlib.Core.Logic.{_↔_}
-use mathlib.Core.Bool.{Bool, true, false}
-use mathlib.Core.List.{List, [], _++_, append-assoc}
-use Prim.Native.Nat.{ℕ}
-use native.Mathlib.Omega.{arith}
-use lib.ListN.{length, drop, length-take, take-append-drop}
-use lib.Seq.{length-take-le}
+use Rattle.codec.proofs.Prelude.{_≡_, refl, sym, ap, _∙_, _↔_, Bool, true, false, List, [], _++_, append-assoc, ℕ, arith, length, drop, length-take, take-append-drop, length-take-le}
 use Rattle.codec.specs.Answers.{accepted, refused, AllBytes}
 use Rattle.codec.specs.Format.{Format, Verdict, allowed, verdictBy, Valid, Writes, reshaped}
 use Rattle.codec.specs.Reader.{Reader, mapped}

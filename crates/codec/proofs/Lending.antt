@@ -1,18 +1,6 @@
 -- Laws of writing into a lent buffer, for the proofs of writers: the exits of a writer, and one writing after another.
-use mathlib.Core.Path.{_≡_, refl, sym, ap, _∙_}
-use mathlib.Core.List.{List, [], _∷_, _++_, append-assoc, append-nil}
-use mathlib.Core.Bool.{Bool, true, false, cond}
-use Prim.Native.Nat.{ℕ, suc, _+_, _-_, _≤_, _<_}
-use native.Mathlib.Omega.{arith}
-use lib.Dec.{leb}
-use borrow.Author.Tests.{le-leb, lt-leb, leb-true}
-use borrow.Rule.Slice.PartMut.{putMid}
-use native.Mathlib.Numerals.{add-one}
-use lib.ListN.{length, take, drop, getD, set, length-append, length-drop, drop-of-length-le, take-append-drop}
-use lib.Seq.{take-all, take-at, take-suc, drop-at, drop-cons, drop-drop, set-at, length-take-le, take-append-add, drop-append-add}
-use mathlib.Core.Logic.{⊎-elim}
+use Rattle.codec.proofs.Prelude.{_≡_, refl, sym, ap, _∙_, List, [], _∷_, _++_, append-assoc, append-nil, Bool, true, false, cond, ℕ, suc, _+_, _-_, _≤_, _<_, arith, leb, le-leb, lt-leb, leb-true, putMid, add-one, length, take, drop, getD, set, length-append, length-drop, drop-of-length-le, take-append-drop, take-all, take-at, take-suc, drop-at, drop-cons, drop-drop, set-at, length-take-le, take-append-add, drop-append-add, ⊎-elim, OneOf}
 use denote.Enum.Declared as declared
-use types.Run.{OneOf}
 use Rattle.codec.specs.declared.Encoded.{Encoded}
 use Rattle.codec.specs.declared.Encoded.the-variants as encoded
 use Rattle.codec.specs.Answers.{Outcome, wrote, denied, outcomeOf}

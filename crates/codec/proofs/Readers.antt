@@ -1,14 +1,6 @@
 -- The laws of the readers of specs/Reader.antt: `x-back` for reading back, lenient or strict, `x-reads` for that and soundness.
 -- The law of a chain is the same chain with the laws of its parts; `back-as` and `reads-as` then put its relation in other words.
-use mathlib.Core.Path.{_≡_, refl, sym, ap, _∙_}
-use mathlib.Core.List.{List, [], _∷_, _++_, append-assoc}
-use mathlib.Core.Bool.{Bool, true, false}
-use Prim.Native.Nat.{ℕ, zero, suc, _+_, _-_, _≤_, _<_}
-use native.Mathlib.Omega.{arith}
-use lib.Dec.{leb}
-use borrow.Author.Tests.{leb-true, leb-false, le-leb, lt-leb}
-use lib.ListN.{length, take, drop, length-append, length-take, length-drop}
-use lib.Seq.{drop-append-seam, take-append-add, take-append-le, length-take-le, take-add, take-at}
+use Rattle.codec.proofs.Prelude.{_≡_, refl, sym, ap, _∙_, List, [], _∷_, _++_, append-assoc, Bool, true, false, ℕ, zero, suc, _+_, _-_, _≤_, _<_, arith, leb, leb-true, leb-false, le-leb, lt-leb, length, take, drop, length-append, length-take, length-drop, drop-append-seam, take-append-add, take-append-le, length-take-le, take-add, take-at}
 use Rattle.codec.specs.Answers.{Answer, accepted, refused, AllBytes}
 use Rattle.codec.specs.Reader.{Reader, bind, shift, named, passed, enough, give, oneByte, someBytes, andThen, guard, checked, mapped, choose}
 use Rattle.codec.specs.Reads.{ReadsBack, Reads, Nothing, OneByte, SomeBytes, Joined, Tested, Mapped, Either}

@@ -1,9 +1,5 @@
 -- Bytes that are read back as a value: a law for each of specs/Reader.antt.
-use mathlib.Core.Path.{_≡_, refl}
-use mathlib.Core.List.{List, [], _++_}
-use mathlib.Core.Bool.{Bool, true}
-use Prim.Native.Nat.{ℕ}
-use lib.ListN.{length}
+use Rattle.codec.proofs.Prelude.{_≡_, refl, List, [], _++_, Bool, true, ℕ, length}
 use Rattle.codec.specs.Answers.{AllBytes}
 use Rattle.codec.specs.Reader.{Reader, give, someBytes, andThen, checked, mapped}
 use Rattle.codec.specs.Reads.{ReadsAs, ReadsBack}

@@ -1,10 +1,5 @@
 -- From strict to lenient: a chain whose tests ask less accepts what the stricter one accepts, and reads back what it reads back.
-use mathlib.Core.Path.{_≡_, refl, sym, ap, _∙_}
-use mathlib.Core.List.{List, _++_}
-use mathlib.Core.Bool.{Bool, true, false}
-use Prim.Native.Nat.{ℕ}
-use native.Mathlib.Omega.{arith}
-use lib.ListN.{length, drop}
+use Rattle.codec.proofs.Prelude.{_≡_, refl, sym, ap, _∙_, List, _++_, Bool, true, false, ℕ, arith, length, drop}
 use Rattle.codec.specs.Answers.{Answer, accepted, refused}
 use Rattle.codec.specs.Reader.{Reader, bind, shift, named, passed, andThen, guard, checked, mapped, choose}
 use Rattle.codec.specs.Reads.{ReadsBack, Relaxes}

@@ -1,13 +1,5 @@
 -- Laws of lists of bytes that are the same.
-use mathlib.Core.Path.{_≡_, refl}
-use mathlib.Core.List.{List, [], _∷_}
-use mathlib.Core.Bool.{true, false, _&&_}
-use Prim.Native.Nat.{ℕ, _+_, _≤_, _<_}
-use native.Mathlib.Numerals.{add-one}
-use lib.Dec.{eqb}
-use borrow.Author.Tests.{eqb-true, eq-eqb}
-use lib.ListN.{length, drop, getD, drop-of-length-le}
-use lib.Seq.{drop-cons}
+use Rattle.codec.proofs.Prelude.{_≡_, refl, List, [], _∷_, true, false, _&&_, ℕ, _+_, _≤_, _<_, add-one, eqb, eqb-true, eq-eqb, length, drop, getD, drop-of-length-le, drop-cons}
 use Rattle.codec.specs.Bytes.{sameBytes}
 use Rattle.codec.proofs.Tests.{and-left, and-right, and-not}
 

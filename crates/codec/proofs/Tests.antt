@@ -1,6 +1,5 @@
 -- Tests joined by `&&`, taken apart.
-use mathlib.Core.Path.{_≡_, refl}
-use mathlib.Core.Bool.{Bool, true, false, _&&_}
+use Rattle.codec.proofs.Prelude.{_≡_, refl, Bool, true, false, _&&_}
 
 pub and-left : (a b : Bool) → (a && b) ≡ true → a ≡ true
 and-left true b e = refl

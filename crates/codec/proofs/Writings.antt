@@ -1,11 +1,5 @@
 -- The theorem about lists of writings, from the four laws alone.
-use mathlib.Core.Path.{_≡_, refl, sym, ap, _∙_}
-use mathlib.Core.List.{List, [], _∷_, _++_, map, append-assoc, append-nil}
-use Prim.Native.Nat.{ℕ, _+_, _-_, _≤_}
-use native.Mathlib.Omega.{arith}
-use native.Mathlib.Nat.{zero-add, add-zero, suc-add, add-assoc}
-use lib.ListN.{length, take, drop, length-append, length-drop, take-append-drop}
-use lib.Seq.{take-append-seam, drop-append-seam, take-at, drop-at, drop-drop, drop-length}
+use Rattle.codec.proofs.Prelude.{_≡_, refl, sym, ap, _∙_, List, [], _∷_, _++_, map, append-assoc, append-nil, ℕ, _+_, _-_, _≤_, arith, zero-add, add-zero, suc-add, add-assoc, length, take, drop, length-append, length-drop, take-append-drop, take-append-seam, drop-append-seam, take-at, drop-at, drop-drop, drop-length}
 use Rattle.codec.specs.Answers.{Answer, accepted, refused, Outcome, wrote, denied}
 use Rattle.codec.specs.Format.{Format, Valid, putBuffer, writeAnswer}
 use Rattle.codec.specs.Reader.{Reader}

@@ -1,9 +1,5 @@
 -- What every value read has, in either mode: a law for each of specs/Reader.antt.
-use mathlib.Core.Path.{_≡_, refl}
-use mathlib.Core.Bool.{Bool, true, false}
-use Prim.Native.Nat.{ℕ}
-use native.Mathlib.Omega.{arith}
-use lib.ListN.{length, drop}
+use Rattle.codec.proofs.Prelude.{_≡_, refl, Bool, true, false, ℕ, arith, length, drop}
 use Rattle.codec.specs.Answers.{accepted, AllBytes}
 use Rattle.codec.specs.Reader.{Reader, shift, passed, give, someBytes, andThen, guard, checked, mapped}
 use Rattle.codec.specs.Reads.{Yields}

@@ -1,14 +1,5 @@
 -- Laws of a number's bytes, the highest first.
-use mathlib.Core.Path.{_≡_, refl, sym, ap, _∙_}
-use mathlib.Core.List.{List, [], _∷_, _++_}
-use Prim.Native.Nat.{ℕ, zero, suc, _+_, _*_, _/_, _%_, _^_, _≤_, _<_}
-use native.Mathlib.Nat.{pow-suc, pow-succ', mod-lt, mod-eq-of-lt, mul-assoc, mod-one, mul-add-div-right, mul-add-mod-self-right, div-div-eq-div-mul}
-use native.Mathlib.Numerals.{add-one}
-use native.Mathlib.Omega.{arith}
-use lib.Arith.{digits-div, mod-mul, digits-lt}
-use lib.Pow.{pow-mono, pow-add}
-use lib.ListN.{length, take, drop, set, getD, length-set, length-append}
-use lib.Seq.{take-suc, drop-cons, getD-set-same, drop-set-lt}
+use Rattle.codec.proofs.Prelude.{_≡_, refl, sym, ap, _∙_, List, [], _∷_, _++_, ℕ, zero, suc, _+_, _*_, _/_, _%_, _^_, _≤_, _<_, pow-suc, pow-succ', mod-lt, mod-eq-of-lt, mul-assoc, mod-one, mul-add-div-right, mul-add-mod-self-right, div-div-eq-div-mul, add-one, arith, digits-div, mod-mul, digits-lt, pow-mono, pow-add, length, take, drop, set, getD, length-set, length-append, take-suc, drop-cons, getD-set-same, drop-set-lt}
 use Rattle.codec.specs.Answers.{AllBytes}
 use Rattle.compact_u64.specs.BigEndian.{bigEndian, valueOf}
 

@@ -1,17 +1,6 @@
 -- What the readers' and writers' definitions answer at each exit of the code.
-use mathlib.Core.Path.{_≡_, refl, ap, _∙_, sym}
-use mathlib.Core.List.{List, [], _∷_, _++_}
-use mathlib.Core.Bool.{Bool, true, false, cond}
-use mathlib.Core.Logic.{⊎-elim}
-use Prim.Native.Nat.{_-_, ℕ, _+_, _^_, _≤_, _<_}
-use native.Mathlib.Numerals.{add-one}
-use native.Mathlib.Omega.{arith}
+use Rattle.codec.proofs.Prelude.{_≡_, refl, ap, _∙_, sym, List, [], _∷_, _++_, Bool, true, false, cond, ⊎-elim, _-_, ℕ, _+_, _^_, _≤_, _<_, add-one, arith, OneOf, leb, eqb, length, take, drop, set, getD, drop-of-length-le, length-drop, drop-cons, lt-ltb, le-ltb, le-leb, lt-leb, eq-eqb, leb-true, leb-false}
 use denote.Enum.Declared as declared
-use types.Run.{OneOf}
-use lib.Dec.{leb, eqb}
-use lib.ListN.{length, take, drop, set, getD, drop-of-length-le, length-drop}
-use lib.Seq.{drop-cons}
-use borrow.Author.Tests.{lt-ltb, le-ltb, le-leb, lt-leb, eq-eqb, leb-true, leb-false}
 use Rattle.codec.specs.Answers.{accepted, refused, answerOf}
 use Rattle.codec.specs.Format.{allowed, over, putBuffer}
 use Rattle.codec.specs.Reader.{shift, passed}

@@ -1,15 +1,5 @@
 -- The laws of reading a number after its tag, for every width w from 2 to 64. Later records cite these and nothing below them.
-use mathlib.Core.Path.{_≡_, refl, sym, ap, _∙_}
-use mathlib.Core.List.{List, [], _∷_}
-use mathlib.Core.Bool.{Bool, true, false, cond}
-use Prim.Native.Nat.{_-_, ℕ, _^_, _≤_, _<_}
-use native.Mathlib.Nat.{mod-eq-of-lt}
-use native.Mathlib.Omega.{arith}
-use lib.Dec.{ltb, eqb}
-use lib.Pow.{pow-mono}
-use lib.ListN.{length, take}
-use lib.Seq.{length-take-le}
-use borrow.Author.Tests.{ltb-true, ltb-false, eqb-true, lt-ltb, le-ltb, eq-eqb}
+use Rattle.codec.proofs.Prelude.{_≡_, refl, sym, ap, _∙_, List, [], _∷_, Bool, true, false, cond, _-_, ℕ, _^_, _≤_, _<_, mod-eq-of-lt, arith, ltb, eqb, pow-mono, length, take, length-take-le, ltb-true, ltb-false, eqb-true, lt-ltb, le-ltb, eq-eqb}
 use Rattle.codec.specs.Answers.{accepted}
 use Rattle.codec.specs.Reader.{someBytes, mapped}
 use Rattle.codec.specs.Reads.{Reads, ReadsBack, Relaxes, Bounded, SomeBytes, Tested, Mapped}

@@ -1,10 +1,5 @@
 -- The laws of standalone numbers: they are a lawful format, so all of demand 3 holds of them.
-use mathlib.Core.Path.{refl}
-use mathlib.Core.List.{[], _∷_}
-use mathlib.Core.Bool.{Bool, true, false}
-use Prim.Native.Nat.{ℕ, _≤_}
-use native.Mathlib.Omega.{arith}
-use lib.ListN.{length}
+use Rattle.codec.proofs.Prelude.{refl, [], _∷_, Bool, true, false, ℕ, _≤_, arith, length}
 use Rattle.codec.specs.Reader.{oneByte}
 use Rattle.codec.specs.Reads.{Reads, ReadsBack, Relaxes, Bounded, OneByte}
 use Rattle.codec.specs.Lawful.{Lawful}

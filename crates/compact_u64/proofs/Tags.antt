@@ -1,12 +1,5 @@
 -- Laws of tags, for every width w.
-use mathlib.Core.Path.{_≡_, refl, sym, ap, _∙_}
-use mathlib.Core.Bool.{Bool, true, false, cond}
-use Prim.Native.Nat.{_-_, ℕ, zero, suc, _+_, _^_, _≤_, _<_}
-use native.Mathlib.Omega.{arith}
-use lib.Dec.{ltb}
-use lib.Pow.{pow-mono}
-use lib.ListN.{length}
-use borrow.Author.Tests.{ltb-true, ltb-false, lt-ltb, le-ltb}
+use Rattle.codec.proofs.Prelude.{_≡_, refl, sym, ap, _∙_, Bool, true, false, cond, _-_, ℕ, zero, suc, _+_, _^_, _≤_, _<_, arith, ltb, pow-mono, length, ltb-true, ltb-false, lt-ltb, le-ltb}
 use Rattle.codec.specs.Answers.{AllBytes}
 use Rattle.compact_u64.specs.Number.{inlineLimit, widthExponent, minTag, encodingWidth, numberBytes, U64}
 use Rattle.compact_u64.specs.Laws.{Carries, inline, sized}

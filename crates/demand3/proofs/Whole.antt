@@ -1,5 +1,5 @@
 -- Demand 3 whole, by citation: the generic proof is codec/proofs/Demand3, from the four laws of each record.
-use mathlib.Core.Bool.{_&&_}
+use Rattle.codec.proofs.Prelude.{_&&_}
 use Rattle.codec.proofs.Lawful.{verdict-allowed}
 use Rattle.grouping.specs.Area.{liesInside}
 use Rattle.grouping.specs.Record.{areaOf, wellFormedArea}

@@ -1,11 +1,5 @@
 -- What comparing an entry with a namespace and an area answers, test by test.
-use mathlib.Core.Path.{_≡_}
-use mathlib.Core.List.{List, [], _∷_}
-use mathlib.Core.Bool.{true, false, _&&_}
-use mathlib.Core.Option.{some}
-use Prim.Native.Nat.{ℕ}
-use denote.Enum.Declared.{tagOf}
-use types.Run.{OneOf}
+use Rattle.codec.proofs.Prelude.{_≡_, List, [], _∷_, true, false, _&&_, some, ℕ, tagOf, OneOf}
 use Rattle.codec.specs.Bytes.{sameBytes}
 use Rattle.path.specs.declared.Compared.{Compared}
 use Rattle.path.specs.declared.Compared.the-variants as compared

@@ -1,6 +1,5 @@
 -- Records of entries and their values: each well-formed record is the record of its values, and back.
-use mathlib.Core.Path.{_≡_}
-use mathlib.Core.Bool.{true}
+use Rattle.codec.proofs.Prelude.{_≡_, true}
 use Rattle.path.specs.Limits.{PathOk}
 use Rattle.path.specs.Record.{componentsOf, pathFrom}
 use Rattle.path.proofs.Limits.{typed-of}

@@ -1,13 +1,6 @@
 -- What the language says of a record, from what owning one tells.
-use mathlib.Core.Path.{_≡_}
-use mathlib.Core.List.{List}
-use Prim.Native.Nat.{ℕ}
-use native.Mathlib.Omega.{arith}
-use lib.ListN.{length}
-use mir.Val.{Val}
-use denote.Laws.{Is}
+use Rattle.codec.proofs.Prelude.{_≡_, List, ℕ, arith, length, Val, Is, length-unmapped}
 use denote.Struct.Declared as struct
-use borrow.Author.Needs.{length-unmapped}
 use Rattle.path.proofs.Typed.{each-byte, typed}
 use Rattle.entry.specs.declared.Entry.{Entry}
 use Rattle.entry.specs.declared.EntryFields.{EntryFields}

@@ -1,15 +1,5 @@
 -- What the readers' definitions answer at each exit of the code.
-use mathlib.Core.Path.{_≡_, refl, sym, ap, _∙_}
-use mathlib.Core.List.{List, _++_}
-use mathlib.Core.Bool.{Bool, true, false, cond, Bool·beq}
-use mathlib.Core.Option.{none, some}
-use Prim.Native.Nat.{ℕ, suc, _+_, _≤_, _<_}
-use native.Mathlib.Omega.{arith}
-use native.Mathlib.Numerals.{add-one}
-use lib.Dec.{eqb}
-use lib.ListN.{length, take, drop, getD, length-drop, drop-of-length-le}
-use lib.Seq.{drop-cons, take-length, take-append-seam}
-use borrow.Author.Tests.{eqb-true, eq-eqb, ne-eqb}
+use Rattle.codec.proofs.Prelude.{_≡_, refl, sym, ap, _∙_, List, _++_, Bool, true, false, cond, Bool·beq, none, some, ℕ, suc, _+_, _≤_, _<_, arith, add-one, eqb, length, take, drop, getD, length-drop, drop-of-length-le, drop-cons, take-length, take-append-seam, eqb-true, eq-eqb, ne-eqb}
 use Rattle.codec.specs.Answers.{Answer, accepted, refused, answerOf}
 use Rattle.codec.specs.declared.Decoded.{Decoded}
 use Rattle.codec.specs.declared.Decoded.the-variants as decoded

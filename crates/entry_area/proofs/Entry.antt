@@ -1,12 +1,5 @@
 -- The laws of an entry against a namespace and an area, on plain values.
-use mathlib.Core.Path.{_≡_, refl, _∙_}
-use mathlib.Core.List.{List, [], _∷_, _++_}
-use mathlib.Core.Bool.{Bool, true, false}
-use mathlib.Core.Option.{some}
-use Prim.Native.Nat.{ℕ}
-use native.Mathlib.Omega.{arith}
-use lib.Dec.{eqb}
-use borrow.Author.Tests.{eqb-true}
+use Rattle.codec.proofs.Prelude.{_≡_, refl, _∙_, List, [], _∷_, _++_, Bool, true, false, some, ℕ, arith, eqb, eqb-true}
 use Rattle.codec.specs.Answers.{refused}
 use Rattle.codec.specs.Bytes.{sameBytes, TypedId}
 use Rattle.codec.specs.Header.{readHeader, HeaderAs}

@@ -1,10 +1,5 @@
 -- The laws of an entry's id.
-use mathlib.Core.Path.{refl, sym}
-use mathlib.Core.List.{List}
-use mathlib.Core.Bool.{Bool, not}
-use mathlib.Core.Option.{Option, none, some}
-use Prim.Native.Nat.{ℕ}
-use borrow.Author.Tests.{not-true}
+use Rattle.codec.proofs.Prelude.{refl, sym, List, Bool, not, Option, none, some, ℕ, not-true}
 use Rattle.codec.specs.Reader.{give, someBytes}
 use Rattle.codec.specs.Reads.{Reads, Bounded, Nothing, SomeBytes}
 use Rattle.codec.proofs.SameBytes.{same-eq, same-refl}

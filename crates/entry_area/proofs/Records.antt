@@ -1,8 +1,5 @@
 -- Entries against a namespace and a well-formed area are a lawful format, and read back leniently too.
-use mathlib.Core.Path.{_≡_, ap, _∙_}
-use mathlib.Core.List.{List}
-use mathlib.Core.Bool.{Bool, true}
-use Prim.Native.Nat.{ℕ}
+use Rattle.codec.proofs.Prelude.{_≡_, ap, _∙_, List, Bool, true, ℕ}
 use Rattle.codec.specs.Bytes.{TypedId}
 use Rattle.codec.specs.Format.{Format, verdictBy, Valid, Writes}
 use Rattle.codec.specs.Reads.{ReadsBack}

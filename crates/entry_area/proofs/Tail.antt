@@ -1,10 +1,5 @@
 -- Bytes written before the place of those that stand after them, then these.
-use mathlib.Core.Path.{_≡_, refl, sym, ap, _∙_}
-use mathlib.Core.List.{List, _++_, append-assoc}
-use Prim.Native.Nat.{ℕ, _+_, _-_, _≤_, _<_}
-use native.Mathlib.Omega.{arith}
-use lib.ListN.{length, take, drop, length-append, take-append-drop}
-use lib.Seq.{drop-append-le, length-take-le}
+use Rattle.codec.proofs.Prelude.{_≡_, refl, sym, ap, _∙_, List, _++_, append-assoc, ℕ, _+_, _-_, _≤_, _<_, arith, length, take, drop, length-append, take-append-drop, drop-append-le, length-take-le}
 use Rattle.codec.specs.Answers.{wrote, denied}
 use Rattle.codec.specs.Format.{allowed, over, putAnswer, putBuffer}
 use Rattle.codec.proofs.Lending.{put-full, put-fits, put-denied, put-wrote, put-over, over-then}

@@ -1,11 +1,5 @@
 -- What the writers' definitions say at each step of the code.
-use mathlib.Core.Path.{_≡_, refl, sym, ap, _∙_}
-use mathlib.Core.List.{List, [], _∷_, _++_, append-assoc}
-use mathlib.Core.Bool.{Bool, true, false, cond, _&&_}
-use mathlib.Core.Option.{none, some}
-use Prim.Native.Nat.{ℕ, _+_, _≤_}
-use native.Mathlib.Omega.{arith}
-use lib.ListN.{length, length-append}
+use Rattle.codec.proofs.Prelude.{_≡_, refl, sym, ap, _∙_, List, [], _∷_, _++_, append-assoc, Bool, true, false, cond, _&&_, none, some, ℕ, _+_, _≤_, arith, length, length-append}
 use Rattle.path.proofs.Verdicts.{yes-allowed, no-barred, malformed-barred}
 use Rattle.codec.specs.Format.{allowed, barred}
 use Rattle.codec.proofs.Tests.{and-left, and-right}

@@ -1,11 +1,5 @@
 -- The laws of the fields after the path, and what the reader's definition answers at each exit of the code.
-use mathlib.Core.Path.{_≡_, refl, _∙_}
-use mathlib.Core.List.{List, _++_}
-use mathlib.Core.Bool.{Bool, true, false}
-use Prim.Native.Nat.{ℕ, _+_, _≤_}
-use native.Mathlib.Omega.{arith}
-use lib.ListN.{length, drop, length-drop}
-use lib.Seq.{drop-drop}
+use Rattle.codec.proofs.Prelude.{_≡_, refl, _∙_, List, _++_, Bool, true, false, ℕ, _+_, _≤_, arith, length, drop, length-drop, drop-drop}
 use Rattle.codec.specs.Answers.{accepted, refused}
 use Rattle.codec.specs.Reader.{someBytes}
 use Rattle.codec.specs.Reads.{Reads, Relaxes, Bounded, SomeBytes, Mapped, Joined}

@@ -1,14 +1,5 @@
 -- What the readers' definitions answer at each exit of the code.
-use mathlib.Core.Path.{_≡_, refl, ap}
-use mathlib.Core.List.{List}
-use mathlib.Core.Bool.{Bool, true, false, cond}
-use Prim.Native.Nat.{ℕ, _+_, _≤_, _<_}
-use native.Mathlib.Omega.{arith}
-use native.Mathlib.Numerals.{add-one}
-use lib.Dec.{leb}
-use borrow.Author.Tests.{leb-true, leb-false}
-use lib.ListN.{length, drop, getD, length-drop, drop-of-length-le}
-use lib.Seq.{drop-cons, drop-drop}
+use Rattle.codec.proofs.Prelude.{_≡_, refl, ap, List, Bool, true, false, cond, ℕ, _+_, _≤_, _<_, arith, add-one, leb, leb-true, leb-false, length, drop, getD, length-drop, drop-of-length-le, drop-cons, drop-drop}
 use Rattle.codec.specs.Answers.{accepted, refused}
 use Rattle.codec.specs.Reader.{someBytes, mapped, onFormed}
 use Rattle.codec.specs.declared.Decoded.{Decoded}

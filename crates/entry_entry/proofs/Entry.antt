@@ -1,8 +1,5 @@
 -- The laws of an entry against an entry, on plain values.
-use mathlib.Core.Path.{_≡_, refl}
-use mathlib.Core.List.{List, [], _∷_, _++_, append-assoc}
-use mathlib.Core.Bool.{Bool, true, false, cond, not}
-use Prim.Native.Nat.{ℕ}
+use Rattle.codec.proofs.Prelude.{_≡_, refl, List, [], _∷_, _++_, append-assoc, Bool, true, false, cond, not, ℕ}
 use Rattle.codec.specs.Bytes.{sameBytes, TypedId}
 use Rattle.codec.specs.Header.{readHeader}
 use Rattle.codec.specs.Reader.{give, oneByte, someBytes, andThen, mapped}

@@ -1,8 +1,5 @@
 -- Entries against a well-formed entry read back.
-use mathlib.Core.Path.{_≡_}
-use mathlib.Core.List.{List}
-use mathlib.Core.Bool.{true, _&&_}
-use Prim.Native.Nat.{ℕ}
+use Rattle.codec.proofs.Prelude.{_≡_, List, true, _&&_, ℕ}
 use Rattle.codec.specs.Format.{Writes}
 use Rattle.codec.specs.Reads.{ReadsAs, ReadsBack}
 use Rattle.codec.proofs.Tests.{and-right}

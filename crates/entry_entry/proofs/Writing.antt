@@ -1,10 +1,5 @@
 -- What the writers' definitions say at each step of the code.
-use mathlib.Core.Path.{_≡_, refl}
-use mathlib.Core.List.{List, [], _∷_, _++_}
-use mathlib.Core.Bool.{Bool, true, false, _&&_}
-use Prim.Native.Nat.{ℕ, _+_, _≤_}
-use native.Mathlib.Omega.{arith}
-use lib.ListN.{length, length-append}
+use Rattle.codec.proofs.Prelude.{_≡_, refl, List, [], _∷_, _++_, Bool, true, false, _&&_, ℕ, _+_, _≤_, arith, length, length-append}
 use Rattle.codec.specs.Format.{allowed}
 use Rattle.codec.proofs.Tests.{and-right}
 use Rattle.codec.proofs.Lawful.{verdict-allowed}

@@ -1,12 +1,5 @@
 -- The laws of the time and the payload length, and what the readers' definitions answer at each exit of the code.
-use mathlib.Core.Path.{_≡_, refl}
-use mathlib.Core.List.{List}
-use mathlib.Core.Bool.{Bool, true, false}
-use Prim.Native.Nat.{ℕ, _+_, _≤_}
-use native.Mathlib.Omega.{arith}
-use lib.Dec.{ltb}
-use lib.ListN.{length, drop}
-use borrow.Author.Tests.{ltb-true, ltb-false}
+use Rattle.codec.proofs.Prelude.{_≡_, refl, List, Bool, true, false, ℕ, _+_, _≤_, arith, ltb, length, drop, ltb-true, ltb-false}
 use Rattle.codec.specs.Answers.{accepted, refused}
 use Rattle.codec.specs.Reader.{mapped}
 use Rattle.codec.specs.Reads.{ReadsAs, Bounded}

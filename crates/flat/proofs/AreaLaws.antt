@@ -1,13 +1,5 @@
 -- Areas as flat bytes: there and back.
-use mathlib.Core.Path.{_≡_, refl, sym, ap, _∙_}
-use mathlib.Core.List.{List, [], _∷_, _++_}
-use mathlib.Core.Bool.{Bool, true, false, _&&_}
-use Prim.Native.Nat.{ℕ, suc, _≤_}
-use native.Mathlib.Omega.{arith}
-use lib.Dec.{leb}
-use lib.ListN.{length, take, drop, getD, length-append, length-drop}
-use lib.Seq.{take-at, drop-at}
-use borrow.Author.Tests.{leb-true}
+use Rattle.codec.proofs.Prelude.{_≡_, refl, sym, ap, _∙_, List, [], _∷_, _++_, Bool, true, false, _&&_, ℕ, suc, _≤_, arith, leb, length, take, drop, getD, length-append, length-drop, take-at, drop-at, leb-true}
 use Rattle.codec.specs.Answers.{AllBytes}
 use Rattle.codec.proofs.Bytes.{AllBytes·drop}
 use Rattle.codec.proofs.Tests.{and-left, and-right}

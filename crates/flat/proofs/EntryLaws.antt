@@ -1,11 +1,5 @@
 -- Entries as flat bytes: there and back.
-use mathlib.Core.Path.{_≡_, refl, sym, ap, _∙_}
-use mathlib.Core.List.{List, _++_, append-assoc}
-use mathlib.Core.Bool.{true}
-use Prim.Native.Nat.{ℕ}
-use native.Mathlib.Omega.{arith}
-use lib.ListN.{length, take, drop, length-append, length-drop}
-use lib.Seq.{take-all, take-at, drop-at, drop-drop, take-add}
+use Rattle.codec.proofs.Prelude.{_≡_, refl, sym, ap, _∙_, List, _++_, append-assoc, true, ℕ, arith, length, take, drop, length-append, length-drop, take-all, take-at, drop-at, drop-drop, take-add}
 use Rattle.codec.specs.Answers.{AllBytes}
 use Rattle.codec.proofs.Bytes.{AllBytes·drop}
 use Rattle.compact_u64.specs.BigEndian.{bigEndian, valueOf}

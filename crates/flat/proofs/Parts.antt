@@ -1,10 +1,5 @@
 -- Laws of the parts of a record, as they are read.
-use mathlib.Core.Path.{_≡_, refl, ap, _∙_}
-use mathlib.Core.List.{List}
-use mathlib.Core.Bool.{false}
-use Prim.Native.Nat.{ℕ, _+_, _≤_}
-use native.Mathlib.Omega.{arith}
-use lib.ListN.{length, take, drop, length-drop}
+use Rattle.codec.proofs.Prelude.{_≡_, refl, ap, _∙_, List, false, ℕ, _+_, _≤_, arith, length, take, drop, length-drop}
 use Rattle.codec.specs.Answers.{accepted, Gives, valueIn}
 use Rattle.codec.specs.Bytes.{zeroId}
 use Rattle.codec.specs.Reader.{someBytes}

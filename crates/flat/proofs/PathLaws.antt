@@ -1,14 +1,5 @@
 -- Numbers, and paths, as flat bytes: there and back.
-use mathlib.Core.Path.{_≡_, refl, sym, ap, _∙_}
-use mathlib.Core.List.{List, [], _∷_, _++_, append-assoc, append-nil}
-use mathlib.Core.Bool.{true, false}
-use Prim.Native.Nat.{ℕ, zero, suc, _*_, _%_, _^_, _≤_, _<_}
-use native.Mathlib.Nat.{mod-eq-of-lt}
-use native.Mathlib.Omega.{arith}
-use lib.Dec.{leb}
-use lib.ListN.{length, take, drop, length-append, take-append-drop}
-use lib.Seq.{take-all, take-at, drop-at, take-add, length-take-le}
-use borrow.Author.Tests.{le-leb, leb-true}
+use Rattle.codec.proofs.Prelude.{_≡_, refl, sym, ap, _∙_, List, [], _∷_, _++_, append-assoc, append-nil, true, false, ℕ, zero, suc, _*_, _%_, _^_, _≤_, _<_, mod-eq-of-lt, arith, leb, length, take, drop, length-append, take-append-drop, take-all, take-at, drop-at, take-add, length-take-le, le-leb, leb-true}
 use Rattle.codec.specs.Answers.{AllBytes}
 use Rattle.codec.proofs.Bytes.{AllBytes·drop, AllBytes·take}
 use Rattle.codec.proofs.Tests.{and-left, and-right}

@@ -1,12 +1,5 @@
 -- Laws of writing the parts of a record one after another.
-use mathlib.Core.Path.{_≡_, refl, sym, ap, _∙_}
-use mathlib.Core.List.{List, [], _∷_, _++_, append-assoc, append-nil}
-use Prim.Native.Nat.{ℕ, suc, _+_, _-_, _≤_, _<_}
-use native.Mathlib.Numerals.{add-one}
-use native.Mathlib.Omega.{arith}
-use borrow.Rule.Slice.PartMut.{putMid}
-use lib.ListN.{length, take, drop, getD, set, length-append, length-drop, drop-of-length-le}
-use lib.Seq.{drop-cons, set-at}
+use Rattle.codec.proofs.Prelude.{_≡_, refl, sym, ap, _∙_, List, [], _∷_, _++_, append-assoc, append-nil, ℕ, suc, _+_, _-_, _≤_, _<_, add-one, arith, putMid, length, take, drop, getD, set, length-append, length-drop, drop-of-length-le, drop-cons, set-at}
 use Rattle.codec.specs.Format.{allowed, putBuffer}
 use Rattle.codec.proofs.Lending.{put-over, over-then, to-end, put-end}
 use Rattle.compact_u64.specs.BigEndian.{bigEndian}

@@ -1,13 +1,5 @@
 -- 3d ranges as flat bytes: there and back.
-use mathlib.Core.Path.{_≡_, refl, sym, _∙_}
-use mathlib.Core.List.{List, _∷_, _++_, append-assoc}
-use mathlib.Core.Bool.{Bool, true, false, _&&_}
-use Prim.Native.Nat.{ℕ, suc, _+_, _≤_, _<_}
-use native.Mathlib.Omega.{arith}
-use lib.Dec.{leb}
-use lib.ListN.{length, take, drop, getD, length-append, length-drop}
-use lib.Seq.{take-at, drop-at, drop-drop, take-add, drop-cons, getD-drop}
-use borrow.Author.Tests.{leb-true}
+use Rattle.codec.proofs.Prelude.{_≡_, refl, sym, _∙_, List, _∷_, _++_, append-assoc, Bool, true, false, _&&_, ℕ, suc, _+_, _≤_, _<_, arith, leb, length, take, drop, getD, length-append, length-drop, take-at, drop-at, drop-drop, take-add, drop-cons, getD-drop, leb-true}
 use Rattle.codec.specs.Answers.{AllBytes}
 use Rattle.codec.specs.Header.{bit}
 use Rattle.codec.proofs.Bytes.{AllBytes·drop}

@@ -1,11 +1,5 @@
 -- Laws of numbers of two bytes each.
-use mathlib.Core.Path.{_≡_, refl, sym, ap, _∙_}
-use mathlib.Core.List.{List, [], _∷_, _++_, append-assoc, append-nil}
-use Prim.Native.Nat.{ℕ, zero, suc, _+_, _*_, _<_}
-use native.Mathlib.Numerals.{add-one}
-use native.Mathlib.Omega.{arith}
-use lib.ListN.{length, take, drop, getD}
-use lib.Seq.{drop-cons, drop-drop, take-suc}
+use Rattle.codec.proofs.Prelude.{_≡_, refl, sym, ap, _∙_, List, [], _∷_, _++_, append-assoc, append-nil, ℕ, zero, suc, _+_, _*_, _<_, add-one, arith, length, take, drop, getD, drop-cons, drop-drop, take-suc}
 use Rattle.compact_u64.specs.BigEndian.{bigEndian, valueOf}
 use Rattle.flat.specs.PathRecord.{shorts, shortsIn}
 

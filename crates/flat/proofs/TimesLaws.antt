@@ -1,13 +1,5 @@
 -- Marks and times as flat bytes, there and back; the parts of a whole.
-use mathlib.Core.Path.{_≡_, refl, sym, ap, _∙_}
-use mathlib.Core.List.{List, [], _∷_, _++_}
-use mathlib.Core.Bool.{Bool, true, false, cond, _&&_}
-use Prim.Native.Nat.{ℕ, zero, suc, _+_, _≤_}
-use native.Mathlib.Omega.{arith}
-use lib.Dec.{leb, eqb}
-use lib.ListN.{length, take, drop, getD, length-drop, take-append-drop}
-use lib.Seq.{take-all, drop-at, drop-drop, drop-cons}
-use borrow.Author.Tests.{eqb-true, ne-eqb}
+use Rattle.codec.proofs.Prelude.{_≡_, refl, sym, ap, _∙_, List, [], _∷_, _++_, Bool, true, false, cond, _&&_, ℕ, zero, suc, _+_, _≤_, arith, leb, eqb, length, take, drop, getD, length-drop, take-append-drop, take-all, drop-at, drop-drop, drop-cons, eqb-true, ne-eqb}
 use Rattle.codec.specs.Answers.{AllBytes}
 use Rattle.codec.specs.Header.{bit}
 use Rattle.codec.proofs.Bytes.{AllBytes·drop}

@@ -1,12 +1,5 @@
 -- What comparing two areas answers, test by test.
-use mathlib.Core.Path.{_≡_, refl}
-use mathlib.Core.List.{[], _∷_}
-use mathlib.Core.Bool.{Bool, true, false, cond, _&&_}
-use mathlib.Core.Logic.{⊎-elim}
-use Prim.Native.Nat.{ℕ}
-use native.Mathlib.Omega.{arith}
-use denote.Enum.Declared.{tagOf}
-use types.Run.{OneOf}
+use Rattle.codec.proofs.Prelude.{_≡_, refl, [], _∷_, Bool, true, false, cond, _&&_, ⊎-elim, ℕ, arith, tagOf, OneOf}
 use Rattle.path.specs.declared.Compared.{Compared}
 use Rattle.path.specs.declared.Compared.the-variants as compared
 use Rattle.path.specs.Record.{componentsOf, wellFormed}

@@ -1,10 +1,5 @@
 -- Records of areas and their values: each well-formed record is the record of its values, and back.
-use mathlib.Core.Path.{_≡_, refl}
-use mathlib.Core.List.{List}
-use mathlib.Core.Bool.{Bool, true, false, cond}
-use mathlib.Core.Option.{Option, none, some}
-use Prim.Native.Nat.{ℕ}
-use lib.ListN.{length, replicate}
+use Rattle.codec.proofs.Prelude.{_≡_, refl, List, Bool, true, false, cond, Option, none, some, ℕ, length, replicate}
 use Rattle.codec.proofs.Bytes.{AllBytes·zeros}
 use Rattle.codec.specs.Answers.{AllBytes}
 use Rattle.codec.specs.Bytes.{sameBytes}

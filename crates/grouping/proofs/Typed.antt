@@ -1,14 +1,6 @@
 -- What the language says of a record, from what owning one tells.
-use mathlib.Core.Path.{_≡_}
-use mathlib.Core.List.{List}
-use Prim.Native.Nat.{ℕ, _≤_}
-use native.Mathlib.Omega.{arith}
-use lib.ListN.{length}
-use mir.Val.{Val}
-use denote.Shadow.{shadow}
-use denote.Laws.{Is}
+use Rattle.codec.proofs.Prelude.{_≡_, List, ℕ, _≤_, arith, length, Val, shadow, Is, length-unmapped}
 use denote.Struct.Declared as struct
-use borrow.Author.Needs.{length-unmapped}
 use Rattle.grouping.specs.declared.RangeEnd.{RangeEnd}
 use Rattle.grouping.specs.declared.RangeEnd.the-variants.{Closed, Open}
 use Rattle.grouping.specs.declared.TimeRange.{TimeRange}

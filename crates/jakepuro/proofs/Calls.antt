@@ -1,10 +1,6 @@
 -- Laws of what a call tells and leaves.
-use mathlib.Core.Path.{_≡_, refl, _∙_}
-use mathlib.Core.List.{List, [], _∷_}
-use Prim.Native.Nat.{ℕ}
+use Rattle.codec.proofs.Prelude.{_≡_, refl, _∙_, List, [], _∷_, ℕ, OneOf, length}
 use denote.Enum.Declared as declared
-use types.Run.{OneOf}
-use lib.ListN.{length}
 use Rattle.codec.specs.Answers.{Answer, Outcome, answerOf, outcomeOf}
 use Rattle.codec.specs.Format.{Format, writeAnswer, writeBuffer}
 use Rattle.codec.specs.declared.Decoded.{Decoded}

@@ -1,9 +1,5 @@
 -- Laws of numbers whose tag's width crosses as its bits.
-use mathlib.Core.Path.{_≡_}
-use mathlib.Core.List.{List}
-use mathlib.Core.Bool.{Bool, true, false}
-use Prim.Native.Nat.{ℕ}
-use lib.ListN.{length}
+use Rattle.codec.proofs.Prelude.{_≡_, List, Bool, true, false, ℕ, length}
 use Rattle.codec.specs.Answers.{Outcome, refused}
 use Rattle.codec.specs.Format.{allowed, barred, putAnswer, putBuffer, writeAnswer, writeBuffer}
 use Rattle.compact_u64.specs.declared.TagWidth.{TagWidth}

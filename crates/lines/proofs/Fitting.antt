@@ -1,13 +1,5 @@
 -- Laws of answering lines while there is room, for the loop that answers the whole lines of a text.
-use mathlib.Core.Path.{_≡_, refl, sym, ap, _∙_}
-use mathlib.Core.List.{List, [], _∷_, _++_}
-use mathlib.Core.Bool.{Bool, true, false, cond}
-use Prim.Native.Nat.{ℕ, _+_, _-_, _≤_, _<_}
-use native.Mathlib.Omega.{arith}
-use lib.Dec.{ltb}
-use borrow.Author.Tests.{lt-ltb, le-ltb}
-use lib.ListN.{length, take, drop}
-use lib.Seq.{drop-drop}
+use Rattle.codec.proofs.Prelude.{_≡_, refl, sym, ap, _∙_, List, [], _∷_, _++_, Bool, true, false, cond, ℕ, _+_, _-_, _≤_, _<_, arith, ltb, lt-ltb, le-ltb, length, take, drop, drop-drop}
 use Rattle.text.specs.Parts.{before}
 use Rattle.lines.specs.Lines.{linesOf, wholeLines, span, fitting, fittingLines}
 use Rattle.lines.proofs.Lines.{whole-none, whole-next, lines-next, span-append, span-zero}

@@ -1,14 +1,5 @@
 -- Laws of bytes moved to the front of a buffer, and of what is kept.
-use mathlib.Core.Path.{_≡_, refl, sym, ap, _∙_}
-use mathlib.Core.List.{List, []}
-use mathlib.Core.Bool.{Bool, true, false, cond}
-use Prim.Native.Nat.{ℕ, suc, _+_, _-_, _≤_, _<_, min}
-use native.Mathlib.Numerals.{add-one}
-use native.Mathlib.Omega.{arith}
-use lib.Dec.{ltb, leb}
-use borrow.Author.Tests.{ltb-true, ltb-false, le-leb, lt-leb}
-use lib.ListN.{length, take, drop, set, getD, length-drop, drop-of-length-le}
-use lib.Seq.{drop-drop, drop-cons, drop-set-lt, drop-at, getD-drop, getD-take, length-take-le, take-add, take-take, take-all, take-nil}
+use Rattle.codec.proofs.Prelude.{_≡_, refl, sym, ap, _∙_, List, [], Bool, true, false, cond, ℕ, suc, _+_, _-_, _≤_, _<_, min, add-one, arith, ltb, leb, ltb-true, ltb-false, le-leb, lt-leb, length, take, drop, set, getD, length-drop, drop-of-length-le, drop-drop, drop-cons, drop-set-lt, drop-at, getD-drop, getD-take, length-take-le, take-add, take-take, take-all, take-nil}
 use Rattle.text.specs.Buffer.{overAt}
 use Rattle.text.proofs.Buffer.{overAt-next, overAt-none}
 use Rattle.lines.specs.Lines.{wholeLines, span}

@@ -1,12 +1,5 @@
 -- Laws of the lines of a text.
-use mathlib.Core.Path.{_≡_, refl, sym, ap, _∙_}
-use mathlib.Core.List.{List, [], _∷_, _++_, append-assoc}
-use mathlib.Core.Bool.{Bool, true, false, cond}
-use Prim.Native.Nat.{ℕ, suc, _+_, _≤_, _<_}
-use native.Mathlib.Omega.{arith}
-use lib.Dec.{eqb}
-use lib.ListN.{length, take, drop}
-use lib.Seq.{drop-drop}
+use Rattle.codec.proofs.Prelude.{_≡_, refl, sym, ap, _∙_, List, [], _∷_, _++_, append-assoc, Bool, true, false, cond, ℕ, suc, _+_, _≤_, _<_, arith, eqb, length, take, drop, drop-drop}
 use Rattle.text.specs.Parts.{before, onFirst}
 use Rattle.lines.specs.Lines.{linesOf, onWhole, wholeLines, span, answers}
 

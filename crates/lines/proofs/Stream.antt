@@ -1,13 +1,6 @@
 -- The claim of specs/Laws.antt: the answers of a stream are those to the lines of the whole.
-use mathlib.Core.Path.{_≡_, refl, sym, ap, _∙_}
-use mathlib.Core.List.{List, [], _∷_, _++_, append-assoc, append-nil, flatten}
-use mathlib.Core.Bool.{Bool, true, false, cond}
-use Prim.Native.Nat.{ℕ, zero, suc, _<_}
-use native.Mathlib.Omega.{arith}
-use lib.Dec.{ltb, eqb}
-use borrow.Author.Tests.{ltb-true, ltb-false}
-use lib.ListN.{length, take, drop}
-use lib.Seq.{length-take-le, take-all}
+use Rattle.codec.proofs.Prelude.{_≡_, refl, sym, ap, _∙_, List, [], _∷_, _++_, append-assoc, append-nil, Bool, true, false, cond, ℕ, zero, suc, _<_, arith, ltb, eqb, ltb-true, ltb-false, length, take, drop, length-take-le, take-all}
+use mathlib.Core.List.{flatten}
 use Rattle.text.specs.Parts.{onFirst}
 use Rattle.lines.specs.Lines.{linesOf, onWhole, wholeLines, span, answers, fittingLines}
 use Rattle.lines.specs.Stream.{keptAfter, stream, Run, answered, more, ended}

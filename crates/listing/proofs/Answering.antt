@@ -1,9 +1,5 @@
 -- Laws of a line's answer: by its length and its mode.
-use mathlib.Core.Path.{_≡_}
-use mathlib.Core.List.{List}
-use Prim.Native.Nat.{ℕ, _≤_, _<_}
-use borrow.Author.Tests.{le-leb, lt-leb}
-use lib.ListN.{length}
+use Rattle.codec.proofs.Prelude.{_≡_, List, ℕ, _≤_, _<_, le-leb, lt-leb, length}
 use Rattle.text.specs.Parts.{partAt}
 use Rattle.case_text.specs.Texts.{six, ended}
 use Rattle.case_text.specs.declared.Op.{Op}

@@ -1,14 +1,5 @@
 -- Laws of builders.
-use mathlib.Core.Path.{_≡_, refl, sym, ap, _∙_}
-use mathlib.Core.List.{List, [], _∷_, _++_, map, append-assoc, append-nil, map-append}
-use mathlib.Core.Bool.{Bool, true, false, cond}
-use Prim.Native.Nat.{ℕ, suc, _+_, _-_, _≤_, _<_}
-use native.Mathlib.Omega.{arith}
-use lib.Dec.{leb, ltb}
-use borrow.Author.Tests.{leb-true, leb-false, le-leb, lt-leb, ltb-true, lt-ltb, eqb-true}
-use borrow.Rule.Slice.PartMut.{putMid}
-use lib.ListN.{length, take, drop, set, replicate, length-append, length-drop, length-map}
-use lib.Seq.{take-at, take-take, drop-append-add, set-at}
+use Rattle.codec.proofs.Prelude.{_≡_, refl, sym, ap, _∙_, List, [], _∷_, _++_, map, append-assoc, append-nil, map-append, Bool, true, false, cond, ℕ, suc, _+_, _-_, _≤_, _<_, arith, leb, ltb, leb-true, leb-false, le-leb, lt-leb, ltb-true, lt-ltb, eqb-true, putMid, length, take, drop, set, replicate, length-append, length-drop, length-map, take-at, take-take, drop-append-add, set-at}
 use Rattle.path.specs.declared.Path.{Path}
 use Rattle.path.specs.declared.PathBuilder.{PathBuilder}
 use Rattle.path.specs.declared.Appended.the-variants as appended

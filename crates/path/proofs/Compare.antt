@@ -1,13 +1,5 @@
 -- Comparing two records component by component: what is known after k components that both have.
-use mathlib.Core.Path.{_≡_, refl, sym, ap, _∙_}
-use mathlib.Core.List.{List}
-use mathlib.Core.Bool.{Bool, true, false, cond, _&&_}
-use Prim.Native.Nat.{ℕ, suc, _+_, _≤_, _<_}
-use native.Mathlib.Numerals.{add-one}
-use native.Mathlib.Omega.{arith}
-use lib.Dec.{eqb}
-use lib.ListN.{length, take, drop, getD, length-drop, drop-of-length-le}
-use lib.Seq.{length-take-le, getD-take, getD-drop, take-suc}
+use Rattle.codec.proofs.Prelude.{_≡_, refl, sym, ap, _∙_, List, Bool, true, false, cond, _&&_, ℕ, suc, _+_, _≤_, _<_, add-one, arith, eqb, length, take, drop, getD, length-drop, drop-of-length-le, length-take-le, getD-take, getD-drop, take-suc}
 use Rattle.path.specs.declared.Path.{Path}
 use Rattle.path.specs.declared.ComponentCount.the-variants as count
 use Rattle.path.specs.declared.Compared.the-variants as compared

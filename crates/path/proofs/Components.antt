@@ -1,12 +1,5 @@
 -- The components of a well-formed record, one by one: where each starts, how long it is, and what is left after it.
-use mathlib.Core.Path.{_≡_, sym, _∙_}
-use mathlib.Core.List.{List, _∷_}
-use mathlib.Core.Bool.{true}
-use Prim.Native.Nat.{ℕ, _+_, _-_, _≤_, _<_}
-use native.Mathlib.Numerals.{add-one}
-use native.Mathlib.Omega.{arith}
-use lib.ListN.{length, take, drop, getD, length-drop}
-use lib.Seq.{drop-cons, drop-drop, length-take-le, getD-take, take-suc, take-take, take-all}
+use Rattle.codec.proofs.Prelude.{_≡_, sym, _∙_, List, _∷_, true, ℕ, _+_, _-_, _≤_, _<_, add-one, arith, length, take, drop, getD, length-drop, drop-cons, drop-drop, length-take-le, getD-take, take-suc, take-take, take-all}
 use Rattle.path.specs.declared.Path.{Path}
 use Rattle.path.specs.Limits.{totalOf}
 use Rattle.path.specs.Record.{sumOf, used, componentsOf, wellFormed, TypedPath, lengthAt, startAt}

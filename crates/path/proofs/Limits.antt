@@ -1,12 +1,5 @@
 -- Laws of components and their limits.
-use mathlib.Core.Path.{_≡_, refl, sym, ap, _∙_}
-use mathlib.Core.List.{List, [], _∷_, _++_}
-use mathlib.Core.Bool.{true}
-use Prim.Native.Nat.{ℕ, zero, suc, _+_, _≤_}
-use native.Mathlib.Omega.{arith}
-use lib.Dec.{leb}
-use borrow.Author.Tests.{leb-true, le-leb}
-use lib.ListN.{length, take, drop, length-take, take-append-drop}
+use Rattle.codec.proofs.Prelude.{_≡_, refl, sym, ap, _∙_, List, [], _∷_, _++_, true, ℕ, zero, suc, _+_, _≤_, arith, leb, leb-true, le-leb, length, take, drop, length-take, take-append-drop}
 use Rattle.codec.specs.Writings.{All}
 use Rattle.path.specs.Limits.{totalOf, limits, allShort, pathOk, Component, PathOk, TypedComponents}
 use Rattle.codec.proofs.Tests.{and-left, and-right}

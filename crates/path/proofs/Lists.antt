@@ -1,16 +1,5 @@
 -- Laws of lists of lengths, and of bytes cut by them.
-use mathlib.Core.Path.{_≡_, refl, sym, ap, _∙_}
-use mathlib.Core.List.{List, [], _∷_, _++_, map, append-assoc}
-use mathlib.Core.Bool.{true, _&&_}
-use Prim.Native.Nat.{ℕ, zero, suc, _+_, _-_, _*_, _≤_, _<_}
-use native.Mathlib.Nat.{suc-mul, sub-zero, zero-sub}
-use native.Mathlib.Numerals.{add-one}
-use native.Mathlib.Omega.{arith}
-use lib.Dec.{leb}
-use borrow.Author.Tests.{leb-true}
-use borrow.Rule.Slice.PartMut.{putMid}
-use lib.ListN.{length, take, drop, getD, replicate, length-append, length-drop, drop-of-length-le, take-append-drop}
-use lib.Seq.{take-append-seam, drop-append-seam, drop-append-add, length-take-le, take-add, take-all, drop-cons, drop-drop, paste}
+use Rattle.codec.proofs.Prelude.{_≡_, refl, sym, ap, _∙_, List, [], _∷_, _++_, map, append-assoc, true, _&&_, ℕ, zero, suc, _+_, _-_, _*_, _≤_, _<_, suc-mul, sub-zero, zero-sub, add-one, arith, leb, leb-true, putMid, length, take, drop, getD, replicate, length-append, length-drop, drop-of-length-le, take-append-drop, take-append-seam, drop-append-seam, drop-append-add, length-take-le, take-add, take-all, drop-cons, drop-drop, paste}
 use Rattle.path.specs.Limits.{totalOf}
 use Rattle.path.specs.Record.{sumOf, joined, cutUp, allAtMost}
 use Rattle.codec.specs.Format.{over}

@@ -1,13 +1,5 @@
 -- Laws of the components that two paths share.
-use mathlib.Core.Path.{_≡_, refl, sym, ap, _∙_}
-use mathlib.Core.List.{List, [], _∷_}
-use mathlib.Core.Bool.{Bool, true, false, cond}
-use Prim.Native.Nat.{ℕ, suc, _≤_}
-use native.Mathlib.Omega.{arith}
-use lib.Dec.{eqb}
-use borrow.Author.Tests.{eqb-true, eqb-false, eq-eqb, ne-eqb}
-use lib.ListN.{length, take}
-use lib.Seq.{take-all}
+use Rattle.codec.proofs.Prelude.{_≡_, refl, sym, ap, _∙_, List, [], _∷_, Bool, true, false, cond, ℕ, suc, _≤_, arith, eqb, eqb-true, eqb-false, eq-eqb, ne-eqb, length, take, take-all}
 use Rattle.codec.specs.Bytes.{sameBytes}
 use Rattle.codec.proofs.SameBytes.{same-eq, same-refl}
 use Rattle.path.specs.Prefix.{shared, isPrefix, samePath}

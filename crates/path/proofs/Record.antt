@@ -1,13 +1,5 @@
 -- Records and lists of components: every well-formed record is the record of its components, and back.
-use mathlib.Core.Path.{_≡_, refl, ap, _∙_}
-use mathlib.Core.List.{List, [], _∷_, _++_, map}
-use mathlib.Core.Bool.{true}
-use Prim.Native.Nat.{ℕ, _-_, _≤_}
-use native.Mathlib.Omega.{arith}
-use lib.Dec.{leb, eqb}
-use borrow.Author.Tests.{leb-true, le-leb, eqb-true, eq-eqb}
-use lib.ListN.{length, take, drop, replicate, length-append, length-drop, length-map, length-replicate}
-use lib.Seq.{take-at, drop-at, length-take-le}
+use Rattle.codec.proofs.Prelude.{_≡_, refl, ap, _∙_, List, [], _∷_, _++_, map, true, ℕ, _-_, _≤_, arith, leb, eqb, leb-true, le-leb, eqb-true, eq-eqb, length, take, drop, replicate, length-append, length-drop, length-map, length-replicate, take-at, drop-at, length-take-le}
 use Rattle.codec.specs.Answers.{AllBytes}
 use Rattle.codec.specs.Writings.{All}
 use Rattle.codec.proofs.Bytes.{AllBytes·drop, AllBytes·take, AllBytes·append, AllBytes·zeros}

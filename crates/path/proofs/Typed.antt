@@ -1,15 +1,6 @@
 -- What the language says of a record, from what owning one tells.
-use mathlib.Core.List.{List, [], _∷_, map}
-use Prim.Native.Nat.{ℕ, zero, suc}
-use native.Mathlib.Omega.{arith}
-use mir.Syntax.{w8}
-use mir.Val.{Val}
-use denote.Shadow.{shadow}
-use denote.Plain.{UInt}
-use denote.Array.{each}
-use denote.Laws.{Is}
+use Rattle.codec.proofs.Prelude.{List, [], _∷_, map, ℕ, zero, suc, arith, w8, Val, shadow, UInt, each, Is, length-unmapped}
 use denote.Struct.Declared as struct
-use borrow.Author.Needs.{length-unmapped}
 use Rattle.codec.specs.Answers.{AllBytes}
 use Rattle.path.specs.declared.Path.{Path}
 use Rattle.path.specs.Record.{TypedPath}

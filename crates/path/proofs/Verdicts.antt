@@ -1,8 +1,5 @@
 -- A comparison that was answered gives the verdict on a writing.
-use mathlib.Core.Path.{_≡_, refl}
-use mathlib.Core.Bool.{Bool, true, false, cond}
-use Prim.Native.Nat.{ℕ}
-use native.Mathlib.Omega.{arith}
+use Rattle.codec.proofs.Prelude.{_≡_, refl, Bool, true, false, cond, ℕ, arith}
 use Rattle.codec.specs.Format.{allowed, barred, verdictBy}
 use Rattle.path.specs.declared.Compared.the-variants as compared
 use Rattle.path.specs.Answers.{verdict}

@@ -1,15 +1,5 @@
 -- Components after those of a prefix: what the definition answers at each exit of the code.
-use mathlib.Core.Path.{_≡_, refl, sym, ap, _∙_}
-use mathlib.Core.List.{List, [], _++_, map, append-assoc, map-append}
-use mathlib.Core.Bool.{Bool, true, false}
-use Prim.Native.Nat.{ℕ, _+_, _-_, _≤_, _<_}
-use native.Mathlib.Nat.{zero-add}
-use native.Mathlib.Omega.{arith}
-use lib.Dec.{leb, eqb}
-use borrow.Author.Tests.{le-leb, lt-leb, leb-true, eqb-true}
-use borrow.Rule.Slice.PartMut.{putMid}
-use lib.ListN.{length, take, drop, replicate, length-append, length-map, length-replicate}
-use lib.Seq.{take-all, take-append-seam, drop-append-add}
+use Rattle.codec.proofs.Prelude.{_≡_, refl, sym, ap, _∙_, List, [], _++_, map, append-assoc, map-append, Bool, true, false, ℕ, _+_, _-_, _≤_, _<_, zero-add, arith, leb, eqb, le-leb, lt-leb, leb-true, eqb-true, putMid, length, take, drop, replicate, length-append, length-map, length-replicate, take-all, take-append-seam, drop-append-add}
 use Rattle.codec.specs.Answers.{Answer, AllBytes, accepted, refused}
 use Rattle.codec.specs.Format.{over}
 use Rattle.codec.specs.Reader.{shift, named, guard, mapped}

@@ -1,15 +1,5 @@
 -- Components put into what is free of a path's two arrays, and those still to be read.
-use mathlib.Core.Path.{_≡_, refl, sym, _∙_}
-use mathlib.Core.List.{List, [], _∷_, _++_, map, append-assoc, append-nil, map-append}
-use mathlib.Core.Bool.{Bool}
-use Prim.Native.Nat.{ℕ, zero, suc, _+_, _-_, _≤_, _<_}
-use native.Mathlib.Nat.{add-assoc}
-use native.Mathlib.Numerals.{add-one}
-use native.Mathlib.Omega.{arith}
-use borrow.Author.Tests.{le-leb, lt-leb, ne-eqb}
-use borrow.Rule.Slice.PartMut.{putMid}
-use lib.ListN.{length, take, drop, getD, set, length-append, length-drop, length-map}
-use lib.Seq.{drop-cons, drop-drop, set-at}
+use Rattle.codec.proofs.Prelude.{_≡_, refl, sym, _∙_, List, [], _∷_, _++_, map, append-assoc, append-nil, map-append, Bool, ℕ, zero, suc, _+_, _-_, _≤_, _<_, add-assoc, add-one, arith, le-leb, lt-leb, ne-eqb, putMid, length, take, drop, getD, set, length-append, length-drop, length-map, drop-cons, drop-drop, set-at}
 use Rattle.codec.specs.Answers.{Answer, accepted, refused}
 use Rattle.codec.specs.Format.{allowed, over, putBuffer}
 use Rattle.codec.specs.Reader.{shift, named}

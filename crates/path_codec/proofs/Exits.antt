@@ -1,17 +1,6 @@
 -- What the readers' definitions answer at each exit of the code, at plain values.
-use mathlib.Core.Path.{_≡_, refl}
-use mathlib.Core.List.{List, [], _∷_}
-use mathlib.Core.Bool.{Bool, true, false}
-use mathlib.Core.Logic.{⊎-elim}
-use Prim.Native.Nat.{ℕ, _+_, _-_, _≤_, _<_}
-use native.Mathlib.Numerals.{add-one}
-use native.Mathlib.Omega.{arith}
+use Rattle.codec.proofs.Prelude.{_≡_, refl, List, [], _∷_, Bool, true, false, ⊎-elim, ℕ, _+_, _-_, _≤_, _<_, add-one, arith, OneOf, leb, le-leb, lt-leb, leb-true, leb-false, length, drop, getD, drop-of-length-le, length-drop, drop-cons, drop-drop}
 use denote.Enum.Declared as declared
-use types.Run.{OneOf}
-use lib.Dec.{leb}
-use borrow.Author.Tests.{le-leb, lt-leb, leb-true, leb-false}
-use lib.ListN.{length, drop, getD, drop-of-length-le, length-drop}
-use lib.Seq.{drop-cons, drop-drop}
 use Rattle.codec.specs.Answers.{Answer, accepted, refused, answerOf}
 use Rattle.codec.specs.Reader.{shift, named, guard}
 use Rattle.compact_u64.specs.declared.DecodedU64.{DecodedU64}

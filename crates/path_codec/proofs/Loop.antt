@@ -1,14 +1,5 @@
 -- The loop that reads components into both arrays: its invariant, its turns, and its end.
-use mathlib.Core.Path.{_≡_, refl, sym, _∙_}
-use mathlib.Core.List.{List, [], _∷_, _++_}
-use mathlib.Core.Bool.{Bool, true, false}
-use Prim.Native.Nat.{ℕ, _+_, _-_, _*_, _≤_, _<_}
-use native.Mathlib.Omega.{arith}
-use lib.Dec.{leb}
-use borrow.Author.Tests.{leb-true, leb-false}
-use borrow.Rule.Slice.PartMut.{putMid}
-use lib.ListN.{length, take, drop, set, length-drop, length-append}
-use lib.Seq.{length-take-le}
+use Rattle.codec.proofs.Prelude.{_≡_, refl, sym, _∙_, List, [], _∷_, _++_, Bool, true, false, ℕ, _+_, _-_, _*_, _≤_, _<_, arith, leb, leb-true, leb-false, putMid, length, take, drop, set, length-drop, length-append, length-take-le}
 use Rattle.codec.specs.Answers.{refused}
 use Rattle.codec.specs.Format.{allowed, putBuffer}
 use Rattle.path.specs.Limits.{totalOf}

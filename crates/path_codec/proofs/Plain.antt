@@ -1,11 +1,5 @@
 -- The plain path is a lawful format, and reads back leniently too.
-use mathlib.Core.Path.{_≡_}
-use mathlib.Core.List.{List}
-use mathlib.Core.Bool.{Bool, true}
-use Prim.Native.Nat.{ℕ}
-use native.Mathlib.Omega.{arith}
-use borrow.Author.Tests.{le-leb}
-use lib.ListN.{length}
+use Rattle.codec.proofs.Prelude.{_≡_, List, Bool, true, ℕ, arith, le-leb, length}
 use Rattle.codec.specs.Format.{Valid, Writes, verdictBy}
 use Rattle.codec.specs.Reader.{Reader, mapped}
 use Rattle.codec.specs.Reads.{ReadsBack}

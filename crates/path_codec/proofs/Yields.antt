@@ -1,10 +1,5 @@
 -- What every path has that is read, in either mode: a plain one is well formed, one after a prefix within the limits.
-use mathlib.Core.Path.{_≡_, refl}
-use mathlib.Core.List.{List, _++_}
-use mathlib.Core.Bool.{Bool, true}
-use Prim.Native.Nat.{ℕ, _+_}
-use native.Mathlib.Omega.{arith}
-use lib.ListN.{length, length-append}
+use Rattle.codec.proofs.Prelude.{_≡_, refl, List, _++_, Bool, true, ℕ, _+_, arith, length, length-append}
 use Rattle.codec.specs.Reads.{Yields}
 use Rattle.codec.proofs.Yields.{yields-as, guard-yields, mapped-yields}
 use Rattle.path.specs.Limits.{totalOf, limits, Component, PathOk}

@@ -1,13 +1,5 @@
 -- The laws of a path against a path within the limits.
-use mathlib.Core.Path.{_≡_, refl, sym, ap, _∙_}
-use mathlib.Core.List.{List, [], _++_}
-use mathlib.Core.Bool.{Bool, true, false, cond}
-use Prim.Native.Nat.{ℕ, _+_, _≤_, _*_}
-use native.Mathlib.Omega.{arith}
-use lib.Dec.{leb, eqb}
-use borrow.Author.Tests.{leb-true, eqb-true, le-leb, eq-eqb}
-use lib.ListN.{length, take, drop, length-append, length-drop, take-append-drop}
-use lib.Seq.{length-take-le, drop-at}
+use Rattle.codec.proofs.Prelude.{_≡_, refl, sym, ap, _∙_, List, [], _++_, Bool, true, false, cond, ℕ, _+_, _≤_, _*_, arith, leb, eqb, leb-true, eqb-true, le-leb, eq-eqb, length, take, drop, length-append, length-drop, take-append-drop, length-take-le, drop-at}
 use Rattle.codec.specs.Answers.{refused}
 use Rattle.codec.specs.Reads.{Reads, ReadsBack, Relaxes, Bounded, Joined, Mapped, Tested}
 use Rattle.codec.proofs.Readers.{reads-as, then-reads, checked-reads, mapped-reads}

@@ -1,13 +1,5 @@
 -- What the definitions answer at each exit of the code.
-use mathlib.Core.Path.{_≡_, refl, _∙_}
-use mathlib.Core.List.{List, _++_}
-use mathlib.Core.Bool.{Bool, true, false, cond}
-use Prim.Native.Nat.{ℕ, _+_, _≤_, _<_}
-use native.Mathlib.Omega.{arith}
-use lib.Dec.{eqb}
-use borrow.Author.Tests.{le-leb, lt-leb}
-use lib.ListN.{length, take, drop, length-append}
-use lib.Seq.{drop-drop}
+use Rattle.codec.proofs.Prelude.{_≡_, refl, _∙_, List, _++_, Bool, true, false, cond, ℕ, _+_, _≤_, _<_, arith, eqb, le-leb, lt-leb, length, take, drop, length-append, drop-drop}
 use Rattle.codec.specs.Reads.{Bounded}
 use Rattle.codec.proofs.Bounded.{checked-bounded, guard-bounded, mapped-bounded}
 use Rattle.codec.specs.Answers.{Answer, AllBytes, accepted, refused}

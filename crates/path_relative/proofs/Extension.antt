@@ -1,11 +1,5 @@
 -- The laws of an extension of a path within the limits.
-use mathlib.Core.Path.{_≡_, sym, ap, _∙_}
-use mathlib.Core.List.{List, [], _++_}
-use mathlib.Core.Bool.{Bool, true, false}
-use Prim.Native.Nat.{ℕ, _+_, _≤_}
-use native.Mathlib.Omega.{arith}
-use lib.ListN.{length, drop, length-drop, take-append-drop}
-use lib.Seq.{take-append-seam, drop-append-seam}
+use Rattle.codec.proofs.Prelude.{_≡_, sym, ap, _∙_, List, [], _++_, Bool, true, false, ℕ, _+_, _≤_, arith, length, drop, length-drop, take-append-drop, take-append-seam, drop-append-seam}
 use Rattle.codec.specs.Answers.{refused}
 use Rattle.codec.specs.Reads.{Reads, ReadsBack, Relaxes, Bounded, Mapped, Tested}
 use Rattle.codec.proofs.Readers.{reads-as, checked-reads, mapped-reads}

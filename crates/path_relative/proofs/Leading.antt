@@ -1,14 +1,5 @@
 -- The leading components of a reference: their parts, and what a path shares that begins with them.
-use mathlib.Core.Path.{_≡_, refl, sym, ap, _∙_}
-use mathlib.Core.List.{List, [], _∷_, _++_, append-nil}
-use mathlib.Core.Bool.{Bool, true, false, cond}
-use Prim.Native.Nat.{ℕ, zero, suc, _+_, _≤_, _<_}
-use native.Mathlib.Nat.{zero-add}
-use native.Mathlib.Omega.{arith}
-use lib.Dec.{leb, eqb}
-use borrow.Author.Tests.{le-leb, eq-eqb, ne-eqb}
-use lib.ListN.{length, take, drop, drop-of-length-le}
-use lib.Seq.{take-at, take-take, drop-at, length-take-le}
+use Rattle.codec.proofs.Prelude.{_≡_, refl, sym, ap, _∙_, List, [], _∷_, _++_, append-nil, Bool, true, false, cond, ℕ, zero, suc, _+_, _≤_, _<_, zero-add, arith, leb, eqb, le-leb, eq-eqb, ne-eqb, length, take, drop, drop-of-length-le, take-at, take-take, drop-at, length-take-le}
 use Rattle.codec.specs.Answers.{AllBytes, accepted}
 use Rattle.codec.specs.Bytes.{sameBytes}
 use Rattle.codec.specs.Reader.{guard, mapped}

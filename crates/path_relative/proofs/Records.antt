@@ -1,8 +1,5 @@
 -- Both encodings are lawful against every well-formed path, and read back leniently too.
-use mathlib.Core.Path.{_≡_}
-use mathlib.Core.List.{List}
-use mathlib.Core.Bool.{Bool, true}
-use Prim.Native.Nat.{ℕ}
+use Rattle.codec.proofs.Prelude.{_≡_, List, Bool, true, ℕ}
 use Rattle.codec.specs.Format.{Writes}
 use Rattle.codec.specs.Reads.{ReadsBack}
 use Rattle.codec.specs.Lawful.{Lawful}

@@ -1,13 +1,5 @@
 -- What comparing the path with its reference tells the writers.
-use mathlib.Core.Path.{_≡_, refl, sym, ap, _∙_}
-use mathlib.Core.List.{List, _++_, append-assoc}
-use mathlib.Core.Bool.{Bool, true, false, cond, _&&_}
-use Prim.Native.Nat.{ℕ, _+_, _≤_, _<_}
-use native.Mathlib.Omega.{arith}
-use lib.Dec.{eqb, leb}
-use borrow.Author.Tests.{eqb-true, leb-false}
-use lib.ListN.{length, take, drop, length-append, length-drop, take-append-drop}
-use lib.Seq.{drop-at, drop-drop, length-take-le}
+use Rattle.codec.proofs.Prelude.{_≡_, refl, sym, ap, _∙_, List, _++_, append-assoc, Bool, true, false, cond, _&&_, ℕ, _+_, _≤_, _<_, arith, eqb, leb, eqb-true, leb-false, length, take, drop, length-append, length-drop, take-append-drop, drop-at, drop-drop, length-take-le}
 use Rattle.codec.specs.Answers.{wrote, denied}
 use Rattle.codec.specs.Format.{Verdict, allowed, barred, over, putAnswer, putBuffer, writeAnswer, writeBuffer}
 use Rattle.codec.proofs.Lawful.{verdict-allowed}

@@ -1,12 +1,5 @@
 -- A path that is read against a well-formed path, or as its extension, is well formed, in either mode.
-use mathlib.Core.Path.{_≡_}
-use mathlib.Core.List.{List, _++_}
-use mathlib.Core.Bool.{Bool, true, cond}
-use Prim.Native.Nat.{ℕ}
-use native.Mathlib.Omega.{arith}
-use lib.Dec.{eqb}
-use lib.ListN.{length, take, length-append}
-use lib.Seq.{length-take-le}
+use Rattle.codec.proofs.Prelude.{_≡_, List, _++_, Bool, true, cond, ℕ, arith, eqb, length, take, length-append, length-take-le}
 use Rattle.codec.specs.Reads.{Yields}
 use Rattle.codec.proofs.Yields.{yields-as, then-yields, checked-yields, mapped-yields}
 use Rattle.compact_u64.specs.Number.{readStandalone}

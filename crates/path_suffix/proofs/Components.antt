@@ -1,12 +1,5 @@
 -- The laws of reading components.
-use mathlib.Core.Path.{_≡_, refl, ap}
-use mathlib.Core.List.{List, [], _∷_, _++_}
-use mathlib.Core.Bool.{Bool, true, false}
-use Prim.Native.Nat.{ℕ, zero, suc, _+_, _-_}
-use native.Mathlib.Omega.{arith}
-use lib.Dec.{leb, eqb}
-use borrow.Author.Tests.{leb-true, eqb-true, le-leb, eq-eqb}
-use lib.ListN.{length}
+use Rattle.codec.proofs.Prelude.{_≡_, refl, ap, List, [], _∷_, _++_, Bool, true, false, ℕ, zero, suc, _+_, _-_, arith, leb, eqb, leb-true, eqb-true, le-leb, eq-eqb, length}
 use Rattle.codec.specs.Reader.{give, someBytes, guard}
 use Rattle.codec.specs.Reads.{Reads, Relaxes, Bounded, Joined, Mapped, Nothing}
 use Rattle.codec.proofs.Readers.{reads-as, then-reads, mapped-reads, guard-reads, give-reads, someBytes-reads}

@@ -1,9 +1,5 @@
 -- The header of a suffix, and the sizes after it.
-use mathlib.Core.Path.{_≡_, refl}
-use mathlib.Core.List.{List, [], _∷_, _++_}
-use mathlib.Core.Bool.{Bool, true, false}
-use Prim.Native.Nat.{ℕ, _<_}
-use native.Mathlib.Omega.{arith}
+use Rattle.codec.proofs.Prelude.{_≡_, refl, List, [], _∷_, _++_, Bool, true, false, ℕ, _<_, arith}
 use Rattle.codec.specs.Header.{field, Layout, readHeader, HeaderAs}
 use Rattle.codec.specs.Reader.{oneByte}
 use Rattle.codec.specs.Reads.{Reads, Relaxes, Bounded, Joined, Mapped}

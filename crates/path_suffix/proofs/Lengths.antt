@@ -1,12 +1,5 @@
 -- Laws of a suffix by the lengths of its components: what is left to write, how long it is, and the suffix of a record.
-use mathlib.Core.Path.{_≡_, refl, sym, ap, _∙_}
-use mathlib.Core.List.{List, [], _∷_, _++_}
-use Prim.Native.Nat.{ℕ, zero, suc, _+_, _-_, _*_, _≤_, _<_}
-use native.Mathlib.Nat.{sub-zero, zero-sub}
-use native.Mathlib.Numerals.{add-one}
-use native.Mathlib.Omega.{arith}
-use lib.ListN.{length, take, drop, getD, length-append, length-drop, drop-of-length-le}
-use lib.Seq.{drop-cons, drop-drop, length-take-le, take-take}
+use Rattle.codec.proofs.Prelude.{_≡_, refl, sym, ap, _∙_, List, [], _∷_, _++_, ℕ, zero, suc, _+_, _-_, _*_, _≤_, _<_, sub-zero, zero-sub, add-one, arith, length, take, drop, getD, length-append, length-drop, drop-of-length-le, drop-cons, drop-drop, length-take-le, take-take}
 use Rattle.codec.specs.Format.{over}
 use Rattle.codec.proofs.Lending.{over-turn}
 use Rattle.compact_u64.specs.Number.{standaloneBytes}

@@ -1,8 +1,5 @@
 -- Orders of checks that the laws cannot see, since they tell 1 from 2: computed from the definition.
-use mathlib.Core.Path.{_≡_, refl}
-use mathlib.Core.List.{[], _∷_}
-use mathlib.Core.Bool.{true, false}
-use Prim.Native.Nat.{ℕ}
+use Rattle.codec.proofs.Prelude.{_≡_, refl, [], _∷_, true, false, ℕ}
 use Rattle.codec.specs.Answers.{refused}
 use Rattle.compact_u64.specs.Number.{minTag, encodingWidth, numberSaid, readNumber}
 use Rattle.path.specs.Limits.{limits}

@@ -1,10 +1,5 @@
 -- The laws of a suffix.
-use mathlib.Core.Path.{_≡_, refl}
-use mathlib.Core.List.{List, [], _∷_}
-use mathlib.Core.Bool.{Bool, true, false}
-use Prim.Native.Nat.{ℕ, _+_, _*_, _≤_}
-use native.Mathlib.Omega.{arith}
-use lib.ListN.{length, length-append}
+use Rattle.codec.proofs.Prelude.{_≡_, refl, List, [], _∷_, Bool, true, false, ℕ, _+_, _*_, _≤_, arith, length, length-append}
 use Rattle.codec.specs.Answers.{refused}
 use Rattle.codec.specs.Reads.{Reads, ReadsBack, Relaxes, Bounded, Joined, Tested}
 use Rattle.codec.proofs.Readers.{reads-as, then-reads, guard-reads}

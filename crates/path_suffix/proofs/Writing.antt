@@ -1,12 +1,5 @@
 -- Laws of the bytes that writers put: the components of a record one by one, a component after its length, the sizes, and a suffix by its parts.
-use mathlib.Core.Path.{_≡_, refl}
-use mathlib.Core.List.{List, _∷_, _++_}
-use mathlib.Core.Bool.{true, false}
-use Prim.Native.Nat.{ℕ, _+_, _-_, _≤_, _<_}
-use native.Mathlib.Omega.{arith}
-use borrow.Author.Tests.{le-leb, lt-leb}
-use lib.ListN.{length, take, drop, set, length-append, length-drop, length-set}
-use lib.Seq.{drop-at}
+use Rattle.codec.proofs.Prelude.{_≡_, refl, List, _∷_, _++_, true, false, ℕ, _+_, _-_, _≤_, _<_, arith, le-leb, lt-leb, length, take, drop, set, length-append, length-drop, length-set, drop-at}
 use Rattle.codec.specs.Format.{allowed, barred, over, putBuffer}
 use Rattle.codec.proofs.Lending.{put-over, over-then, over-cons}
 use Rattle.compact_u64.specs.Number.{numberBytes, standaloneBytes}

@@ -1,12 +1,5 @@
 -- What every suffix has that is read, in either mode: it is within the limits.
-use mathlib.Core.Path.{_≡_, refl, ap}
-use mathlib.Core.List.{[], _∷_}
-use mathlib.Core.Bool.{Bool}
-use Prim.Native.Nat.{ℕ, zero, suc, _+_, _-_}
-use native.Mathlib.Omega.{arith}
-use lib.Dec.{leb, eqb}
-use borrow.Author.Tests.{leb-true, eqb-true}
-use lib.ListN.{length}
+use Rattle.codec.proofs.Prelude.{_≡_, refl, ap, [], _∷_, Bool, ℕ, zero, suc, _+_, _-_, arith, leb, eqb, leb-true, eqb-true, length}
 use Rattle.codec.specs.Reader.{give}
 use Rattle.codec.specs.Reads.{Yields}
 use Rattle.codec.proofs.Yields.{yields-as, give-yields, someBytes-yields, then-yields, guard-yields, mapped-yields}

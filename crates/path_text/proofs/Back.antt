@@ -1,12 +1,5 @@
 -- There and back: what was printed is read as it was.
-use mathlib.Core.Path.{_≡_, refl, ap, _∙_}
-use mathlib.Core.List.{List, [], _∷_, _++_, map, append-nil}
-use mathlib.Core.Bool.{Bool, true, false, cond}
-use Prim.Native.Nat.{ℕ, _+_, _/_, _%_, _≤_, _<_}
-use native.Mathlib.Omega.{arith}
-use lib.Dec.{ltb, eqb}
-use borrow.Author.Tests.{ne-eqb}
-use lib.ListN.{length}
+use Rattle.codec.proofs.Prelude.{_≡_, refl, ap, _∙_, List, [], _∷_, _++_, map, append-nil, Bool, true, false, cond, ℕ, _+_, _/_, _%_, _≤_, _<_, arith, ltb, eqb, ne-eqb, length}
 use Rattle.io.specs.Digits.{glyph}
 use Rattle.codec.specs.Writings.{All}
 use Rattle.codec.specs.Bytes.{sameBytes}

@@ -1,7 +1,5 @@
 -- Worked lines: the smallest texts, and the limits on both sides.
-use mathlib.Core.Path.{_≡_, refl}
-use mathlib.Core.List.{[], _∷_}
-use lib.ListN.{replicate}
+use Rattle.codec.proofs.Prelude.{_≡_, refl, [], _∷_, replicate}
 use Rattle.text.specs.Parts.{parts}
 use Rattle.text.specs.Hex.{isHex, unhex, hexText, hexValue}
 use Rattle.path.specs.Limits.{pathOk}

@@ -1,12 +1,5 @@
 -- Laws of printing components one after another, and how long the text is.
-use mathlib.Core.Path.{_≡_, refl, sym}
-use mathlib.Core.List.{List, [], _∷_, _++_}
-use mathlib.Core.Bool.{Bool, true, false, cond}
-use Prim.Native.Nat.{ℕ, suc, _+_, _-_, _*_, _≤_, _<_}
-use native.Mathlib.Omega.{arith}
-use lib.Dec.{leb}
-use lib.ListN.{length, take, drop, length-append, drop-of-length-le}
-use lib.Seq.{take-at}
+use Rattle.codec.proofs.Prelude.{_≡_, refl, sym, List, [], _∷_, _++_, Bool, true, false, cond, ℕ, suc, _+_, _-_, _*_, _≤_, _<_, arith, leb, length, take, drop, length-append, drop-of-length-le, take-at}
 use Rattle.codec.specs.Format.{over}
 use Rattle.text.specs.Hex.{hexText}
 use Rattle.text.specs.Buffer.{overAt, putAt, placeAfter, Wrote}

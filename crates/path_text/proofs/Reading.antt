@@ -1,16 +1,5 @@
 -- Laws of reading components one after another.
-use mathlib.Core.Path.{_≡_, refl, sym, ap, _∙_}
-use mathlib.Core.List.{List, [], _∷_, _++_, map, append-assoc}
-use mathlib.Core.Bool.{Bool, true, false, cond}
-use mathlib.Core.Logic.{⊎-elim}
-use Prim.Native.Nat.{ℕ, _≤_}
-use types.Run.{OneOf}
-use denote.Enum.Declared.{tagOf}
-use native.Mathlib.Omega.{arith}
-use lib.Dec.{leb, ltb}
-use borrow.Author.Tests.{leb-true, le-leb, lt-leb, ltb-true, ltb-false}
-use lib.ListN.{length, take, length-append}
-use lib.Seq.{take-all}
+use Rattle.codec.proofs.Prelude.{_≡_, refl, sym, ap, _∙_, List, [], _∷_, _++_, map, append-assoc, Bool, true, false, cond, ⊎-elim, ℕ, _≤_, OneOf, tagOf, arith, leb, ltb, leb-true, le-leb, lt-leb, ltb-true, ltb-false, length, take, length-append, take-all}
 use Rattle.text.specs.Parts.{before, parts}
 use Rattle.text.specs.Hex.{isHex, unhex}
 use Rattle.text.proofs.Parts.{parts-last, parts-more}

@@ -1,12 +1,5 @@
 -- What the readers' definitions answer at each exit of the code.
-use mathlib.Core.Path.{_≡_, refl}
-use mathlib.Core.List.{List, [], _∷_}
-use mathlib.Core.Bool.{Bool, true, false, cond}
-use Prim.Native.Nat.{ℕ, _+_, _≤_, _<_}
-use native.Mathlib.Omega.{arith}
-use native.Mathlib.Numerals.{add-one}
-use lib.ListN.{length, drop, getD, length-drop}
-use lib.Seq.{drop-cons}
+use Rattle.codec.proofs.Prelude.{_≡_, refl, List, [], _∷_, Bool, true, false, cond, ℕ, _+_, _≤_, _<_, arith, add-one, length, drop, getD, length-drop, drop-cons}
 use Rattle.codec.specs.Answers.{Answer, accepted, refused, answerOf}
 use Rattle.codec.specs.declared.Decoded.{Decoded}
 use Rattle.codec.specs.declared.Decoded.the-variants as decoded

@@ -1,6 +1,5 @@
 -- The laws of a 3d range against a 3d range, on plain values.
-use mathlib.Core.Path.{refl}
-use mathlib.Core.List.{[], _∷_}
+use Rattle.codec.proofs.Prelude.{refl, [], _∷_}
 use Rattle.codec.specs.Bytes.{TypedId}
 use Rattle.codec.specs.Reader.{oneByte, andThen, mapped}
 use Rattle.codec.specs.Reads.{ReadsAs}

@@ -1,6 +1,5 @@
 -- 3d ranges against a well-formed 3d range read back. The reader takes more than one writing of a value, so nothing more is claimed.
-use mathlib.Core.Path.{_≡_}
-use mathlib.Core.Bool.{true, _&&_}
+use Rattle.codec.proofs.Prelude.{_≡_, true, _&&_}
 use Rattle.codec.specs.Format.{Writes}
 use Rattle.codec.specs.Reads.{ReadsAs, ReadsBack}
 use Rattle.codec.proofs.Tests.{and-right}

@@ -1,12 +1,5 @@
 -- What the writers' definitions say at each step of the code.
-use mathlib.Core.Path.{_≡_, refl, sym, ap, _∙_}
-use mathlib.Core.List.{List, [], _∷_, _++_, append-assoc, append-nil}
-use mathlib.Core.Bool.{Bool, true, false, true≢false, cond, _&&_}
-use mathlib.Core.Option.{none, some}
-use Prim.Native.Nat.{ℕ, _+_, _-_, _≤_}
-use native.Mathlib.Omega.{arith}
-use borrow.Rule.Slice.PartMut.{putMid}
-use lib.ListN.{length, take, drop, set, length-append, length-drop}
+use Rattle.codec.proofs.Prelude.{_≡_, refl, sym, ap, _∙_, List, [], _∷_, _++_, append-assoc, append-nil, Bool, true, false, true≢false, cond, _&&_, none, some, ℕ, _+_, _-_, _≤_, arith, putMid, length, take, drop, set, length-append, length-drop}
 use Rattle.codec.specs.Format.{allowed, barred, over, putBuffer}
 use Rattle.codec.proofs.Lending.{put-over, over-then, to-end, put-end}
 use Rattle.codec.proofs.Tests.{and-left, and-right}

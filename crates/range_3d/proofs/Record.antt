@@ -1,10 +1,5 @@
 -- Records of ranges and their values: each well-formed record is the record of its values.
-use mathlib.Core.Path.{_≡_, refl, sym, ap, _∙_}
-use mathlib.Core.List.{[]}
-use mathlib.Core.Bool.{Bool, true, false, cond}
-use mathlib.Core.Option.{none, some}
-use lib.Dec.{eqb}
-use borrow.Author.Tests.{eqb-true}
+use Rattle.codec.proofs.Prelude.{_≡_, refl, sym, ap, _∙_, [], Bool, true, false, cond, none, some, eqb, eqb-true}
 use Rattle.codec.specs.Bytes.{sameBytes, zeroId, TypedId}
 use Rattle.codec.proofs.SameBytes.{same-eq}
 use Rattle.codec.proofs.Tests.{and-left, and-right}

@@ -1,10 +1,6 @@
 -- What the language says of a record, from what owning one tells.
-use mathlib.Core.List.{List}
-use Prim.Native.Nat.{ℕ}
-use mir.Val.{Val}
-use denote.Laws.{Is}
+use Rattle.codec.proofs.Prelude.{List, ℕ, Val, Is, length-unmapped}
 use denote.Struct.Declared as struct
-use borrow.Author.Needs.{length-unmapped}
 use Rattle.path.proofs.Typed.{each-byte, typed}
 use Rattle.grouping.proofs.Typed.{typed-range}
 use Rattle.range_3d.specs.declared.SubspaceRange.{SubspaceRange}

@@ -1,12 +1,5 @@
 -- What the readers' definitions answer at each exit of the code.
-use mathlib.Core.Path.{_≡_, refl, sym, ap, _∙_}
-use mathlib.Core.List.{List, []}
-use mathlib.Core.Bool.{Bool, true, false, true≢false, cond, _&&_}
-use mathlib.Core.Option.{none, some}
-use Prim.Native.Nat.{ℕ, _+_, _≤_}
-use native.Mathlib.Omega.{arith}
-use lib.Dec.{eqb}
-use lib.ListN.{length, drop, length-drop}
+use Rattle.codec.proofs.Prelude.{_≡_, refl, sym, ap, _∙_, List, [], Bool, true, false, true≢false, cond, _&&_, none, some, ℕ, _+_, _≤_, arith, eqb, length, drop, length-drop}
 use Rattle.codec.specs.Answers.{Answer, accepted, refused}
 use Rattle.codec.specs.Reader.{Reader, mapped, choose, onFormed}
 use Rattle.codec.proofs.Readers.{named-inv, named-refused}

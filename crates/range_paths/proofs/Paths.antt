@@ -1,10 +1,5 @@
 -- The laws of paths against the paths of a reference, all within the limits.
-use mathlib.Core.Path.{refl}
-use mathlib.Core.List.{List, []}
-use mathlib.Core.Bool.{Bool, true, false, cond}
-use mathlib.Core.Option.{Option, none, some}
-use Prim.Native.Nat.{ℕ}
-use lib.Dec.{leb}
+use Rattle.codec.proofs.Prelude.{refl, List, [], Bool, true, false, cond, Option, none, some, ℕ, leb}
 use Rattle.codec.specs.Reader.{choose, mapped}
 use Rattle.codec.specs.Reads.{ReadsAs, Bounded}
 use Rattle.codec.proofs.ReadsAs.{one-of, give-as, then-as, mapped-as}

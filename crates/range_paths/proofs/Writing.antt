@@ -1,13 +1,5 @@
 -- What the writers' definitions say at each step of the code.
-use mathlib.Core.Path.{_≡_, refl, sym, ap}
-use mathlib.Core.List.{List, [], _++_, append-nil}
-use mathlib.Core.Bool.{Bool, true, false, true≢false, cond, _&&_}
-use mathlib.Core.Option.{none, some}
-use Prim.Native.Nat.{ℕ, _+_, _≤_, _<_}
-use native.Mathlib.Omega.{arith}
-use lib.Dec.{eqb}
-use borrow.Author.Tests.{le-leb, lt-leb}
-use lib.ListN.{length, drop, length-append}
+use Rattle.codec.proofs.Prelude.{_≡_, refl, sym, ap, List, [], _++_, append-nil, Bool, true, false, true≢false, cond, _&&_, none, some, ℕ, _+_, _≤_, _<_, arith, eqb, le-leb, lt-leb, length, drop, length-append}
 use Rattle.codec.specs.Format.{allowed}
 use Rattle.codec.proofs.Tests.{and-left, and-right}
 use Rattle.compact_u64.specs.Number.{standaloneBytes}

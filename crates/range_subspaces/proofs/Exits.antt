@@ -1,15 +1,6 @@
 -- What the definitions say at each exit of the code.
-use mathlib.Core.Path.{_≡_, refl}
-use mathlib.Core.List.{List, [], _∷_, _++_, append-nil}
-use mathlib.Core.Bool.{true, false}
-use mathlib.Core.Logic.{⊎-elim}
-use mathlib.Core.Option.{none, some}
-use Prim.Native.Nat.{ℕ, _+_, _≤_}
-use native.Mathlib.Nat.{add-zero}
-use native.Mathlib.Omega.{arith}
+use Rattle.codec.proofs.Prelude.{_≡_, refl, List, [], _∷_, _++_, append-nil, true, false, ⊎-elim, none, some, ℕ, _+_, _≤_, add-zero, arith, OneOf, length, drop, length-append}
 use denote.Enum.Declared as declared
-use types.Run.{OneOf}
-use lib.ListN.{length, drop, length-append}
 use Rattle.codec.specs.Answers.{accepted, refused}
 use Rattle.codec.specs.Reader.{someBytes, mapped}
 use Rattle.range_3d.specs.Range3d.{Range}

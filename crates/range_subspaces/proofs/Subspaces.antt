@@ -1,9 +1,5 @@
 -- The laws of subspaces against a reference's.
-use mathlib.Core.Path.{_≡_, refl}
-use mathlib.Core.List.{List, []}
-use mathlib.Core.Bool.{Bool, true, false, cond, false≢true}
-use mathlib.Core.Option.{Option, none, some}
-use Prim.Native.Nat.{ℕ}
+use Rattle.codec.proofs.Prelude.{_≡_, refl, List, [], Bool, true, false, cond, false≢true, Option, none, some, ℕ}
 use Rattle.codec.specs.Bytes.{sameBytes, TypedId}
 use Rattle.codec.specs.Reader.{give, mapped}
 use Rattle.codec.specs.Reads.{ReadsAs, Bounded}

@@ -1,9 +1,5 @@
 -- What the definitions say at each exit of the code.
-use mathlib.Core.Path.{_≡_}
-use mathlib.Core.List.{List, _++_, append-nil}
-use mathlib.Core.Bool.{Bool, true, false}
-use Prim.Native.Nat.{ℕ, _+_}
-use lib.ListN.{drop}
+use Rattle.codec.proofs.Prelude.{_≡_, List, _++_, append-nil, Bool, true, false, ℕ, _+_, drop}
 use Rattle.codec.specs.Answers.{accepted, refused}
 use Rattle.compact_u64.specs.Number.{numberBytes}
 use Rattle.grouping.specs.declared.RangeEnd.{RangeEnd}

@@ -1,6 +1,5 @@
 -- The laws of times against a reference's.
-use mathlib.Core.Bool.{Bool}
-use Prim.Native.Nat.{_≤_}
+use Rattle.codec.proofs.Prelude.{Bool, _≤_}
 use Rattle.codec.specs.Reader.{mapped}
 use Rattle.codec.specs.Reads.{ReadsAs, Bounded}
 use Rattle.codec.proofs.Bounded.{give-bounded, then-bounded, mapped-bounded, choose-bounded}

@@ -1,13 +1,5 @@
 -- There and back: what was printed is read as it was.
-use mathlib.Core.Path.{_≡_, refl, _∙_, sym}
-use mathlib.Core.List.{List, [], _∷_, _++_}
-use mathlib.Core.Bool.{Bool, true, false, cond}
-use Prim.Native.Nat.{ℕ, zero, suc, _+_, _-_, _*_, _/_, _%_, _^_, _≤_, _<_}
-use native.Mathlib.Nat.{pow-suc}
-use native.Mathlib.Omega.{arith}
-use lib.Dec.{ltb, eqb}
-use borrow.Author.Tests.{ltb-true, ltb-false, eqb-true, eqb-false, lt-ltb, le-ltb}
-use lib.ListN.{length, getD, List·getD-append}
+use Rattle.codec.proofs.Prelude.{_≡_, refl, _∙_, sym, List, [], _∷_, _++_, Bool, true, false, cond, ℕ, zero, suc, _+_, _-_, _*_, _/_, _%_, _^_, _≤_, _<_, pow-suc, arith, ltb, eqb, ltb-true, ltb-false, eqb-true, eqb-false, lt-ltb, le-ltb, length, getD, List·getD-append}
 use Rattle.io.specs.Digits.{glyph, digits}
 use Rattle.codec.specs.Answers.{AllBytes}
 use Rattle.codec.specs.Format.{over}

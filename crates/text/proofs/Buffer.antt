@@ -1,12 +1,5 @@
 -- Laws of bytes written into a buffer from a place on: by single stores, and one thing after another.
-use mathlib.Core.Path.{_≡_, refl, sym, ap, _∙_}
-use mathlib.Core.List.{List, [], _∷_, _++_, append-assoc}
-use Prim.Native.Nat.{ℕ, suc, _+_, _≤_, _<_}
-use native.Mathlib.Numerals.{add-one}
-use native.Mathlib.Omega.{arith}
-use borrow.Author.Tests.{le-leb, lt-leb}
-use lib.ListN.{length, take, drop, set, length-append, length-drop, take-append-drop}
-use lib.Seq.{drop-drop, drop-set-lt, take-suc-set, length-take-le}
+use Rattle.codec.proofs.Prelude.{_≡_, refl, sym, ap, _∙_, List, [], _∷_, _++_, append-assoc, ℕ, suc, _+_, _≤_, _<_, add-one, arith, le-leb, lt-leb, length, take, drop, set, length-append, length-drop, take-append-drop, drop-drop, drop-set-lt, take-suc-set, length-take-le}
 use Rattle.codec.specs.Format.{over}
 use Rattle.codec.proofs.Lending.{over-turn}
 use Rattle.text.specs.Buffer.{overAt, putAt, placeAfter, Wrote}

@@ -1,12 +1,5 @@
 -- What `io::decimal` writes is the number's text, of at most 20 digits.
-use mathlib.Core.Path.{_≡_, refl, ap}
-use mathlib.Core.Bool.{Bool, true, false, cond}
-use Prim.Native.Nat.{ℕ, zero, suc, _-_, _/_, _^_, _≤_, _<_}
-use native.Mathlib.Nat.{pow-suc}
-use native.Mathlib.Omega.{arith}
-use lib.Dec.{ltb}
-use borrow.Author.Tests.{lt-ltb, le-ltb}
-use lib.ListN.{length, length-append}
+use Rattle.codec.proofs.Prelude.{_≡_, refl, ap, Bool, true, false, cond, ℕ, zero, suc, _-_, _/_, _^_, _≤_, _<_, pow-suc, arith, ltb, lt-ltb, le-ltb, length, length-append}
 use Rattle.io.specs.Digits.{digits, Fewest}
 use Rattle.text.specs.Decimal.{digitCount, decimalText}
 

@@ -1,16 +1,5 @@
 -- What an answer of reading bytes in hex says, for its callers.
-use mathlib.Core.Path.{_≡_, refl, sym, _∙_}
-use mathlib.Core.List.{List, [], _∷_, append-nil}
-use mathlib.Core.Bool.{Bool, true, false, cond}
-use mathlib.Core.Logic.{⊎-elim}
-use Prim.Native.Nat.{ℕ, _≤_}
-use types.Run.{OneOf}
-use denote.Enum.Declared.{tagOf}
-use native.Mathlib.Omega.{arith}
-use lib.Dec.{ltb}
-use borrow.Author.Tests.{ltb-false, le-ltb}
-use lib.ListN.{length, take, drop-of-length-le}
-use lib.Seq.{take-at}
+use Rattle.codec.proofs.Prelude.{_≡_, refl, sym, _∙_, List, [], _∷_, append-nil, Bool, true, false, cond, ⊎-elim, ℕ, _≤_, OneOf, tagOf, arith, ltb, ltb-false, le-ltb, length, take, drop-of-length-le, take-at}
 use Rattle.codec.specs.Format.{over}
 use Rattle.text.specs.Hex.{isHex, unhex}
 use Rattle.text.specs.Fields.{readHex, hexBuffer}

@@ -1,14 +1,5 @@
 -- Laws of bytes in hex at one place of a text, for the loops that read and print them; how long they are.
-use mathlib.Core.Path.{_≡_, refl, sym, _∙_}
-use mathlib.Core.List.{List, [], _∷_}
-use mathlib.Core.Bool.{Bool, true, false, cond}
-use Prim.Native.Nat.{ℕ, suc, _+_, _*_, _/_, _%_, _≤_, _<_}
-use native.Mathlib.Numerals.{add-one}
-use native.Mathlib.Omega.{arith}
-use lib.Dec.{ltb}
-use borrow.Author.Tests.{ltb-true, ltb-false}
-use lib.ListN.{length, drop, getD, drop-of-length-le}
-use lib.Seq.{drop-cons}
+use Rattle.codec.proofs.Prelude.{_≡_, refl, sym, _∙_, List, [], _∷_, Bool, true, false, cond, ℕ, suc, _+_, _*_, _/_, _%_, _≤_, _<_, add-one, arith, ltb, ltb-true, ltb-false, length, drop, getD, drop-of-length-le, drop-cons}
 use Rattle.io.specs.Digits.{glyph}
 use Rattle.text.specs.Hex.{hexValue, isHex, unhex, hexText}
 use Rattle.text.proofs.Tests.{both}

@@ -1,12 +1,5 @@
 -- The ways out of reading an id.
-use Prim.Native.Nat.{ℕ}
-use mathlib.Core.Path.{_≡_, refl, _∙_}
-use mathlib.Core.List.{List}
-use mathlib.Core.Bool.{Bool, true, false, cond}
-use native.Mathlib.Omega.{arith}
-use lib.Dec.{ltb}
-use lib.ListN.{length, replicate}
-use borrow.Author.Tests.{ltb-true, eq-eqb, ne-eqb}
+use Rattle.codec.proofs.Prelude.{ℕ, _≡_, refl, _∙_, List, Bool, true, false, cond, arith, ltb, length, replicate, ltb-true, eq-eqb, ne-eqb}
 use Rattle.text.specs.Hex.{isHex, unhex}
 use Rattle.text.specs.Fields.{readHex, hexBuffer}
 use Rattle.text.specs.declared.Hex.the-variants.{Bytes}

@@ -1,14 +1,5 @@
 -- Laws of finding a byte, and of the parts that it makes.
-use mathlib.Core.Path.{_≡_, refl, sym}
-use mathlib.Core.List.{List, [], _∷_}
-use mathlib.Core.Bool.{Bool, true, false, cond}
-use Prim.Native.Nat.{ℕ, suc, _+_, _≤_, _<_}
-use native.Mathlib.Numerals.{add-one}
-use native.Mathlib.Omega.{arith}
-use lib.Dec.{eqb, ltb}
-use borrow.Author.Tests.{eq-eqb, ne-eqb, ltb-true, ltb-false}
-use lib.ListN.{length, take, drop, getD, drop-of-length-le}
-use lib.Seq.{drop-cons, take-all}
+use Rattle.codec.proofs.Prelude.{_≡_, refl, sym, List, [], _∷_, Bool, true, false, cond, ℕ, suc, _+_, _≤_, _<_, add-one, arith, eqb, ltb, eq-eqb, ne-eqb, ltb-true, ltb-false, length, take, drop, getD, drop-of-length-le, drop-cons, take-all}
 use Rattle.text.specs.Parts.{before, onFirst, parts, partAt}
 
 module _ (x : ℕ) where

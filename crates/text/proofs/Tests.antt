@@ -1,6 +1,5 @@
 -- Two tests that were both passed.
-use mathlib.Core.Path.{_≡_, refl}
-use mathlib.Core.Bool.{Bool, true, false, cond}
+use Rattle.codec.proofs.Prelude.{_≡_, refl, Bool, true, false, cond}
 
 pub both : (a b : Bool) → cond a b false ≡ true → (a ≡ true) × (b ≡ true)
 both true b h = (refl, h)

@@ -1,10 +1,5 @@
 -- The laws of a time read by its difference from another, and of the nearest of a range's start and end.
-use mathlib.Core.Path.{_≡_, refl}
-use mathlib.Core.Bool.{Bool, true, false, not}
-use Prim.Native.Nat.{ℕ, _+_, _-_, _≤_}
-use native.Mathlib.Omega.{arith}
-use lib.Dec.{leb, ltb}
-use borrow.Author.Tests.{le-leb, leb-true, leb-false, ltb-true, ltb-false}
+use Rattle.codec.proofs.Prelude.{_≡_, refl, Bool, true, false, not, ℕ, _+_, _-_, _≤_, arith, leb, ltb, le-leb, leb-true, leb-false, ltb-true, ltb-false}
 use Rattle.codec.specs.Reads.{ReadsAs, Bounded}
 use Rattle.codec.proofs.Bounded.{checked-bounded, mapped-bounded}
 use Rattle.codec.proofs.ReadsAs.{one-of, checked-as, mapped-as}

@@ -1,8 +1,5 @@
 -- What reading a difference answers at each exit of the code.
-use mathlib.Core.Path.{_≡_}
-use mathlib.Core.List.{List}
-use mathlib.Core.Bool.{Bool, true, false}
-use Prim.Native.Nat.{ℕ}
+use Rattle.codec.proofs.Prelude.{_≡_, List, Bool, true, false, ℕ}
 use Rattle.codec.specs.Answers.{accepted, refused}
 use Rattle.compact_u64.specs.Number.{readNumber}
 use Rattle.grouping.specs.declared.RangeEnd.{RangeEnd}

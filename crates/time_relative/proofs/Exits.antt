@@ -1,10 +1,5 @@
 -- What the reader's definition answers at each exit of the code.
-use mathlib.Core.Path.{_≡_, refl, ap}
-use mathlib.Core.List.{List}
-use mathlib.Core.Bool.{Bool, true, false, cond, _&&_, not}
-use Prim.Native.Nat.{ℕ, _+_, _-_, _≤_, _<_}
-use native.Mathlib.Omega.{arith}
-use borrow.Author.Tests.{le-leb, lt-leb, ne-eqb}
+use Rattle.codec.proofs.Prelude.{_≡_, refl, ap, List, Bool, true, false, cond, _&&_, not, ℕ, _+_, _-_, _≤_, _<_, arith, le-leb, lt-leb, ne-eqb}
 use Rattle.codec.specs.Answers.{accepted, refused}
 use Rattle.codec.specs.Reader.{named, passed}
 use Rattle.compact_u64.specs.Number.{readNumber}

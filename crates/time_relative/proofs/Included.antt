@@ -1,11 +1,5 @@
 -- The laws of a time that a range includes, read by either of its differences.
-use mathlib.Core.Path.{_≡_, refl}
-use mathlib.Core.List.{List}
-use mathlib.Core.Bool.{Bool, true, false, true≢false, false≢true}
-use Prim.Native.Nat.{ℕ, _+_, _-_, _≤_}
-use native.Mathlib.Omega.{arith}
-use lib.Dec.{leb}
-use borrow.Author.Tests.{leb-true, ltb-true, le-leb}
+use Rattle.codec.proofs.Prelude.{_≡_, refl, List, Bool, true, false, true≢false, false≢true, ℕ, _+_, _-_, _≤_, arith, leb, leb-true, ltb-true, le-leb}
 use Rattle.codec.specs.Reads.{Reads, Relaxes, Bounded, Tested, Mapped}
 use Rattle.codec.proofs.Tests.{and-left, and-right}
 use Rattle.codec.proofs.Readers.{reads-as, mapped-reads, checked-reads}

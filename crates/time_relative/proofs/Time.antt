@@ -1,11 +1,5 @@
 -- The laws of a time against a range.
-use mathlib.Core.Path.{_≡_, refl, sym}
-use mathlib.Core.List.{List}
-use mathlib.Core.Bool.{Bool, true, false, cond, not}
-use Prim.Native.Nat.{ℕ, _-_, _≤_}
-use native.Mathlib.Omega.{arith}
-use lib.Dec.{leb, eqb}
-use borrow.Author.Tests.{leb-true, eqb-true, eq-eqb}
+use Rattle.codec.proofs.Prelude.{_≡_, refl, sym, List, Bool, true, false, cond, not, ℕ, _-_, _≤_, arith, leb, eqb, leb-true, eqb-true, eq-eqb}
 use Rattle.codec.specs.Reads.{Reads, Relaxes, Bounded, Tested, Mapped}
 use Rattle.codec.proofs.Tests.{and-left, and-right}
 use Rattle.codec.proofs.Readers.{reads-as, mapped-reads, checked-reads}

@@ -1,4 +1,4 @@
-use borrow.Author.Needs.{needs}
+use Rattle.codec.proofs.Prelude.{needs}
 use Rattle.area_text.proofs.put_end.Statement.{statement}
 use Rattle.area_text.proofs.put_end.Tie as tie
 

@@ -1,5 +1,5 @@
 use Rattle.area_text.specs.AreaText.{subspaceText}
-use borrow.Author.Needs.{needs}
+use Rattle.codec.proofs.Prelude.{needs}
 use Rattle.area_text.proofs.put_subspace.Statement.{statement}
 use Rattle.area_text.proofs.put_subspace.Tie as tie
 

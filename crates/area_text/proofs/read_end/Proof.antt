@@ -1,5 +1,5 @@
 use Rattle.area_text.specs.AreaText.{readEndText}
-use borrow.Author.Needs.{needs}
+use Rattle.codec.proofs.Prelude.{needs}
 use Rattle.area_text.proofs.read_end.Statement.{statement}
 use Rattle.area_text.proofs.read_end.Tie as tie
 

@@ -1,5 +1,5 @@
 use Rattle.area_text.specs.AreaText.{readSubspaceText}
-use borrow.Author.Needs.{needs}
+use Rattle.codec.proofs.Prelude.{needs}
 use Rattle.area_text.proofs.read_subspace.Statement.{statement}
 use Rattle.area_text.proofs.read_subspace.Tie as tie
 

@@ -1,5 +1,5 @@
 use Rattle.area_times.specs.Times.{headerOf}
-use borrow.Author.Needs.{needs}
+use Rattle.codec.proofs.Prelude.{needs}
 use Rattle.area_times.proofs.header_of.Statement.{statement}
 use Rattle.area_times.proofs.header_of.Tie as tie
 

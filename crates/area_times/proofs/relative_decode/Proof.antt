@@ -1,9 +1,4 @@
-use mathlib.Core.Path.{_≡_, refl, sym, ap, _∙_}
-use Prim.Native.Nat.{_+_}
-use native.Mathlib.Omega.{arith}
-use denote.Ref.{now}
-use lib.ListN.{drop}
-use borrow.Author.Tests.{not-true, not-false}
+use Rattle.codec.proofs.Prelude.{_≡_, refl, sym, ap, _∙_, _+_, arith, now, drop, not-true, not-false, needs}
 use Rattle.codec.specs.Answers.{accepted, answerOf}
 use Rattle.codec.specs.declared.Decoded.{Decoded}
 use Rattle.compact_u64.specs.Answers.{numberAnswer}
@@ -13,7 +8,6 @@ use Rattle.area_times.specs.Times.{readEnd, timesFrom, readTimes}
 use Rattle.area_times.proofs.Exits.{times-start, times-end, times-outside, times-read}
 use Rattle.area_times.proofs.Times.{times-bounded}
 use Rattle.codec.proofs.Answers.{no-value, gives-refused, gives-accepted}
-use borrow.Author.Needs.{needs}
 use Rattle.area_times.proofs.relative_decode.Statement.{statement}
 use Rattle.area_times.proofs.relative_decode.Tie as tie
 

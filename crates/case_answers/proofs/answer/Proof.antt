@@ -1,8 +1,6 @@
-use native.Mathlib.Omega.{arith}
-use denote.Ref.{now}
+use Rattle.codec.proofs.Prelude.{arith, now, needs}
 use Rattle.case_text.proofs.Puts.{within-same}
 use Rattle.case_answers.proofs.Answering.{long-refused, kind-told}
-use borrow.Author.Needs.{needs}
 use Rattle.case_answers.proofs.answer.Statement.{statement}
 use Rattle.case_answers.proofs.answer.Tie as tie
 

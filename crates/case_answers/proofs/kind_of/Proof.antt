@@ -1,4 +1,4 @@
-use borrow.Author.Needs.{needs}
+use Rattle.codec.proofs.Prelude.{needs}
 use Rattle.case_answers.specs.Lines.{kindOf}
 use Rattle.case_answers.proofs.kind_of.Statement.{statement}
 use Rattle.case_answers.proofs.kind_of.Tie as tie

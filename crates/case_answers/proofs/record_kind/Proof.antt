@@ -1,4 +1,4 @@
-use borrow.Author.Needs.{needs}
+use Rattle.codec.proofs.Prelude.{needs}
 use Rattle.case_answers.specs.Lines.{recordKind}
 use Rattle.case_answers.proofs.record_kind.Statement.{statement}
 use Rattle.case_answers.proofs.record_kind.Tie as tie

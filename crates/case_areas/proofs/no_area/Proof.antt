@@ -1,6 +1,6 @@
 use Rattle.grouping.specs.Record.{areaFrom}
 use Rattle.case_areas.specs.Lines.{noArea}
-use borrow.Author.Needs.{needs}
+use Rattle.codec.proofs.Prelude.{needs}
 use Rattle.case_areas.proofs.no_area.Statement.{statement}
 use Rattle.case_areas.proofs.no_area.Tie as tie
 

@@ -1,4 +1,4 @@
-use native.Mathlib.Omega.{arith}
+use Rattle.codec.proofs.Prelude.{arith, length-append, _++_, needs}
 use Rattle.text.specs.Decimal.{decimalText}
 use Rattle.text.proofs.DecimalPrinted.{decimal-few}
 use Rattle.path_text.specs.PathText.{pathTextOf}
@@ -7,10 +7,7 @@ use Rattle.area_text.specs.AreaText.{subspaceText, endText}
 use Rattle.grouping.proofs.Typed.{typed-area}
 use Rattle.case_text.specs.Texts.{afterTab}
 use Rattle.case_text.proofs.Puts.{puts-tab, puts-fits, puts-first}
-use lib.ListN.{length-append}
-use mathlib.Core.List.{_++_}
 use Rattle.area_text.proofs.Short.{subspace-few, end-few}
-use borrow.Author.Needs.{needs}
 use Rattle.case_areas.proofs.print.Statement.{statement}
 use Rattle.case_areas.proofs.print.Tie as tie
 

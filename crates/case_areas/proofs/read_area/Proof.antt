@@ -1,9 +1,4 @@
-use mathlib.Core.Path.{_≡_, refl, sym, ap, _∙_}
-use mathlib.Core.Bool.{true, false}
-use mathlib.Core.List.{List}
-use Prim.Native.Nat.{ℕ, _+_}
-use denote.Ref.{now}
-use borrow.Author.Tests.{not-true, not-false}
+use Rattle.codec.proofs.Prelude.{_≡_, refl, sym, ap, _∙_, true, false, List, ℕ, _+_, now, not-true, not-false, needs}
 use Rattle.path.specs.declared.Path.{Path}
 use Rattle.grouping.specs.declared.RangeEnd.{RangeEnd}
 use Rattle.grouping.specs.declared.AreaSubspace.{AreaSubspace}
@@ -12,7 +7,6 @@ use Rattle.area_text.specs.AreaText.{readSubspaceText, readEndText}
 use Rattle.case_text.specs.Fields.{field, onField, decimalField, pathField}
 use Rattle.case_text.proofs.Steps.{decimal-says, decimal-says-no, path-says, path-says-no, field-says, says-then, says-none}
 use Rattle.case_areas.specs.Lines.{noArea}
-use borrow.Author.Needs.{needs}
 use Rattle.case_areas.proofs.read_area.Statement.{statement}
 use Rattle.case_areas.proofs.read_area.Tie as tie
 

@@ -1,10 +1,8 @@
-use mathlib.Core.Path.{sym, _∙_}
-use denote.Ref.{now}
+use Rattle.codec.proofs.Prelude.{sym, _∙_, now, needs}
 use Rattle.area_area.specs.Records.{readAgainstArea}
 use Rattle.case_areas.specs.Lines.{areaText}
 use Rattle.case_text.proofs.Steps.{puts, message-inside, message-long}
 use Rattle.case_text.proofs.RecordSteps.{read-refused, read-answer, read-printed}
-use borrow.Author.Needs.{needs}
 use Rattle.case_areas.proofs.read_line.Statement.{statement}
 use Rattle.case_areas.proofs.read_line.Tie as tie
 

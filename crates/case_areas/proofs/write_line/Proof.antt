@@ -1,11 +1,8 @@
-use mathlib.Core.Path.{sym}
-use denote.Ref.{now}
+use Rattle.codec.proofs.Prelude.{sym, now, not-true, not-false, needs}
 use Rattle.area_area.specs.Records.{againstArea}
 use Rattle.case_areas.specs.Lines.{areaField}
-use borrow.Author.Tests.{not-true, not-false}
 use Rattle.case_text.proofs.Steps.{puts, hex-inside, hex-long, says-refused, says-value}
 use Rattle.case_text.proofs.RecordSteps.{write-fields, write-value, write-buffer, write-answer}
-use borrow.Author.Needs.{needs}
 use Rattle.case_areas.proofs.write_line.Statement.{statement}
 use Rattle.case_areas.proofs.write_line.Tie as tie
 

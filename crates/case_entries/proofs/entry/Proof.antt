@@ -1,13 +1,8 @@
-use mathlib.Core.Path.{refl}
-use mathlib.Core.Bool.{true, false}
+use Rattle.codec.proofs.Prelude.{refl, true, false, _∙_, now, not-true, not-false, needs}
 use Rattle.text.specs.Ids.{readId}
-use mathlib.Core.Path.{_∙_}
-use denote.Ref.{now}
-use borrow.Author.Tests.{not-true, not-false}
 use Rattle.case_text.specs.Fields.{field, opOf}
 use Rattle.case_text.proofs.Steps.{puts, says-refused, says-value, field-says, op-told}
 use Rattle.case_entries.specs.Lines.{againstLine, onNamespace}
-use borrow.Author.Needs.{needs}
 use Rattle.case_entries.proofs.entry.Statement.{statement}
 use Rattle.case_entries.proofs.entry.Tie as tie
 

@@ -1,11 +1,8 @@
-use mathlib.Core.Path.{sym}
-use denote.Ref.{now}
+use Rattle.codec.proofs.Prelude.{sym, now, not-true, not-false, needs}
 use Rattle.entry_area.specs.Records.{againstNamespaceArea}
 use Rattle.case_entry_text.specs.Fields.{entryField}
-use borrow.Author.Tests.{not-true, not-false}
 use Rattle.case_text.proofs.Steps.{puts, says-refused, says-value, hex-inside, hex-long}
 use Rattle.case_text.proofs.RecordSteps.{write-fields, write-value, write-buffer, write-answer}
-use borrow.Author.Needs.{needs}
 use Rattle.case_entries.proofs.write_line.Statement.{statement}
 use Rattle.case_entries.proofs.write_line.Tie as tie
 

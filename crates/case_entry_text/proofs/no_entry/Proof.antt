@@ -1,6 +1,6 @@
 use Rattle.entry.specs.Record.{entryFrom}
 use Rattle.case_entry_text.specs.Fields.{noEntry}
-use borrow.Author.Needs.{needs}
+use Rattle.codec.proofs.Prelude.{needs}
 use Rattle.case_entry_text.proofs.no_entry.Statement.{statement}
 use Rattle.case_entry_text.proofs.no_entry.Tie as tie
 

@@ -1,5 +1,5 @@
 use Rattle.case_entry_text.specs.Fields.{noNames}
-use borrow.Author.Needs.{needs}
+use Rattle.codec.proofs.Prelude.{needs}
 use Rattle.case_entry_text.proofs.no_names.Statement.{statement}
 use Rattle.case_entry_text.proofs.no_names.Tie as tie
 

@@ -1,18 +1,13 @@
-use lib.ListN.{length, length-append}
-use mathlib.Core.Path.{_≡_}
-use denote.Ref.{now}
-use native.Mathlib.Omega.{arith}
+use Rattle.codec.proofs.Prelude.{length, length-append, _≡_, now, arith, _++_, needs}
 use Rattle.text.specs.Hex.{hexText}
 use Rattle.text.proofs.HexSteps.{hexText-long}
 use Rattle.entry.proofs.Typed.{typed-entry}
 use Rattle.case_text.specs.Texts.{afterTab}
-use mathlib.Core.List.{_++_}
 use Rattle.text.specs.Decimal.{decimalText}
 use Rattle.text.proofs.DecimalPrinted.{decimal-few}
 use Rattle.case_text.proofs.Puts.{puts-tab}
 use Rattle.case_entry_text.specs.Fields.{namesText}
 use Rattle.case_entry_text.proofs.Printed.{names-few}
-use borrow.Author.Needs.{needs}
 use Rattle.case_entry_text.proofs.print_entry.Statement.{statement}
 use Rattle.case_entry_text.proofs.print_entry.Tie as tie
 

@@ -1,14 +1,12 @@
-use native.Mathlib.Omega.{arith}
+use Rattle.codec.proofs.Prelude.{arith, length-append, needs}
 use Rattle.text.specs.Hex.{hexText}
 use Rattle.text.proofs.HexSteps.{hexText-long}
 use Rattle.path_text.specs.PathText.{pathTextOf}
 use Rattle.path_text.proofs.Back.{path-text-laws}
 use Rattle.entry.proofs.Typed.{typed-entry}
 use Rattle.case_text.specs.Texts.{afterTab}
-use lib.ListN.{length-append}
 use Rattle.case_text.proofs.Puts.{puts-fits}
 use Rattle.case_text.proofs.Puts.{puts-tab}
-use borrow.Author.Needs.{needs}
 use Rattle.case_entry_text.proofs.print_names.Statement.{statement}
 use Rattle.case_entry_text.proofs.print_names.Tie as tie
 

@@ -1,16 +1,10 @@
-use mathlib.Core.Path.{refl}
-use mathlib.Core.Bool.{true, false}
-use mathlib.Core.List.{List}
-use Prim.Native.Nat.{ℕ, _+_}
-use denote.Ref.{now}
-use borrow.Author.Tests.{not-true, not-false}
+use Rattle.codec.proofs.Prelude.{refl, true, false, List, ℕ, _+_, now, not-true, not-false, needs}
 use Rattle.text.specs.Ids.{readId}
 use Rattle.case_text.specs.Fields.{decimalField, idField}
 use Rattle.case_text.proofs.Steps.{decimal-says, decimal-says-no, field-says, says-then, says-none, says-as}
 use Rattle.case_entry_text.specs.Fields.{noEntry}
 use Rattle.entry.specs.declared.Entry.{Entry}
 use Rattle.case_entry_text.specs.declared.Names.{Names}
-use borrow.Author.Needs.{needs}
 use Rattle.case_entry_text.proofs.read_entry.Statement.{statement}
 use Rattle.case_entry_text.proofs.read_entry.Tie as tie
 

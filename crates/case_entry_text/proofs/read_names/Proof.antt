@@ -1,16 +1,10 @@
-use mathlib.Core.Path.{refl}
-use mathlib.Core.Bool.{true, false}
-use mathlib.Core.List.{List}
-use Prim.Native.Nat.{ℕ, _+_}
-use denote.Ref.{now}
-use borrow.Author.Tests.{not-true, not-false}
+use Rattle.codec.proofs.Prelude.{refl, true, false, List, ℕ, _+_, now, not-true, not-false, needs}
 use Rattle.text.specs.Ids.{readId}
 use Rattle.case_text.specs.Fields.{idField, pathField}
 use Rattle.case_text.proofs.Steps.{path-says, path-says-no, field-says, says-then, says-none}
 use Rattle.case_entry_text.specs.Fields.{noNames}
 use Rattle.path.specs.declared.Path.{Path}
 use Rattle.case_entry_text.specs.declared.Names.{Names}
-use borrow.Author.Needs.{needs}
 use Rattle.case_entry_text.proofs.read_names.Statement.{statement}
 use Rattle.case_entry_text.proofs.read_names.Tie as tie
 

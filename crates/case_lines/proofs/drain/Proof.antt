@@ -1,15 +1,8 @@
-use Prim.Native.Nat.{_+_, _-_, _≤_}
-use mathlib.Core.Path.{_≡_, refl, _∙_, sym}
-use mathlib.Core.Bool.{false≢true}
-use denote.Ref.{now}
-use native.Mathlib.Omega.{arith}
-use lib.ListN.{length, drop, length-drop}
-use lib.Seq.{length-take-le, drop-drop}
+use Rattle.codec.proofs.Prelude.{_+_, _-_, _≤_, _≡_, refl, _∙_, sym, false≢true, now, arith, length, drop, length-drop, length-take-le, drop-drop, needs}
 use Rattle.codec.proofs.Lending.{to-end}
 use Rattle.lines.specs.Lines.{span, wholeLines, fittingLines}
 use Rattle.lines.proofs.Fitting.{fitting-span, fitting-nothing}
 use Rattle.case_answers.specs.Lines.{answerTo}
-use borrow.Author.Needs.{needs}
 use Rattle.case_lines.proofs.drain.Statement.{statement}
 use Rattle.case_lines.proofs.drain.Tie as tie
 

@@ -1,11 +1,5 @@
-use mathlib.Core.Path.{_∙_, sym}
-use mathlib.Core.Bool.{false≢true}
-use denote.Ref.{now}
-use native.Mathlib.Omega.{arith}
-use borrow.Author.Tests.{not-false}
-use lib.Seq.{length-take-le}
+use Rattle.codec.proofs.Prelude.{_∙_, sym, false≢true, now, arith, not-false, length-take-le, needs}
 use Rattle.lines.proofs.Keeping.{kept-after}
-use borrow.Author.Needs.{needs}
 use Rattle.case_lines.proofs.settle.Statement.{statement}
 use Rattle.case_lines.proofs.settle.Tie as tie
 

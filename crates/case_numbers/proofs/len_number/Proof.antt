@@ -1,8 +1,7 @@
-use denote.Ref.{now}
+use Rattle.codec.proofs.Prelude.{now, needs}
 use Rattle.compact_u64.specs.Answers.{bits}
 use Rattle.case_text.proofs.Steps.{puts, decimal-refused, decimal-value}
 use Rattle.case_numbers.proofs.NumberSteps.{length-fields, length-value, length-answer}
-use borrow.Author.Needs.{needs}
 use Rattle.case_numbers.proofs.len_number.Statement.{statement}
 use Rattle.case_numbers.proofs.len_number.Tie as tie
 

@@ -1,11 +1,9 @@
-use mathlib.Core.Path.{_∙_}
-use denote.Ref.{now}
+use Rattle.codec.proofs.Prelude.{_∙_, now, needs}
 use Rattle.compact_u64.specs.Answers.{bits}
 use Rattle.case_text.specs.Fields.{field, opOf}
 use Rattle.case_text.proofs.Steps.{puts, op-told}
 use Rattle.case_numbers.specs.Lines.{numberLine}
 use Rattle.case_numbers.proofs.Widths.{width-refused, width-is}
-use borrow.Author.Needs.{needs}
 use Rattle.case_numbers.proofs.number.Statement.{statement}
 use Rattle.case_numbers.proofs.number.Tie as tie
 

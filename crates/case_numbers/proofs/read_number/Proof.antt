@@ -1,9 +1,7 @@
-use mathlib.Core.Path.{sym}
-use denote.Ref.{now}
+use Rattle.codec.proofs.Prelude.{sym, now, needs}
 use Rattle.compact_u64.specs.Answers.{bits}
 use Rattle.case_text.proofs.Steps.{puts, decimal-refused, decimal-value, message-inside, message-long}
 use Rattle.case_numbers.proofs.NumberSteps.{read-tag, read-over, read-refused, read-answer}
-use borrow.Author.Needs.{needs}
 use Rattle.case_numbers.proofs.read_number.Statement.{statement}
 use Rattle.case_numbers.proofs.read_number.Tie as tie
 

@@ -1,10 +1,8 @@
-use mathlib.Core.Path.{sym}
-use denote.Ref.{now}
+use Rattle.codec.proofs.Prelude.{sym, now, needs}
 use Rattle.compact_u64.specs.Number.{readStandalone}
 use Rattle.text.specs.Decimal.{decimalText}
 use Rattle.case_text.proofs.Steps.{puts, message-inside, message-long}
 use Rattle.case_text.proofs.RecordSteps.{read-refused, read-answer}
-use borrow.Author.Needs.{needs}
 use Rattle.case_numbers.proofs.read_standalone.Statement.{statement}
 use Rattle.case_numbers.proofs.read_standalone.Tie as tie
 

@@ -1,10 +1,9 @@
-use denote.Ref.{now}
+use Rattle.codec.proofs.Prelude.{now, needs}
 use Rattle.compact_u64.specs.Number.{readStandalone, standalone}
 use Rattle.text.specs.Decimal.{decimalText}
 use Rattle.case_text.specs.Fields.{decimalField}
 use Rattle.case_text.specs.Records.{recordLine}
 use Rattle.case_text.proofs.Steps.{puts, op-told}
-use borrow.Author.Needs.{needs}
 use Rattle.case_numbers.proofs.standalone.Statement.{statement}
 use Rattle.case_numbers.proofs.standalone.Tie as tie
 

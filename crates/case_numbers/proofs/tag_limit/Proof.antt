@@ -1,6 +1,4 @@
-use native.Mathlib.Omega.{arith}
-use mathlib.Core.Path.{refl}
-use borrow.Author.Needs.{needs}
+use Rattle.codec.proofs.Prelude.{arith, refl, needs}
 use Rattle.case_numbers.proofs.tag_limit.Statement.{statement}
 use Rattle.case_numbers.proofs.tag_limit.Tie as tie
 

@@ -1,4 +1,4 @@
-use borrow.Author.Needs.{needs}
+use Rattle.codec.proofs.Prelude.{needs}
 use Rattle.case_numbers.specs.Lines.{onWidth}
 use Rattle.case_numbers.proofs.width.Statement.{statement}
 use Rattle.case_numbers.proofs.width.Tie as tie

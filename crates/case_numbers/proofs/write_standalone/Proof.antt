@@ -1,10 +1,8 @@
-use mathlib.Core.Path.{sym}
-use denote.Ref.{now}
+use Rattle.codec.proofs.Prelude.{sym, now, needs}
 use Rattle.compact_u64.specs.Number.{standalone}
 use Rattle.case_text.specs.Fields.{decimalField}
 use Rattle.case_text.proofs.Steps.{puts, decimal-refused, decimal-value, hex-inside, hex-long}
 use Rattle.case_text.proofs.RecordSteps.{write-fields, write-value, write-buffer, write-answer}
-use borrow.Author.Needs.{needs}
 use Rattle.case_numbers.proofs.write_standalone.Statement.{statement}
 use Rattle.case_numbers.proofs.write_standalone.Tie as tie
 

@@ -1,11 +1,9 @@
-use Prim.Native.Nat.{_+_}
-use denote.Ref.{now}
+use Rattle.codec.proofs.Prelude.{_+_, now, needs}
 use Rattle.path_text.specs.PathText.{pathTextOf}
 use Rattle.case_text.specs.Fields.{pathField}
 use Rattle.case_text.specs.Records.{recordLine}
 use Rattle.case_paths.specs.Lines.{encodingReader, encodingFormat}
 use Rattle.case_text.proofs.Steps.{puts, op-told}
-use borrow.Author.Needs.{needs}
 use Rattle.case_paths.proofs.answer.Statement.{statement}
 use Rattle.case_paths.proofs.answer.Tie as tie
 

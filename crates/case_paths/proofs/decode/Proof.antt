@@ -1,4 +1,4 @@
-use borrow.Author.Needs.{needs}
+use Rattle.codec.proofs.Prelude.{needs}
 use Rattle.case_paths.proofs.decode.Statement.{statement}
 use Rattle.case_paths.proofs.decode.Tie as tie
 

@@ -1,10 +1,8 @@
-use Prim.Native.Nat.{_+_}
-use denote.Ref.{now}
+use Rattle.codec.proofs.Prelude.{_+_, now, needs}
 use Rattle.case_text.specs.Fields.{pathField}
 use Rattle.case_paths.specs.Lines.{encodingFormat}
 use Rattle.case_text.proofs.Steps.{puts, path-refused, path-value}
 use Rattle.case_text.proofs.RecordSteps.{length-fields, length-value, length-answer}
-use borrow.Author.Needs.{needs}
 use Rattle.case_paths.proofs.len_path.Statement.{statement}
 use Rattle.case_paths.proofs.len_path.Tie as tie
 

@@ -1,9 +1,8 @@
-use native.Mathlib.Omega.{arith}
+use Rattle.codec.proofs.Prelude.{arith, needs}
 use Rattle.path.proofs.Typed.{typed}
 use Rattle.path_text.specs.PathText.{pathTextOf}
 use Rattle.path_text.proofs.Back.{path-text-laws}
 use Rattle.case_text.proofs.Puts.{puts-fits, puts-first}
-use borrow.Author.Needs.{needs}
 use Rattle.case_paths.proofs.print.Statement.{statement}
 use Rattle.case_paths.proofs.print.Tie as tie
 

@@ -1,10 +1,8 @@
-use mathlib.Core.Path.{sym, _∙_}
-use denote.Ref.{now}
+use Rattle.codec.proofs.Prelude.{sym, _∙_, now, needs}
 use Rattle.path_text.specs.PathText.{pathTextOf}
 use Rattle.case_text.proofs.Steps.{puts, message-inside, message-long}
 use Rattle.case_text.proofs.RecordSteps.{read-refused, read-answer, read-printed}
 use Rattle.case_paths.specs.Lines.{encodingReader}
-use borrow.Author.Needs.{needs}
 use Rattle.case_paths.proofs.read_path.Statement.{statement}
 use Rattle.case_paths.proofs.read_path.Tie as tie
 

@@ -1,7 +1,6 @@
-use denote.Ref.{now}
+use Rattle.codec.proofs.Prelude.{now, needs}
 use Rattle.case_paths.specs.Lines.{encodingLine}
 use Rattle.case_text.proofs.Steps.{puts, path-refused, path-value}
-use borrow.Author.Needs.{needs}
 use Rattle.case_paths.proofs.relative.Statement.{statement}
 use Rattle.case_paths.proofs.relative.Tie as tie
 

@@ -1,12 +1,8 @@
-use mathlib.Core.Path.{sym}
-use Prim.Native.Nat.{_+_}
-use native.Mathlib.Omega.{arith}
-use denote.Ref.{now}
+use Rattle.codec.proofs.Prelude.{sym, _+_, arith, now, needs}
 use Rattle.case_text.specs.Fields.{pathField}
 use Rattle.case_paths.specs.Lines.{encodingFormat}
 use Rattle.case_text.proofs.Steps.{puts, path-refused, path-value, hex-inside, hex-long}
 use Rattle.case_text.proofs.RecordSteps.{write-fields, write-value, write-buffer, write-answer}
-use borrow.Author.Needs.{needs}
 use Rattle.case_paths.proofs.write_path.Statement.{statement}
 use Rattle.case_paths.proofs.write_path.Tie as tie
 

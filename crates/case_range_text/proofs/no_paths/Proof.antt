@@ -1,5 +1,5 @@
 use Rattle.case_range_text.specs.Fields.{noPathsField}
-use borrow.Author.Needs.{needs}
+use Rattle.codec.proofs.Prelude.{needs}
 use Rattle.case_range_text.proofs.no_paths.Statement.{statement}
 use Rattle.case_range_text.proofs.no_paths.Tie as tie
 

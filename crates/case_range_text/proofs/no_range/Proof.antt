@@ -1,5 +1,5 @@
 use Rattle.case_range_text.specs.Fields.{noSubspacesField, noPathsField, noTimesField, noRangeField}
-use borrow.Author.Needs.{needs}
+use Rattle.codec.proofs.Prelude.{needs}
 use Rattle.case_range_text.proofs.no_range.Statement.{statement}
 use Rattle.case_range_text.proofs.no_range.Tie as tie
 

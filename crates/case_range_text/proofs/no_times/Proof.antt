@@ -1,4 +1,4 @@
-use mathlib.Core.Path.{refl}
+use Rattle.codec.proofs.Prelude.{refl}
 use Rattle.case_range_text.specs.Fields.{noTimesField}
 use Rattle.case_range_text.proofs.no_times.Statement.{statement}
 use Rattle.case_range_text.proofs.no_times.Tie as tie

@@ -1,8 +1,4 @@
-use mathlib.Core.Path.{_≡_}
-use mathlib.Core.List.{_++_}
-use denote.Ref.{now}
-use native.Mathlib.Omega.{arith}
-use lib.ListN.{length, length-append}
+use Rattle.codec.proofs.Prelude.{_≡_, _++_, now, arith, length, length-append, needs}
 use Rattle.text.specs.Decimal.{decimalText}
 use Rattle.text.proofs.DecimalPrinted.{decimal-few}
 use Rattle.path_text.specs.PathText.{pathTextOf}
@@ -14,7 +10,6 @@ use Rattle.case_text.specs.Texts.{afterTab}
 use Rattle.case_text.proofs.Puts.{puts-tab}
 use Rattle.case_range_text.proofs.Printed.{subspaces-few, path-end-few}
 use Rattle.case_range_text.specs.Fields.{subspacesText, pathEndText}
-use borrow.Author.Needs.{needs}
 use Rattle.case_range_text.proofs.print_range.Statement.{statement}
 use Rattle.case_range_text.proofs.print_range.Tie as tie
 

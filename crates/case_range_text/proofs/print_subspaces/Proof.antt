@@ -1,11 +1,10 @@
-use native.Mathlib.Omega.{arith}
+use Rattle.codec.proofs.Prelude.{arith, needs}
 use Rattle.text.specs.Hex.{hexText}
 use Rattle.text.proofs.HexSteps.{hexText-long}
 use Rattle.area_text.specs.AreaText.{subspaceText}
 use Rattle.area_text.proofs.Short.{subspace-few}
 use Rattle.range_3d.proofs.Typed.{typed-subspaces}
 use Rattle.case_text.proofs.Puts.{puts-fits, puts-tab}
-use borrow.Author.Needs.{needs}
 use Rattle.case_range_text.proofs.print_subspaces.Statement.{statement}
 use Rattle.case_range_text.proofs.print_subspaces.Tie as tie
 

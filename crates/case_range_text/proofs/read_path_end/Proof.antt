@@ -1,5 +1,5 @@
 use Rattle.case_range_text.specs.Fields.{readPathEnd}
-use borrow.Author.Needs.{needs}
+use Rattle.codec.proofs.Prelude.{needs}
 use Rattle.case_range_text.proofs.read_path_end.Statement.{statement}
 use Rattle.case_range_text.proofs.read_path_end.Tie as tie
 

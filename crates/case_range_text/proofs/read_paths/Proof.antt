@@ -1,16 +1,10 @@
-use mathlib.Core.Path.{refl}
-use mathlib.Core.Bool.{true, false}
-use mathlib.Core.List.{List}
-use Prim.Native.Nat.{ℕ, _+_}
-use denote.Ref.{now}
-use borrow.Author.Tests.{not-true, not-false}
+use Rattle.codec.proofs.Prelude.{refl, true, false, List, ℕ, _+_, now, not-true, not-false, needs}
 use Rattle.case_text.specs.Fields.{field, onField}
 use Rattle.case_text.proofs.Steps.{path-says, path-says-no, field-says, says-then, says-none}
 use Rattle.path.specs.declared.Path.{Path}
 use Rattle.range_3d.specs.declared.PathRange.{PathRange}
 use Rattle.case_range_text.specs.declared.PathEnd.{PathEnd}
 use Rattle.case_range_text.specs.Fields.{readPathEnd, noPathsField}
-use borrow.Author.Needs.{needs}
 use Rattle.case_range_text.proofs.read_paths.Statement.{statement}
 use Rattle.case_range_text.proofs.read_paths.Tie as tie
 

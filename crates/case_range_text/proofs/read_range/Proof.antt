@@ -1,15 +1,10 @@
-use mathlib.Core.Path.{refl}
-use mathlib.Core.List.{List}
-use Prim.Native.Nat.{ℕ, _+_}
-use denote.Ref.{now}
-use borrow.Author.Tests.{not-true, not-false}
+use Rattle.codec.proofs.Prelude.{refl, List, ℕ, _+_, now, not-true, not-false, needs}
 use Rattle.case_text.proofs.Steps.{says-then, says-none, says-as}
 use Rattle.grouping.specs.declared.TimeRange.{TimeRange}
 use Rattle.range_3d.specs.declared.SubspaceRange.{SubspaceRange}
 use Rattle.range_3d.specs.declared.PathRange.{PathRange}
 use Rattle.range_3d.specs.declared.Range3d.{Range3d}
 use Rattle.case_range_text.specs.Fields.{pathsField, timesField, noRangeField}
-use borrow.Author.Needs.{needs}
 use Rattle.case_range_text.proofs.read_range.Statement.{statement}
 use Rattle.case_range_text.proofs.read_range.Tie as tie
 

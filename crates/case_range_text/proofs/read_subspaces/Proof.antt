@@ -1,9 +1,4 @@
-use mathlib.Core.Path.{refl}
-use mathlib.Core.Bool.{true, false}
-use mathlib.Core.List.{List}
-use Prim.Native.Nat.{ℕ, _+_}
-use denote.Ref.{now}
-use borrow.Author.Tests.{not-true, not-false}
+use Rattle.codec.proofs.Prelude.{refl, true, false, List, ℕ, _+_, now, not-true, not-false, needs}
 use Rattle.text.specs.Ids.{readId}
 use Rattle.area_text.specs.AreaText.{readSubspaceText}
 use Rattle.case_text.specs.Fields.{field, onField}
@@ -11,7 +6,6 @@ use Rattle.case_text.proofs.Steps.{field-says, says-then, says-none}
 use Rattle.grouping.specs.declared.AreaSubspace.{AreaSubspace}
 use Rattle.range_3d.specs.declared.SubspaceRange.{SubspaceRange}
 use Rattle.case_range_text.specs.Fields.{noSubspacesField}
-use borrow.Author.Needs.{needs}
 use Rattle.case_range_text.proofs.read_subspaces.Statement.{statement}
 use Rattle.case_range_text.proofs.read_subspaces.Tie as tie
 

@@ -1,16 +1,10 @@
-use mathlib.Core.Path.{refl}
-use mathlib.Core.Bool.{true, false}
-use mathlib.Core.List.{List}
-use Prim.Native.Nat.{ℕ, _+_}
-use denote.Ref.{now}
-use borrow.Author.Tests.{not-true, not-false}
+use Rattle.codec.proofs.Prelude.{refl, true, false, List, ℕ, _+_, now, not-true, not-false, needs}
 use Rattle.area_text.specs.AreaText.{readEndText}
 use Rattle.case_text.specs.Fields.{field, onField}
 use Rattle.case_text.proofs.Steps.{decimal-says, decimal-says-no, field-says, says-then, says-none}
 use Rattle.grouping.specs.declared.RangeEnd.{RangeEnd}
 use Rattle.grouping.specs.declared.TimeRange.{TimeRange}
 use Rattle.case_range_text.specs.Fields.{noTimesField}
-use borrow.Author.Needs.{needs}
 use Rattle.case_range_text.proofs.read_times.Statement.{statement}
 use Rattle.case_range_text.proofs.read_times.Tie as tie
 

@@ -1,11 +1,8 @@
-use mathlib.Core.Path.{sym}
-use denote.Ref.{now}
+use Rattle.codec.proofs.Prelude.{sym, now, not-true, not-false, needs}
 use Rattle.range3d_range3d.specs.Records.{againstRange}
 use Rattle.case_range_text.specs.Fields.{rangeField}
-use borrow.Author.Tests.{not-true, not-false}
 use Rattle.case_text.proofs.Steps.{puts, hex-inside, hex-long, says-refused, says-value}
 use Rattle.case_text.proofs.RecordSteps.{write-fields, write-value, write-buffer, write-answer}
-use borrow.Author.Needs.{needs}
 use Rattle.case_ranges.proofs.write_line.Statement.{statement}
 use Rattle.case_ranges.proofs.write_line.Tie as tie
 

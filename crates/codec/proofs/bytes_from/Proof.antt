@@ -1,8 +1,4 @@
-use mathlib.Core.Path.{sym}
-use native.Mathlib.Omega.{arith}
-use denote.Ref.{now}
-use lib.ListN.{length-drop}
-use borrow.Author.Needs.{needs}
+use Rattle.codec.proofs.Prelude.{sym, arith, now, length-drop, needs}
 use Rattle.codec.proofs.bytes_from.Statement.{statement}
 use Rattle.codec.proofs.bytes_from.Tie as tie
 

@@ -1,12 +1,7 @@
-use mathlib.Core.Path.{_≡_, refl, _∙_}
-use Prim.Native.Nat.{_+_, _-_, _≤_}
-use native.Mathlib.Omega.{arith}
-use denote.Ref.{now}
-use lib.ListN.{length, take, drop, length-drop}
+use Rattle.codec.proofs.Prelude.{_≡_, refl, _∙_, _+_, _-_, _≤_, arith, now, length, take, drop, length-drop, needs}
 use Rattle.codec.proofs.Answers.{gives-refused, gives-accepted}
 use Rattle.codec.proofs.Lending.{id-put}
 use Rattle.codec.proofs.Readers.{bytes-short, bytes-there}
-use borrow.Author.Needs.{needs}
 use Rattle.codec.proofs.decode_id.Statement.{statement}
 use Rattle.codec.proofs.decode_id.Tie as tie
 

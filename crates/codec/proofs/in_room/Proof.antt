@@ -1,6 +1,5 @@
-use borrow.Author.Tests.{le-leb, lt-leb}
+use Rattle.codec.proofs.Prelude.{le-leb, lt-leb, needs}
 use Rattle.codec.proofs.Lending.{no-length}
-use borrow.Author.Needs.{needs}
 use Rattle.codec.proofs.in_room.Statement.{statement}
 use Rattle.codec.proofs.in_room.Tie as tie
 

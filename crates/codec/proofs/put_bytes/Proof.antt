@@ -1,11 +1,4 @@
-use Prim.Native.Nat.{_≤_, _-_}
-use mathlib.Core.Path.{_≡_, refl, _∙_}
-use mathlib.Core.List.{_++_}
-use denote.Ref.{now}
-use native.Mathlib.Omega.{arith}
-use borrow.Author.Needs.{needs}
-use lib.ListN.{length, take, drop, length-set}
-use lib.Seq.{take-all}
+use Rattle.codec.proofs.Prelude.{_≤_, _-_, _≡_, refl, _∙_, _++_, now, arith, needs, length, take, drop, length-set, take-all}
 use Rattle.codec.specs.Format.{allowed}
 use Rattle.codec.proofs.Lending.{copy-next, put-full, put-fits}
 use Rattle.codec.proofs.put_bytes.Statement.{statement}

@@ -1,9 +1,4 @@
-use Prim.Native.Nat.{_-_, _≤_}
-use mathlib.Core.Path.{_≡_, refl, sym, ap, _∙_}
-use denote.Ref.{now}
-use native.Mathlib.Omega.{arith}
-use borrow.Author.Tests.{eq-eqb, ne-eqb}
-use lib.ListN.{length, drop, getD}
+use Rattle.codec.proofs.Prelude.{_-_, _≤_, _≡_, refl, sym, ap, _∙_, now, arith, eq-eqb, ne-eqb, length, drop, getD}
 use Rattle.codec.specs.Bytes.{sameBytes}
 use Rattle.codec.proofs.SameBytes.{same-next, same-end, different}
 use Rattle.codec.proofs.same_bytes.Statement.{statement}

@@ -1,10 +1,4 @@
-use Prim.Native.Nat.{_-_, _≤_, _<_, _*_, _^_}
-use mathlib.Core.Path.{_≡_, refl}
-use denote.Ref.{now}
-use native.Mathlib.Omega.{arith}
-use borrow.Author.Needs.{needs}
-use lib.ListN.{length, take, drop, length-drop}
-use lib.Seq.{getD-drop}
+use Rattle.codec.proofs.Prelude.{_-_, _≤_, _<_, _*_, _^_, _≡_, refl, now, arith, needs, length, take, drop, length-drop, getD-drop}
 use Rattle.compact_u64.specs.BigEndian.{valueOf}
 use Rattle.compact_u64.proofs.BigEndian.{value-next, room, room64}
 use Rattle.compact_u64.proofs.big_endian.Statement.{statement}

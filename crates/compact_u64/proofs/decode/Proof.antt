@@ -1,14 +1,9 @@
 use Rattle.compact_u64.proofs.Number.{number-bounded}
-use Prim.Native.Nat.{_+_}
-use mathlib.Core.Path.{_≡_, ap, _∙_, sym}
-use denote.Ref.{now}
-use native.Mathlib.Omega.{arith}
-use lib.ListN.{drop, length-drop}
+use Rattle.codec.proofs.Prelude.{_+_, _≡_, ap, _∙_, sym, now, arith, drop, length-drop, needs}
 use Rattle.codec.specs.Reader.{shift}
 use Rattle.compact_u64.specs.Number.{readStandalone}
 use Rattle.compact_u64.specs.Answers.{numberAnswer}
 use Rattle.compact_u64.proofs.Exits.{standalone-none, standalone-some, refusal-shifted}
-use borrow.Author.Needs.{needs}
 use Rattle.compact_u64.proofs.decode.Statement.{statement}
 use Rattle.compact_u64.proofs.decode.Tie as tie
 

@@ -1,12 +1,8 @@
-use mathlib.Core.Path.{refl, _∙_}
-use denote.Ref.{now}
-use native.Mathlib.Omega.{arith}
-use lib.ListN.{length-set, set}
+use Rattle.codec.proofs.Prelude.{refl, _∙_, now, arith, length-set, set, needs}
 use Rattle.compact_u64.specs.Number.{standaloneBytes}
 use Rattle.codec.specs.Format.{allowed}
 use Rattle.codec.proofs.Lending.{put-full, put-fits, to-end, put-end, put-end-long}
 use Rattle.compact_u64.proofs.Exits.{standalone-put}
-use borrow.Author.Needs.{needs}
 use Rattle.compact_u64.proofs.encode.Statement.{statement}
 use Rattle.compact_u64.proofs.encode.Tie as tie
 

@@ -1,6 +1,5 @@
-use borrow.Author.Tests.{lt-ltb, le-ltb}
+use Rattle.codec.proofs.Prelude.{lt-ltb, le-ltb, needs}
 use Rattle.compact_u64.specs.Number.{minTag}
-use borrow.Author.Needs.{needs}
 use Rattle.compact_u64.proofs.min_tag.Statement.{statement}
 use Rattle.compact_u64.proofs.min_tag.Tie as tie
 

@@ -1,9 +1,4 @@
-use Prim.Native.Nat.{_-_, _+_, _≤_, _^_, _/_}
-use mathlib.Core.Path.{_≡_, refl, sym, _∙_}
-use mathlib.Core.List.{_++_}
-use native.Mathlib.Omega.{arith}
-use denote.Ref.{now}
-use lib.ListN.{length, drop, length-set}
+use Rattle.codec.proofs.Prelude.{_-_, _+_, _≤_, _^_, _/_, _≡_, refl, sym, _∙_, _++_, arith, now, length, drop, length-set}
 use Rattle.codec.specs.Format.{allowed}
 use Rattle.codec.proofs.Lending.{put-full, put-fits}
 use Rattle.compact_u64.specs.BigEndian.{bigEndian}

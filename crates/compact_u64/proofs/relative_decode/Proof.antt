@@ -1,17 +1,9 @@
-use Prim.Native.Nat.{_-_, _^_}
-use mathlib.Core.Path.{_≡_, _∙_, sym}
-use mathlib.Core.Bool.{true, cond}
-use denote.Ref.{now}
-use native.Mathlib.Omega.{arith}
-use lib.Dec.{eqb}
-use lib.ListN.{drop, length-drop}
-use borrow.Author.Tests.{eq-eqb, ne-eqb}
+use Rattle.codec.proofs.Prelude.{_-_, _^_, _≡_, _∙_, sym, true, cond, now, arith, eqb, drop, length-drop, eq-eqb, ne-eqb, needs}
 use Rattle.codec.specs.Answers.{accepted}
 use Rattle.codec.specs.Reader.{passed}
 use Rattle.compact_u64.specs.Number.{inlineLimit, minTag, readNumber}
 use Rattle.compact_u64.specs.Answers.{bits}
 use Rattle.compact_u64.proofs.Exits.{read-misfit, read-inline, read-short, read-bytes, four-tags}
-use borrow.Author.Needs.{needs}
 use Rattle.compact_u64.proofs.relative_decode.Statement.{statement}
 use Rattle.compact_u64.proofs.relative_decode.Tie as tie
 

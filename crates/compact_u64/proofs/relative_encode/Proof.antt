@@ -1,6 +1,6 @@
 use Rattle.compact_u64.specs.Answers.{bits}
 use Rattle.compact_u64.proofs.Exits.{number-bytes}
-use borrow.Author.Needs.{needs}
+use Rattle.codec.proofs.Prelude.{needs}
 use Rattle.compact_u64.proofs.relative_encode.Statement.{statement}
 use Rattle.compact_u64.proofs.relative_encode.Tie as tie
 

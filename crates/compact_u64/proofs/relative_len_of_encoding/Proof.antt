@@ -1,6 +1,5 @@
-use native.Mathlib.Omega.{arith}
+use Rattle.codec.proofs.Prelude.{arith, needs}
 use Rattle.compact_u64.proofs.Exits.{inline-length, sized-length}
-use borrow.Author.Needs.{needs}
 use Rattle.compact_u64.proofs.relative_len_of_encoding.Statement.{statement}
 use Rattle.compact_u64.proofs.relative_len_of_encoding.Tie as tie
 

@@ -1,5 +1,4 @@
-use native.Mathlib.Omega.{arith}
-use mathlib.Core.Path.{_≡_, refl}
+use Rattle.codec.proofs.Prelude.{arith, _≡_, refl}
 use Rattle.compact_u64.proofs.two_to.Statement.{statement}
 use Rattle.compact_u64.proofs.two_to.Tie as tie
 

@@ -1,6 +1,4 @@
-use native.Mathlib.Omega.{arith}
-use mathlib.Core.Path.{refl}
-use borrow.Author.Tests.{lt-ltb, le-ltb}
+use Rattle.codec.proofs.Prelude.{arith, refl, lt-ltb, le-ltb}
 use Rattle.compact_u64.proofs.width_exponent.Statement.{statement}
 use Rattle.compact_u64.proofs.width_exponent.Tie as tie
 

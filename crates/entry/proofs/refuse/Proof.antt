@@ -1,6 +1,6 @@
 use Rattle.entry.specs.Record.{entryFrom}
 use Rattle.entry.specs.Answers.{refusal}
-use borrow.Author.Needs.{needs}
+use Rattle.codec.proofs.Prelude.{needs}
 use Rattle.entry.proofs.refuse.Statement.{statement}
 use Rattle.entry.proofs.refuse.Tie as tie
 

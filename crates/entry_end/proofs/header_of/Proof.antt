@@ -1,5 +1,5 @@
 use Rattle.entry_end.specs.End.{headerOf}
-use borrow.Author.Needs.{needs}
+use Rattle.codec.proofs.Prelude.{needs}
 use Rattle.entry_end.proofs.header_of.Statement.{statement}
 use Rattle.entry_end.proofs.header_of.Tie as tie
 

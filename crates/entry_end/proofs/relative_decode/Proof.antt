@@ -1,8 +1,4 @@
-use mathlib.Core.Path.{_≡_, sym, ap, _∙_}
-use Prim.Native.Nat.{_+_, _≤_}
-use native.Mathlib.Omega.{arith}
-use denote.Ref.{now}
-use lib.ListN.{length, drop}
+use Rattle.codec.proofs.Prelude.{_≡_, sym, ap, _∙_, _+_, _≤_, arith, now, length, drop, needs}
 use Rattle.codec.specs.Answers.{accepted, answerOf}
 use Rattle.codec.specs.Reader.{someBytes}
 use Rattle.codec.specs.declared.Decoded.{Decoded}
@@ -13,7 +9,6 @@ use Rattle.compact_u64.proofs.Exits.{refused-number}
 use Rattle.time_relative.specs.Difference.{readIncluded}
 use Rattle.entry_end.specs.End.{noEnd}
 use Rattle.entry_end.proofs.Reading.{end-time, end-size, end-inside, end-digest, end-read, digest-inside}
-use borrow.Author.Needs.{needs}
 use Rattle.entry_end.proofs.relative_decode.Statement.{statement}
 use Rattle.entry_end.proofs.relative_decode.Tie as tie
 

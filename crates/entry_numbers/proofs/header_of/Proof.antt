@@ -1,5 +1,5 @@
 use Rattle.entry_numbers.specs.Numbers.{headerOf}
-use borrow.Author.Needs.{needs}
+use Rattle.codec.proofs.Prelude.{needs}
 use Rattle.entry_numbers.proofs.header_of.Statement.{statement}
 use Rattle.entry_numbers.proofs.header_of.Tie as tie
 

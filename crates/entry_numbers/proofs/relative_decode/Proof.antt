@@ -1,8 +1,4 @@
-use mathlib.Core.Path.{_≡_, sym, ap, _∙_}
-use mathlib.Core.Bool.{false}
-use native.Mathlib.Omega.{arith}
-use denote.Ref.{now}
-use lib.ListN.{drop}
+use Rattle.codec.proofs.Prelude.{_≡_, sym, ap, _∙_, false, arith, now, drop, needs}
 use Rattle.codec.specs.Answers.{accepted}
 use Rattle.codec.proofs.Answers.{gives-refused, gives-accepted}
 use Rattle.compact_u64.specs.Answers.{numberAnswer}
@@ -12,7 +8,6 @@ use Rattle.grouping.specs.declared.RangeEnd.the-variants.{Closed}
 use Rattle.time_distance.specs.Distance.{readFrom}
 use Rattle.entry_numbers.specs.Numbers.{noNumbers}
 use Rattle.entry_numbers.proofs.Reading.{numbers-first, numbers-second, numbers-read, numbers-inside}
-use borrow.Author.Needs.{needs}
 use Rattle.entry_numbers.proofs.relative_decode.Statement.{statement}
 use Rattle.entry_numbers.proofs.relative_decode.Tie as tie
 

@@ -1,6 +1,4 @@
-use native.Mathlib.Omega.{arith}
-use lib.ListN.{length-append}
-use borrow.Author.Needs.{needs}
+use Rattle.codec.proofs.Prelude.{arith, length-append, needs}
 use Rattle.entry_numbers.proofs.relative_len_of_encoding.Statement.{statement}
 use Rattle.entry_numbers.proofs.relative_len_of_encoding.Tie as tie
 

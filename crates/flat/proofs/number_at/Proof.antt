@@ -1,12 +1,7 @@
-use mathlib.Core.Path.{_≡_, ap, _∙_, sym}
-use native.Mathlib.Omega.{arith}
-use Prim.Native.Nat.{ℕ}
-use denote.Ref.{now}
-use lib.ListN.{drop}
+use Rattle.codec.proofs.Prelude.{_≡_, ap, _∙_, sym, arith, ℕ, now, drop, needs}
 use Rattle.compact_u64.specs.Answers.{numberAnswer}
 use Rattle.compact_u64.proofs.Exits.{refused-number}
 use Rattle.flat.proofs.Parts.{number-there, from-room}
-use borrow.Author.Needs.{needs}
 use Rattle.flat.proofs.number_at.Statement.{statement}
 use Rattle.flat.proofs.number_at.Tie as tie
 

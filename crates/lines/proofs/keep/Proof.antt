@@ -1,8 +1,4 @@
-use mathlib.Core.Path.{ap}
-use denote.Ref.{now}
-use native.Mathlib.Omega.{arith}
-use borrow.Author.Needs.{needs}
-use lib.ListN.{length}
+use Rattle.codec.proofs.Prelude.{ap, now, arith, needs, length}
 use Rattle.lines.proofs.Keeping.{kept-out, kept-none, kept-is, kept-long}
 use Rattle.lines.proofs.keep.Statement.{statement}
 use Rattle.lines.proofs.keep.Tie as tie

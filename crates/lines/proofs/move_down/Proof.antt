@@ -1,8 +1,4 @@
-use Prim.Native.Nat.{_-_, _≤_}
-use mathlib.Core.Path.{_≡_, refl, _∙_, sym}
-use denote.Ref.{now}
-use native.Mathlib.Omega.{arith}
-use lib.ListN.{length, take, drop, length-set}
+use Rattle.codec.proofs.Prelude.{_-_, _≤_, _≡_, refl, _∙_, sym, now, arith, length, take, drop, length-set}
 use Rattle.codec.specs.Format.{over}
 use Rattle.text.specs.Buffer.{overAt}
 use Rattle.text.proofs.Buffer.{overAt-start}

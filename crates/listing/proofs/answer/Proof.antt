@@ -1,8 +1,6 @@
-use denote.Ref.{now}
-use native.Mathlib.Omega.{arith}
+use Rattle.codec.proofs.Prelude.{now, arith, needs}
 use Rattle.case_text.proofs.Puts.{within-same}
 use Rattle.listing.proofs.Answering.{long-refused, mode-told}
-use borrow.Author.Needs.{needs}
 use Rattle.listing.proofs.answer.Statement.{statement}
 use Rattle.listing.proofs.answer.Tie as tie
 

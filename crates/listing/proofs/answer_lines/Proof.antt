@@ -1,10 +1,4 @@
-use Prim.Native.Nat.{_+_, _-_, _≤_, _<_}
-use mathlib.Core.Path.{_≡_, refl, ap, _∙_, sym}
-use mathlib.Core.List.{[]}
-use denote.Ref.{now}
-use native.Mathlib.Omega.{arith}
-use lib.ListN.{length, take, drop, length-append, length-drop}
-use lib.Seq.{length-take-le}
+use Rattle.codec.proofs.Prelude.{_+_, _-_, _≤_, _<_, _≡_, refl, ap, _∙_, sym, [], now, arith, length, take, drop, length-append, length-drop, length-take-le, needs}
 use Rattle.codec.specs.Format.{over}
 use Rattle.codec.proofs.Lending.{to-end}
 use Rattle.text.specs.Buffer.{overAt}
@@ -14,7 +8,6 @@ use Rattle.lines.proofs.Lines.{span-none, span-next, answers-none, answers-next
 use Rattle.lines.proofs.Fitting.{fitting-short, fitting-end, fitting-turn}
 use Rattle.case_text.proofs.Puts.{within-puts, ends-inside}
 use Rattle.listing.specs.Lines.{answerTo}
-use borrow.Author.Needs.{needs}
 use Rattle.listing.proofs.answer_lines.Statement.{statement}
 use Rattle.listing.proofs.answer_lines.Tie as tie
 

@@ -1,6 +1,4 @@
-use mathlib.Core.List.{_++_}
-use native.Mathlib.Omega.{arith}
-use lib.ListN.{length-append}
+use Rattle.codec.proofs.Prelude.{_++_, arith, length-append, needs}
 use Rattle.text.specs.Decimal.{decimalText}
 use Rattle.text.proofs.DecimalPrinted.{decimal-few}
 use Rattle.path_text.specs.PathText.{componentsTextOf}
@@ -10,7 +8,6 @@ use Rattle.area_text.proofs.Short.{subspace-few, end-few}
 use Rattle.grouping.proofs.Typed.{typed-area}
 use Rattle.case_text.specs.Texts.{afterTab}
 use Rattle.case_text.proofs.Puts.{puts-fits, puts-tab}
-use borrow.Author.Needs.{needs}
 use Rattle.listing.proofs.print.Statement.{statement}
 use Rattle.listing.proofs.print.Tie as tie
 

@@ -1,9 +1,4 @@
-use mathlib.Core.Path.{_≡_, refl, sym}
-use mathlib.Core.Bool.{true, false}
-use mathlib.Core.List.{List}
-use Prim.Native.Nat.{ℕ}
-use denote.Ref.{now}
-use borrow.Author.Tests.{not-true, not-false}
+use Rattle.codec.proofs.Prelude.{_≡_, refl, sym, true, false, List, ℕ, now, not-true, not-false, needs}
 use Rattle.path.specs.declared.Path.{Path}
 use Rattle.grouping.specs.declared.RangeEnd.{RangeEnd}
 use Rattle.grouping.specs.declared.AreaSubspace.{AreaSubspace}
@@ -13,7 +8,6 @@ use Rattle.case_text.specs.Fields.{field, onField, onPath, decimalField, Says}
 use Rattle.case_text.proofs.Steps.{decimal-says, decimal-says-no, field-says, says-then, says-none, says-as}
 use Rattle.listing.proofs.PathField.{path-says, path-says-no}
 use Rattle.listing.specs.Lines.{readPathField}
-use borrow.Author.Needs.{needs}
 use Rattle.listing.proofs.read_area.Statement.{statement}
 use Rattle.listing.proofs.read_area.Tie as tie
 

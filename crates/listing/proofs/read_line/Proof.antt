@@ -1,9 +1,4 @@
-use mathlib.Core.Bool.{Bool}
-use Prim.Native.Nat.{ℕ}
-use mathlib.Core.Path.{sym, ap, _∙_}
-use mathlib.Core.List.{List}
-use denote.Ref.{now}
-use borrow.Author.Tests.{not-true, not-false}
+use Rattle.codec.proofs.Prelude.{Bool, ℕ, sym, ap, _∙_, List, now, not-true, not-false, needs}
 use Rattle.grouping.specs.declared.Area.{Area}
 use Rattle.area_area.specs.Records.{readAgainstArea}
 use Rattle.case_text.specs.Texts.{readText}
@@ -12,7 +7,6 @@ use Rattle.case_text.proofs.Puts.{puts-first}
 use Rattle.case_text.proofs.Steps.{puts, fields-not, fields-are, hex-refused, hex-bytes, hex-inside, hex-long, says-refused, says-value}
 use Rattle.case_text.proofs.RecordSteps.{read-printed}
 use Rattle.listing.specs.Lines.{areaText}
-use borrow.Author.Needs.{needs}
 use Rattle.listing.proofs.read_line.Statement.{statement}
 use Rattle.listing.proofs.read_line.Tie as tie
 

@@ -1,8 +1,5 @@
-use denote.Ref.{now}
-use lib.ListN.{length}
-use borrow.Author.Tests.{eq-eqb, ne-eqb}
+use Rattle.codec.proofs.Prelude.{now, length, eq-eqb, ne-eqb, needs}
 use Rattle.listing.specs.Lines.{readPathField}
-use borrow.Author.Needs.{needs}
 use Rattle.listing.proofs.read_path.Statement.{statement}
 use Rattle.listing.proofs.read_path.Tie as tie
 

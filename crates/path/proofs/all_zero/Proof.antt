@@ -1,11 +1,4 @@
-use Prim.Native.Nat.{_≤_, _-_}
-use mathlib.Core.Path.{_≡_, refl, _∙_, sym}
-use mathlib.Core.Bool.{_&&_, and-true, and-false}
-use mathlib.Core.Logic.{⊎-elim}
-use denote.Ref.{now}
-use native.Mathlib.Omega.{arith}
-use borrow.Author.Tests.{lt-leb, le-leb}
-use lib.ListN.{length, drop}
+use Rattle.codec.proofs.Prelude.{_≤_, _-_, _≡_, refl, _∙_, sym, _&&_, and-true, and-false, ⊎-elim, now, arith, lt-leb, le-leb, length, drop}
 use Rattle.path.specs.Record.{allAtMost}
 use Rattle.path.proofs.Lists.{at-most-next, at-most-end}
 use Rattle.path.proofs.all_zero.Statement.{statement}

@@ -1,16 +1,8 @@
-use mathlib.Core.Path.{_≡_, sym, ap, _∙_}
-use mathlib.Core.Bool.{Bool, true, false, _&&_}
-use native.Mathlib.Omega.{arith}
-use denote.Ref.{now}
-use lib.Dec.{leb}
-use lib.ListN.{length, drop}
-use lib.Seq.{length-take-le}
-use borrow.Author.Tests.{lt-leb, le-leb, eq-eqb, not-true, not-false}
+use Rattle.codec.proofs.Prelude.{_≡_, sym, ap, _∙_, Bool, true, false, _&&_, arith, now, leb, length, drop, length-take-le, lt-leb, le-leb, eq-eqb, not-true, not-false, needs}
 use Rattle.codec.proofs.Lending.{to-end}
 use Rattle.path.specs.Record.{wellFormed, pathOf, sumOf, allAtMost, used}
 use Rattle.path.specs.declared.Path.{Path}
 use Rattle.path.proofs.Lists.{bounded-sum}
-use borrow.Author.Needs.{needs}
 use Rattle.path.proofs.parts_formed.Statement.{statement}
 use Rattle.path.proofs.parts_formed.Tie as tie
 

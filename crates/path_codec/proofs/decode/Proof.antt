@@ -1,9 +1,4 @@
-use mathlib.Core.Path.{_≡_, ap, _∙_, sym}
-use mathlib.Core.List.{[]}
-use Prim.Native.Nat.{_+_, _≤_}
-use denote.Ref.{now}
-use native.Mathlib.Omega.{arith}
-use lib.ListN.{length, drop, length-drop}
+use Rattle.codec.proofs.Prelude.{_≡_, ap, _∙_, sym, [], _+_, _≤_, now, arith, length, drop, length-drop, needs}
 use Rattle.codec.specs.Answers.{accepted, answerOf}
 use Rattle.codec.specs.declared.Decoded.{Decoded}
 use Rattle.codec.proofs.Answers.{gives-refused, later-accepted, later-refused}
@@ -13,7 +8,6 @@ use Rattle.path_codec.specs.Plain.{readAfter}
 use Rattle.path_codec.specs.Answers.{GivesPath, sizesAnswer}
 use Rattle.path_codec.proofs.After.{after-bounded}
 use Rattle.path_codec.proofs.Exits.{no-sizes, sizes-inside, path-refused, path-after}
-use borrow.Author.Needs.{needs}
 use Rattle.path_codec.proofs.decode.Statement.{statement}
 use Rattle.path_codec.proofs.decode.Tie as tie
 

@@ -1,10 +1,5 @@
 use Rattle.compact_u64.specs.Number.{standaloneBytes}
-use lib.ListN.{length, drop, getD}
-use Prim.Native.Nat.{_+_, _≤_, _<_, _-_}
-use mathlib.Core.Path.{_≡_, sym}
-use denote.Ref.{now}
-use native.Mathlib.Omega.{arith}
-use borrow.Author.Needs.{needs}
+use Rattle.codec.proofs.Prelude.{length, drop, getD, _+_, _≤_, _<_, _-_, _≡_, sym, now, arith, needs}
 use Rattle.path_suffix.specs.Lengths.{componentsLength}
 use Rattle.path_suffix.proofs.Lengths.{length-none, length-turn, length-last, lengths-short}
 use Rattle.path_suffix.proofs.components_len.Statement.{statement}

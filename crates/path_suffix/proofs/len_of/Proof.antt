@@ -1,12 +1,9 @@
-use denote.Ref.{now}
-use native.Mathlib.Omega.{arith}
-use lib.ListN.{length}
+use Rattle.codec.proofs.Prelude.{now, arith, length, needs}
 use Rattle.path.specs.Record.{sumOf}
 use Rattle.path_suffix.specs.Suffix.{sizesFrom}
 use Rattle.path_suffix.specs.Lengths.{suffixLength}
 use Rattle.path_suffix.proofs.Writing.{sizes-long}
 use Rattle.path_suffix.proofs.Lengths.{lengths-short}
-use borrow.Author.Needs.{needs}
 use Rattle.path_suffix.proofs.len_of.Statement.{statement}
 use Rattle.path_suffix.proofs.len_of.Tie as tie
 

@@ -1,8 +1,5 @@
-use mathlib.Core.Path.{refl, _∙_}
-use denote.Ref.{now}
-use native.Mathlib.Omega.{arith}
+use Rattle.codec.proofs.Prelude.{refl, _∙_, now, arith, needs}
 use Rattle.codec.proofs.Lending.{put-over}
-use borrow.Author.Needs.{needs}
 use Rattle.path_suffix.proofs.put.Statement.{statement}
 use Rattle.path_suffix.proofs.put.Tie as tie
 

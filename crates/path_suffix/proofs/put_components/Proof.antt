@@ -1,10 +1,4 @@
-use Prim.Native.Nat.{_+_, _≤_, _<_, _-_}
-use mathlib.Core.Path.{_≡_, refl, ap, _∙_, sym}
-use mathlib.Core.List.{_++_}
-use denote.Ref.{now}
-use native.Mathlib.Omega.{arith}
-use borrow.Author.Needs.{needs}
-use lib.ListN.{length, take, drop, getD, length-drop}
+use Rattle.codec.proofs.Prelude.{_+_, _≤_, _<_, _-_, _≡_, refl, ap, _∙_, sym, _++_, now, arith, needs, length, take, drop, getD, length-drop}
 use Rattle.codec.specs.Format.{over}
 use Rattle.codec.proofs.Lending.{to-end, put-end, put-end-long}
 use Rattle.path.specs.Record.{sumOf}

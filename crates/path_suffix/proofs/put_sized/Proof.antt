@@ -1,12 +1,7 @@
-use Prim.Native.Nat.{_≤_}
-use mathlib.Core.Path.{_∙_, sym}
-use denote.Ref.{now}
-use native.Mathlib.Omega.{arith}
-use lib.ListN.{length, length-drop, length-append}
+use Rattle.codec.proofs.Prelude.{_≤_, _∙_, sym, now, arith, length, length-drop, length-append, needs}
 use Rattle.codec.proofs.Lending.{to-end, put-end}
 use Rattle.compact_u64.specs.Number.{standaloneBytes}
 use Rattle.path_suffix.proofs.Writing.{sized-put}
-use borrow.Author.Needs.{needs}
 use Rattle.path_suffix.proofs.put_sized.Statement.{statement}
 use Rattle.path_suffix.proofs.put_sized.Tie as tie
 

@@ -1,10 +1,4 @@
-use Prim.Native.Nat.{ℕ, _+_, _≤_, _-_}
-use mathlib.Core.Path.{_≡_, _∙_}
-use mathlib.Core.List.{List, _∷_}
-use denote.Ref.{now}
-use native.Mathlib.Omega.{arith}
-use lib.ListN.{length, set, length-set}
-use borrow.Rule.Slice.PartMut.{putMid}
+use Rattle.codec.proofs.Prelude.{ℕ, _+_, _≤_, _-_, _≡_, _∙_, List, _∷_, now, arith, length, set, length-set, putMid, needs}
 use Rattle.codec.specs.Format.{over}
 use Rattle.codec.proofs.Lending.{to-end, put-end, put-end-long}
 use Rattle.compact_u64.specs.Number.{numberBytes}
@@ -12,7 +6,6 @@ use Rattle.compact_u64.proofs.Tags.{min-tag-fits}
 use Rattle.path_suffix.specs.Header.{packTags}
 use Rattle.path_suffix.specs.Suffix.{sizesFrom, tagsOf}
 use Rattle.path_suffix.proofs.Writing.{cons-put, sizes-long, sizes-put}
-use borrow.Author.Needs.{needs}
 use Rattle.path_suffix.proofs.put_sizes.Statement.{statement}
 use Rattle.path_suffix.proofs.put_sizes.Tie as tie
 

@@ -1,16 +1,10 @@
-use Prim.Native.Nat.{ℕ, _+_, _≤_}
-use mathlib.Core.Path.{_≡_, ap, _∙_}
-use mathlib.Core.List.{List}
-use denote.Ref.{now}
-use native.Mathlib.Omega.{arith}
-use lib.ListN.{length, length-drop}
+use Rattle.codec.proofs.Prelude.{ℕ, _+_, _≤_, _≡_, ap, _∙_, List, now, arith, length, length-drop, needs}
 use Rattle.codec.specs.Format.{over}
 use Rattle.codec.proofs.Lending.{to-end, put-end}
 use Rattle.path.specs.Record.{cutUp}
 use Rattle.path_suffix.specs.Suffix.{Sizes, sizesFrom, sizesOf, sizesBytes, componentBytes}
 use Rattle.path_suffix.proofs.Writing.{suffix-parts, suffix-put}
 use Rattle.path_suffix.proofs.Lengths.{sizes-cut}
-use borrow.Author.Needs.{needs}
 use Rattle.path_suffix.proofs.put_suffix.Statement.{statement}
 use Rattle.path_suffix.proofs.put_suffix.Tie as tie
 

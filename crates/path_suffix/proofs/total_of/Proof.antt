@@ -1,9 +1,4 @@
-use Prim.Native.Nat.{_+_, _≤_, _-_}
-use mathlib.Core.Path.{_≡_}
-use denote.Ref.{now}
-use native.Mathlib.Omega.{arith}
-use borrow.Author.Needs.{needs}
-use lib.ListN.{length, drop}
+use Rattle.codec.proofs.Prelude.{_+_, _≤_, _-_, _≡_, now, arith, needs, length, drop}
 use Rattle.path.specs.Record.{sumOf}
 use Rattle.path.proofs.Lists.{sum-next, sum-end}
 use Rattle.path_suffix.proofs.total_of.Statement.{statement}

@@ -1,9 +1,4 @@
-use Prim.Native.Nat.{_+_, _-_, _≤_, _<_}
-use mathlib.Core.Path.{_≡_, refl, ap, _∙_, sym}
-use mathlib.Core.List.{_∷_, _++_}
-use native.Mathlib.Omega.{arith}
-use borrow.Author.Needs.{needs}
-use lib.ListN.{length, drop}
+use Rattle.codec.proofs.Prelude.{_+_, _-_, _≤_, _<_, _≡_, refl, ap, _∙_, sym, _∷_, _++_, arith, needs, length, drop}
 use Rattle.codec.specs.Format.{over}
 use Rattle.text.specs.Hex.{hexText}
 use Rattle.text.specs.Buffer.{overAt}

@@ -1,14 +1,9 @@
-use mathlib.Core.Path.{_≡_, _∙_, sym}
-use denote.Ref.{now}
-use native.Mathlib.Omega.{arith}
-use lib.ListN.{take}
-use lib.Seq.{length-take-le}
+use Rattle.codec.proofs.Prelude.{_≡_, _∙_, sym, now, arith, take, length-take-le, needs}
 use Rattle.text.specs.Hex.{unhex}
 use Rattle.text.specs.Fields.{readHex}
 use Rattle.text.specs.declared.Hex.the-variants.{Bytes}
 use Rattle.text.proofs.HexAnswers.{hex-refused, some-bytes, bytes-are}
 use Rattle.path_text.proofs.Reading.{push-refused, push-hex}
-use borrow.Author.Needs.{needs}
 use Rattle.path_text.proofs.push_text.Statement.{statement}
 use Rattle.path_text.proofs.push_text.Tie as tie
 

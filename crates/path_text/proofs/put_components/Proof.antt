@@ -1,12 +1,7 @@
-use mathlib.Core.Path.{_≡_, _∙_, sym}
-use mathlib.Core.List.{[]}
-use denote.Ref.{now}
-use native.Mathlib.Omega.{arith}
-use borrow.Author.Tests.{not-true, not-false}
+use Rattle.codec.proofs.Prelude.{_≡_, _∙_, sym, [], now, arith, not-true, not-false, needs}
 use Rattle.path.specs.Record.{componentsOf}
 use Rattle.path_text.specs.PathText.{tailText}
 use Rattle.path_text.proofs.Printing.{part-text, no-length, put-none, ill-components, well-components}
-use borrow.Author.Needs.{needs}
 use Rattle.path_text.proofs.put_components.Statement.{statement}
 use Rattle.path_text.proofs.put_components.Tie as tie
 

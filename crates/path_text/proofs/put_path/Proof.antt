@@ -1,10 +1,6 @@
-use mathlib.Core.Path.{_∙_, sym}
-use denote.Ref.{now}
-use native.Mathlib.Omega.{arith}
-use borrow.Author.Tests.{not-true, not-false}
+use Rattle.codec.proofs.Prelude.{_∙_, sym, now, arith, not-true, not-false, needs}
 use Rattle.path.proofs.Typed.{typed}
 use Rattle.path_text.proofs.Printing.{put-none, ill-path, no-components, some-components}
-use borrow.Author.Needs.{needs}
 use Rattle.path_text.proofs.put_path.Statement.{statement}
 use Rattle.path_text.proofs.put_path.Tie as tie
 

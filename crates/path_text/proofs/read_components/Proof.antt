@@ -1,12 +1,4 @@
-use Prim.Native.Nat.{ℕ, _+_, _-_, _≤_, _<_}
-use mathlib.Core.Path.{_≡_, refl, ap, _∙_, sym}
-use mathlib.Core.List.{List, [], _∷_, _++_}
-use mathlib.Core.Bool.{true}
-use denote.Ref.{now}
-use native.Mathlib.Omega.{arith}
-use borrow.Author.Needs.{needs}
-use lib.ListN.{length, take, drop, length-drop}
-use lib.Seq.{length-take-le, drop-drop, take-all}
+use Rattle.codec.proofs.Prelude.{ℕ, _+_, _-_, _≤_, _<_, _≡_, refl, ap, _∙_, sym, List, [], _∷_, _++_, true, now, arith, needs, length, take, drop, length-drop, length-take-le, drop-drop, take-all}
 use Rattle.codec.proofs.Lending.{to-end}
 use Rattle.text.specs.Parts.{before, parts}
 use Rattle.text.specs.Hex.{unhex}

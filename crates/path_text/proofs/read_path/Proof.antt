@@ -1,6 +1,5 @@
-use mathlib.Core.Path.{_∙_, sym}
+use Rattle.codec.proofs.Prelude.{_∙_, sym, needs}
 use Rattle.path_text.specs.PathText.{readPathText}
-use borrow.Author.Needs.{needs}
 use Rattle.path_text.proofs.read_path.Statement.{statement}
 use Rattle.path_text.proofs.read_path.Tie as tie
 

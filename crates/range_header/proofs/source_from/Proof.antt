@@ -1,4 +1,4 @@
-use borrow.Author.Tests.{ne-eqb}
+use Rattle.codec.proofs.Prelude.{ne-eqb}
 use Rattle.range_header.proofs.source_from.Statement.{statement}
 use Rattle.range_header.proofs.source_from.Tie as tie
 

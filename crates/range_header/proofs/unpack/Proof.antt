@@ -1,4 +1,4 @@
-use borrow.Author.Needs.{needs}
+use Rattle.codec.proofs.Prelude.{needs}
 use Rattle.range_header.proofs.unpack.Statement.{statement}
 use Rattle.range_header.proofs.unpack.Tie as tie
 

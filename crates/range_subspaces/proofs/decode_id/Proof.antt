@@ -1,4 +1,4 @@
-use borrow.Author.Needs.{needs}
+use Rattle.codec.proofs.Prelude.{needs}
 use Rattle.range_subspaces.proofs.decode_id.Statement.{statement}
 use Rattle.range_subspaces.proofs.decode_id.Tie as tie
 

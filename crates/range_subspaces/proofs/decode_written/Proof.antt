@@ -1,5 +1,4 @@
-use mathlib.Core.Path.{_≡_, sym, ap, _∙_}
-use denote.Ref.{now}
+use Rattle.codec.proofs.Prelude.{_≡_, sym, ap, _∙_, now, needs}
 use Rattle.codec.specs.Answers.{accepted, answerOf}
 use Rattle.codec.specs.Reader.{someBytes}
 use Rattle.codec.specs.declared.Decoded.{Decoded}
@@ -7,7 +6,6 @@ use Rattle.codec.proofs.Answers.{no-value}
 use Rattle.range_3d.specs.Record.{subspacesOf}
 use Rattle.range_subspaces.specs.Subspaces.{isWritten}
 use Rattle.range_subspaces.proofs.Exits.{not-written, written-refused, written-named, written-read}
-use borrow.Author.Needs.{needs}
 use Rattle.range_subspaces.proofs.decode_written.Statement.{statement}
 use Rattle.range_subspaces.proofs.decode_written.Tie as tie
 

@@ -1,10 +1,7 @@
-use mathlib.Core.Path.{sym, ap, _∙_}
-use native.Mathlib.Omega.{arith}
-use lib.ListN.{length}
+use Rattle.codec.proofs.Prelude.{sym, ap, _∙_, arith, length, needs}
 use Rattle.range_3d.specs.Record.{subspacesOf}
 use Rattle.range_subspaces.specs.Subspaces.{isWritten}
 use Rattle.range_subspaces.proofs.Exits.{not-written, id-bytes, no-bytes}
-use borrow.Author.Needs.{needs}
 use Rattle.range_subspaces.proofs.id_len.Statement.{statement}
 use Rattle.range_subspaces.proofs.id_len.Tie as tie
 

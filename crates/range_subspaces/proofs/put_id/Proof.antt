@@ -1,15 +1,9 @@
-use mathlib.Core.Path.{sym, ap, _∙_}
-use mathlib.Core.List.{List}
-use Prim.Native.Nat.{ℕ}
-use native.Mathlib.Omega.{arith}
-use denote.Ref.{now}
-use lib.ListN.{length}
+use Rattle.codec.proofs.Prelude.{sym, ap, _∙_, List, ℕ, arith, now, length, needs}
 use Rattle.codec.specs.Format.{over}
 use Rattle.codec.proofs.Lending.{put-over}
 use Rattle.range_3d.specs.Record.{subspacesOf}
 use Rattle.range_subspaces.specs.Subspaces.{isWritten}
 use Rattle.range_subspaces.proofs.Exits.{not-written, id-bytes, no-bytes}
-use borrow.Author.Needs.{needs}
 use Rattle.range_subspaces.proofs.put_id.Statement.{statement}
 use Rattle.range_subspaces.proofs.put_id.Tie as tie
 

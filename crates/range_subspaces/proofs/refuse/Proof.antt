@@ -1,4 +1,4 @@
-use mathlib.Core.Path.{refl}
+use Rattle.codec.proofs.Prelude.{refl}
 use Rattle.range_3d.specs.Record.{subspacesFrom}
 use Rattle.range_subspaces.proofs.refuse.Statement.{statement}
 use Rattle.range_subspaces.proofs.refuse.Tie as tie

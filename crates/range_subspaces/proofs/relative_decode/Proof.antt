@@ -1,9 +1,4 @@
-use mathlib.Core.Path.{_≡_, sym, ap, _∙_}
-use mathlib.Core.Option.{some}
-use Prim.Native.Nat.{_+_, _≤_}
-use native.Mathlib.Omega.{arith}
-use denote.Ref.{now}
-use lib.ListN.{length}
+use Rattle.codec.proofs.Prelude.{_≡_, sym, ap, _∙_, some, _+_, _≤_, arith, now, length, needs}
 use Rattle.codec.specs.Answers.{accepted, answerOf}
 use Rattle.codec.specs.Reader.{mapped}
 use Rattle.codec.specs.declared.Decoded.{Decoded}
@@ -14,7 +9,6 @@ use Rattle.range_3d.specs.Record.{subspacesOf, subspacesFrom, noSubspaces}
 use Rattle.range_subspaces.specs.Subspaces.{readId, subspacesUpTo, readSubspaces}
 use Rattle.range_subspaces.proofs.Subspaces.{id-bounded, subspaces-bounded}
 use Rattle.range_subspaces.proofs.Exits.{start-refused, end-open, end-refused, both-read}
-use borrow.Author.Needs.{needs}
 use Rattle.range_subspaces.proofs.relative_decode.Statement.{statement}
 use Rattle.range_subspaces.proofs.relative_decode.Tie as tie
 

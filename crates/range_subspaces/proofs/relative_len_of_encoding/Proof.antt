@@ -1,8 +1,6 @@
-use native.Mathlib.Omega.{arith}
-use lib.ListN.{length-append}
+use Rattle.codec.proofs.Prelude.{arith, length-append, needs}
 use Rattle.range_3d.specs.Record.{subspacesOf}
 use Rattle.range_subspaces.proofs.Exits.{open-bytes, closed-bytes}
-use borrow.Author.Needs.{needs}
 use Rattle.range_subspaces.proofs.relative_len_of_encoding.Statement.{statement}
 use Rattle.range_subspaces.proofs.relative_len_of_encoding.Tie as tie
 

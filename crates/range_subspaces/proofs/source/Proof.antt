@@ -1,6 +1,5 @@
-use mathlib.Core.Path.{sym, _∙_}
+use Rattle.codec.proofs.Prelude.{sym, _∙_, needs}
 use Rattle.range_subspaces.specs.Subspaces.{sourceOf}
-use borrow.Author.Needs.{needs}
 use Rattle.range_subspaces.proofs.source.Statement.{statement}
 use Rattle.range_subspaces.proofs.source.Tie as tie
 

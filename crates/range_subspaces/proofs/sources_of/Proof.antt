@@ -1,5 +1,5 @@
 use Rattle.range_subspaces.specs.Subspaces.{sourcesOf}
-use borrow.Author.Needs.{needs}
+use Rattle.codec.proofs.Prelude.{needs}
 use Rattle.range_subspaces.proofs.sources_of.Statement.{statement}
 use Rattle.range_subspaces.proofs.sources_of.Tie as tie
 

@@ -1,11 +1,8 @@
-use mathlib.Core.Path.{sym, ap, _∙_}
-use denote.Ref.{now}
-use lib.ListN.{drop}
+use Rattle.codec.proofs.Prelude.{sym, ap, _∙_, now, drop, needs}
 use Rattle.compact_u64.specs.Answers.{numberAnswer}
 use Rattle.compact_u64.proofs.Exits.{refused-number}
 use Rattle.grouping.specs.declared.RangeEnd.the-variants.{Open}
 use Rattle.range_times.proofs.Exits.{end-open, end-refused, end-read}
-use borrow.Author.Needs.{needs}
 use Rattle.range_times.proofs.decode_end.Statement.{statement}
 use Rattle.range_times.proofs.decode_end.Tie as tie
 

@@ -1,8 +1,5 @@
 use Rattle.range_3d.specs.Record.{noTimes}
-use mathlib.Core.Path.{_≡_, sym, ap, _∙_}
-use Prim.Native.Nat.{_+_}
-use native.Mathlib.Omega.{arith}
-use denote.Ref.{now}
+use Rattle.codec.proofs.Prelude.{_≡_, sym, ap, _∙_, _+_, arith, now, needs}
 use Rattle.codec.specs.Answers.{accepted, answerOf}
 use Rattle.codec.specs.declared.Decoded.{Decoded}
 use Rattle.codec.proofs.Answers.{no-value, gives-refused, gives-accepted}
@@ -13,7 +10,6 @@ use Rattle.range_times.specs.Header.{unpackHeader}
 use Rattle.range_times.specs.Times.{timesFrom, readTimes}
 use Rattle.range_times.proofs.Exits.{times-start, times-end, times-read}
 use Rattle.range_times.proofs.Times.{times-bounded}
-use borrow.Author.Needs.{needs}
 use Rattle.range_times.proofs.relative_decode.Statement.{statement}
 use Rattle.range_times.proofs.relative_decode.Tie as tie
 

@@ -1,7 +1,5 @@
-use native.Mathlib.Omega.{arith}
-use lib.ListN.{length-append}
+use Rattle.codec.proofs.Prelude.{arith, length-append, needs}
 use Rattle.range_times.proofs.Exits.{times-open, times-closed}
-use borrow.Author.Needs.{needs}
 use Rattle.range_times.proofs.relative_len_of_encoding.Statement.{statement}
 use Rattle.range_times.proofs.relative_len_of_encoding.Tie as tie
 

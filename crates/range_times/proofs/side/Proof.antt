@@ -1,4 +1,4 @@
-use borrow.Author.Needs.{needs}
+use Rattle.codec.proofs.Prelude.{needs}
 use Rattle.range_times.proofs.side.Statement.{statement}
 use Rattle.range_times.proofs.side.Tie as tie
 

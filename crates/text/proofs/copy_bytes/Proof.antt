@@ -1,13 +1,6 @@
-use Prim.Native.Nat.{suc, _+_, _-_, _≤_}
-use mathlib.Core.Path.{_≡_, refl, _∙_, sym}
-use denote.Ref.{now}
-use native.Mathlib.Omega.{arith}
-use native.Mathlib.Numerals.{add-one}
-use lib.ListN.{length, drop, length-set}
+use Rattle.codec.proofs.Prelude.{suc, _+_, _-_, _≤_, _≡_, refl, _∙_, sym, now, arith, add-one, length, drop, length-set, drop-of-length-le, drop-cons}
 use Rattle.text.specs.Buffer.{overAt}
 use Rattle.text.proofs.Buffer.{overAt-none, overAt-next}
-use lib.ListN.{drop-of-length-le}
-use lib.Seq.{drop-cons}
 use Rattle.text.proofs.copy_bytes.Statement.{statement}
 use Rattle.text.proofs.copy_bytes.Tie as tie
 

@@ -1,8 +1,4 @@
-use Prim.Native.Nat.{_+_, _-_, _*_, _≤_}
-use mathlib.Core.Path.{_≡_, refl, _∙_, sym}
-use denote.Ref.{now}
-use native.Mathlib.Omega.{arith}
-use lib.ListN.{length, drop, set, length-set}
+use Rattle.codec.proofs.Prelude.{_+_, _-_, _*_, _≤_, _≡_, refl, _∙_, sym, now, arith, length, drop, set, length-set}
 use Rattle.text.specs.Hex.{hexText}
 use Rattle.text.specs.Buffer.{overAt}
 use Rattle.text.proofs.Buffer.{overAt-none, overAt-next}

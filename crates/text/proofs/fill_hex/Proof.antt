@@ -1,10 +1,4 @@
-use Prim.Native.Nat.{_+_, _-_, _≤_, _<_}
-use mathlib.Core.Path.{_≡_, refl, ap, _∙_, sym}
-use mathlib.Core.Bool.{true}
-use denote.Ref.{now}
-use native.Mathlib.Omega.{arith}
-use borrow.Author.Needs.{needs}
-use lib.ListN.{length, drop, length-set}
+use Rattle.codec.proofs.Prelude.{_+_, _-_, _≤_, _<_, _≡_, refl, ap, _∙_, sym, true, now, arith, needs, length, drop, length-set}
 use Rattle.codec.specs.Format.{over}
 use Rattle.text.specs.Hex.{isHex, unhex}
 use Rattle.text.specs.Buffer.{overAt}

@@ -1,8 +1,4 @@
-use Prim.Native.Nat.{_+_, _-_, _≤_}
-use mathlib.Core.Path.{_≡_}
-use denote.Ref.{now}
-use native.Mathlib.Omega.{arith}
-use lib.ListN.{length, drop}
+use Rattle.codec.proofs.Prelude.{_+_, _-_, _≤_, _≡_, now, arith, length, drop}
 use Rattle.text.specs.Parts.{before}
 use Rattle.text.proofs.Parts.{before-here, before-next, before-end}
 use Rattle.text.proofs.find.Statement.{statement}

@@ -1,10 +1,4 @@
-use Prim.Native.Nat.{_-_, _≤_}
-use mathlib.Core.Path.{_≡_, refl, _∙_, sym}
-use denote.Ref.{now}
-use native.Mathlib.Omega.{arith}
-use borrow.Author.Needs.{needs}
-use borrow.Author.Tests.{lt-ltb, le-ltb}
-use lib.ListN.{length, drop}
+use Rattle.codec.proofs.Prelude.{_-_, _≤_, _≡_, refl, _∙_, sym, now, arith, needs, lt-ltb, le-ltb, length, drop}
 use Rattle.text.specs.Hex.{isHex}
 use Rattle.text.proofs.HexSteps.{isHex-next, isHex-odd, isHex-end}
 use Rattle.text.proofs.is_hex.Statement.{statement}

@@ -1,11 +1,4 @@
-use Prim.Native.Nat.{ℕ, suc, _+_, _-_, _≤_, _<_}
-use mathlib.Core.Path.{_≡_, refl, ap, _∙_, sym}
-use mathlib.Core.List.{List}
-use denote.Ref.{now}
-use native.Mathlib.Omega.{arith}
-use borrow.Author.Needs.{needs}
-use lib.ListN.{length, drop, length-drop}
-use lib.Seq.{length-take-le, drop-drop}
+use Rattle.codec.proofs.Prelude.{ℕ, suc, _+_, _-_, _≤_, _<_, _≡_, refl, ap, _∙_, sym, List, now, arith, needs, length, drop, length-drop, length-take-le, drop-drop}
 use Rattle.codec.proofs.Lending.{to-end}
 use Rattle.text.specs.Parts.{before, partAt}
 use Rattle.text.proofs.Parts.{part-first, part-later, part-none}

@@ -1,9 +1,4 @@
-use Prim.Native.Nat.{_+_, _-_, _≤_}
-use mathlib.Core.Path.{_≡_}
-use mathlib.Core.Logic.{⊎-elim}
-use denote.Ref.{now}
-use native.Mathlib.Omega.{arith}
-use lib.ListN.{length, drop}
+use Rattle.codec.proofs.Prelude.{_+_, _-_, _≤_, _≡_, ⊎-elim, now, arith, length, drop}
 use Rattle.text.specs.Parts.{parts}
 use Rattle.text.proofs.Parts.{count-here, count-next, count-end}
 use Rattle.text.proofs.part_count.Statement.{statement}

@@ -1,7 +1,4 @@
-use mathlib.Core.Path.{_≡_, _∙_}
-use native.Mathlib.Omega.{arith}
-use borrow.Author.Needs.{needs}
-use lib.ListN.{take}
+use Rattle.codec.proofs.Prelude.{_≡_, _∙_, arith, needs, take}
 use Rattle.text.specs.Decimal.{decimalText}
 use Rattle.text.proofs.DecimalPrinted.{decimal-is}
 use Rattle.text.proofs.put_decimal.Statement.{statement}

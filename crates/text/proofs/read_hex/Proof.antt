@@ -1,11 +1,4 @@
-use Prim.Native.Nat.{_≤_, _<_}
-use mathlib.Core.Path.{_≡_, _∙_, sym}
-use mathlib.Core.Bool.{true, false}
-use denote.Ref.{now}
-use native.Mathlib.Omega.{arith}
-use borrow.Author.Needs.{needs}
-use borrow.Author.Tests.{lt-ltb, le-ltb, not-true, not-false}
-use lib.ListN.{length}
+use Rattle.codec.proofs.Prelude.{_≤_, _<_, _≡_, _∙_, sym, true, false, now, arith, needs, lt-ltb, le-ltb, not-true, not-false, length}
 use Rattle.text.specs.Hex.{isHex, unhex}
 use Rattle.text.specs.Fields.{readHex, hexBuffer}
 use Rattle.text.proofs.HexSteps.{unhex-long}

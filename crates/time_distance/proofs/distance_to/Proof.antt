@@ -1,4 +1,4 @@
-use borrow.Author.Needs.{needs}
+use Rattle.codec.proofs.Prelude.{needs}
 use Rattle.time_distance.proofs.distance_to.Statement.{statement}
 use Rattle.time_distance.proofs.distance_to.Tie as tie
 

@@ -1,6 +1,5 @@
-use borrow.Author.Tests.{le-leb, lt-leb}
+use Rattle.codec.proofs.Prelude.{le-leb, lt-leb, needs}
 use Rattle.time_distance.specs.Distance.{nearestOf}
-use borrow.Author.Needs.{needs}
 use Rattle.time_distance.proofs.nearest.Statement.{statement}
 use Rattle.time_distance.proofs.nearest.Tie as tie
 

@@ -1,15 +1,9 @@
-use mathlib.Core.Path.{_≡_, sym, ap, _∙_}
-use denote.Ref.{now}
-use lib.ListN.{drop}
-use native.Mathlib.Omega.{arith}
-use Prim.Native.Nat.{ℕ, _+_, _-_}
-use borrow.Author.Tests.{le-leb, lt-leb}
+use Rattle.codec.proofs.Prelude.{_≡_, sym, ap, _∙_, now, drop, arith, ℕ, _+_, _-_, le-leb, lt-leb, needs}
 use Rattle.compact_u64.specs.Answers.{numberAnswer}
 use Rattle.compact_u64.proofs.Exits.{refused-number}
 use Rattle.grouping.specs.Range.{top}
 use Rattle.time_distance.specs.Distance.{timeFrom}
 use Rattle.time_distance.proofs.Exits.{from-refused, from-fault, from-read}
-use borrow.Author.Needs.{needs}
 use Rattle.time_distance.proofs.relative_decode.Statement.{statement}
 use Rattle.time_distance.proofs.relative_decode.Tie as tie
 

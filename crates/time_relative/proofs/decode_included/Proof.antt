@@ -1,14 +1,7 @@
-use mathlib.Core.Path.{sym, ap, _∙_}
-use mathlib.Core.Bool.{true, false}
-use denote.Ref.{now}
-use borrow.Author.Tests.{not-true, not-false}
-use lib.ListN.{drop}
-use native.Mathlib.Omega.{arith}
-use Prim.Native.Nat.{ℕ}
+use Rattle.codec.proofs.Prelude.{sym, ap, _∙_, true, false, now, not-true, not-false, drop, arith, ℕ, needs}
 use Rattle.compact_u64.specs.Answers.{numberAnswer}
 use Rattle.compact_u64.proofs.Exits.{refused-number}
 use Rattle.time_relative.proofs.Exits.{included-refused, included-past, included-told}
-use borrow.Author.Needs.{needs}
 use Rattle.time_relative.proofs.decode_included.Statement.{statement}
 use Rattle.time_relative.proofs.decode_included.Tie as tie
 

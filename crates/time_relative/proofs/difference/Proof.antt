@@ -1,6 +1,5 @@
-use borrow.Author.Tests.{le-leb, lt-leb}
+use Rattle.codec.proofs.Prelude.{le-leb, lt-leb, needs}
 use Rattle.time_relative.specs.Difference.{differenceOf}
-use borrow.Author.Needs.{needs}
 use Rattle.time_relative.proofs.difference.Statement.{statement}
 use Rattle.time_relative.proofs.difference.Tie as tie
 

@@ -1,8 +1,6 @@
-use mathlib.Core.Path.{sym, ap, _∙_}
-use borrow.Author.Tests.{not-true, not-false, eq-eqb}
+use Rattle.codec.proofs.Prelude.{sym, ap, _∙_, not-true, not-false, eq-eqb, needs}
 use Rattle.time_relative.specs.Difference.{isNearest}
 use Rattle.time_relative.proofs.Exits.{outside, farther}
-use borrow.Author.Needs.{needs}
 use Rattle.time_relative.proofs.is_nearest.Statement.{statement}
 use Rattle.time_relative.proofs.is_nearest.Tie as tie
 

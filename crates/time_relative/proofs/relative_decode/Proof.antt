@@ -1,14 +1,8 @@
-use mathlib.Core.Path.{sym, ap, _∙_}
-use denote.Ref.{now}
-use borrow.Author.Tests.{not-true, not-false}
-use lib.ListN.{drop}
-use native.Mathlib.Omega.{arith}
-use Prim.Native.Nat.{ℕ}
+use Rattle.codec.proofs.Prelude.{sym, ap, _∙_, now, not-true, not-false, drop, arith, ℕ, needs}
 use Rattle.compact_u64.specs.Answers.{numberAnswer}
 use Rattle.compact_u64.proofs.Exits.{refused-number}
 use Rattle.grouping.proofs.Typed.{typed-range}
 use Rattle.time_relative.proofs.Exits.{past-reach, time-refused, time-fault, time-read}
-use borrow.Author.Needs.{needs}
 use Rattle.time_relative.proofs.relative_decode.Statement.{statement}
 use Rattle.time_relative.proofs.relative_decode.Tie as tie
 

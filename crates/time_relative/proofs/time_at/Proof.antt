@@ -1,6 +1,5 @@
-use native.Mathlib.Omega.{arith}
+use Rattle.codec.proofs.Prelude.{arith, needs}
 use Rattle.time_relative.specs.Difference.{timeAt}
-use borrow.Author.Needs.{needs}
 use Rattle.time_relative.proofs.time_at.Statement.{statement}
 use Rattle.time_relative.proofs.time_at.Tie as tie
 

@@ -1,8 +1,4 @@
-use mathlib.Core.Path.{_≡_, sym, ap, _∙_}
-use Prim.Native.Nat.{_+_, _≤_}
-use native.Mathlib.Omega.{arith}
-use denote.Ref.{now}
-use lib.ListN.{length, drop, length-drop}
+use Rattle.codec.proofs.Prelude.{_≡_, sym, ap, _∙_, _+_, _≤_, arith, now, length, drop, length-drop, needs}
 use Rattle.codec.specs.Answers.{accepted, answerOf}
 use Rattle.codec.specs.Reader.{shift, mapped}
 use Rattle.codec.specs.declared.Decoded.{Decoded}
@@ -20,7 +16,6 @@ use Rattle.area_area.specs.Answers.{refusal}
 use Rattle.area_area.proofs.Subspace.{subspace-bounded}
 use Rattle.area_area.proofs.DecodeExits.{gives-early, parts-malformed, parts-inside, parts-subspace, parts-times, parts-path, parts-read}
 use Rattle.codec.proofs.Bounded.{mapped-bounded}
-use borrow.Author.Needs.{needs}
 use Rattle.area_area.proofs.area_decode.decode_parts.Statement.{statement}
 use Rattle.area_area.proofs.area_decode.decode_parts.Tie as tie
 

@@ -1,14 +1,9 @@
-use mathlib.Core.Path.{_≡_, sym, ap, _∙_}
-use mathlib.Core.Bool.{true}
-use mathlib.Core.Logic.{inl, inr, ⊎-elim}
-use denote.Ref.{now}
-use borrow.Author.Tests.{not-true, not-false}
+use Rattle.codec.proofs.Prelude.{_≡_, sym, ap, _∙_, true, inl, inr, ⊎-elim, now, not-true, not-false, needs}
 use Rattle.codec.specs.Answers.{accepted, answerOf}
 use Rattle.codec.specs.Reader.{someBytes}
 use Rattle.codec.specs.declared.Decoded.{Decoded}
 use Rattle.codec.proofs.Answers.{no-value}
 use Rattle.area_area.proofs.DecodeExits.{subspace-kept, subspace-refused, subspace-outside, subspace-known, subspace-read}
-use borrow.Author.Needs.{needs}
 use Rattle.area_area.proofs.area_decode.decode_subspace.Statement.{statement}
 use Rattle.area_area.proofs.area_decode.decode_subspace.Tie as tie
 

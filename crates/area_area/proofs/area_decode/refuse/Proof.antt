@@ -1,6 +1,6 @@
 use Rattle.grouping.specs.Record.{areaFrom}
 use Rattle.area_area.specs.Answers.{refusal}
-use borrow.Author.Needs.{needs}
+use Rattle.codec.proofs.Prelude.{needs}
 use Rattle.area_area.proofs.area_decode.refuse.Statement.{statement}
 use Rattle.area_area.proofs.area_decode.refuse.Tie as tie
 

@@ -1,7 +1,5 @@
-use mathlib.Core.Path.{sym, _∙_}
-use borrow.Author.Tests.{not-true, not-false}
+use Rattle.codec.proofs.Prelude.{sym, _∙_, not-true, not-false, needs}
 use Rattle.area_area.specs.Answers.{earlyRefusal}
-use borrow.Author.Needs.{needs}
 use Rattle.area_area.proofs.area_decode.refuse_early.Statement.{statement}
 use Rattle.area_area.proofs.area_decode.refuse_early.Tie as tie
 

@@ -1,9 +1,7 @@
-use native.Mathlib.Omega.{arith}
-use lib.ListN.{length-append}
+use Rattle.codec.proofs.Prelude.{arith, length-append, needs}
 use Rattle.grouping.specs.Record.{subspaceOf}
 use Rattle.area_times.specs.Times.{timesBytes}
 use Rattle.area_area.specs.Area.{startOf}
-use borrow.Author.Needs.{needs}
 use Rattle.area_area.proofs.area_encode.head_len.Statement.{statement}
 use Rattle.area_area.proofs.area_encode.head_len.Tie as tie
 

@@ -1,14 +1,9 @@
-use mathlib.Core.Path.{_≡_, _∙_}
-use native.Mathlib.Omega.{arith}
-use Prim.Native.Nat.{_+_, _≤_}
-use denote.Ref.{now}
-use lib.ListN.{length, drop, length-append, length-drop}
+use Rattle.codec.proofs.Prelude.{_≡_, _∙_, arith, _+_, _≤_, now, length, drop, length-append, length-drop, needs}
 use Rattle.codec.specs.Format.{over}
 use Rattle.codec.proofs.Lending.{put-over, over-then, to-end, put-end}
 use Rattle.grouping.specs.Record.{subspaceOf}
 use Rattle.area_times.specs.Times.{timesBytes}
 use Rattle.area_area.specs.Area.{startOf}
-use borrow.Author.Needs.{needs}
 use Rattle.area_area.proofs.area_encode.put_head.Statement.{statement}
 use Rattle.area_area.proofs.area_encode.put_head.Tie as tie
 

@@ -1,17 +1,10 @@
-use mathlib.Core.Path.{ap, _∙_}
-use native.Mathlib.Omega.{arith}
-use mathlib.Core.List.{_∷_}
-use mathlib.Core.Bool.{Bool}
-use Prim.Native.Nat.{ℕ}
-use denote.Ref.{now}
-use lib.ListN.{set, length-set, length-drop}
+use Rattle.codec.proofs.Prelude.{ap, _∙_, arith, _∷_, Bool, ℕ, now, set, length-set, length-drop, needs}
 use Rattle.codec.specs.Format.{over}
 use Rattle.codec.proofs.Lending.{over-cons, to-end, put-end, put-end-long}
 use Rattle.grouping.specs.Record.{subspaceOf}
 use Rattle.area_times.specs.Header.{packHeader}
 use Rattle.area_times.specs.Times.{headerOf}
 use Rattle.area_area.specs.Area.{subspaceBytes}
-use borrow.Author.Needs.{needs}
 use Rattle.area_area.proofs.area_encode.put_start.Statement.{statement}
 use Rattle.area_area.proofs.area_encode.put_start.Tie as tie
 

@@ -1,14 +1,8 @@
-use mathlib.Core.Path.{sym, ap, _∙_}
-use native.Mathlib.Omega.{arith}
-use mathlib.Core.List.{List}
-use Prim.Native.Nat.{ℕ}
-use denote.Ref.{now}
-use lib.ListN.{length}
+use Rattle.codec.proofs.Prelude.{sym, ap, _∙_, arith, List, ℕ, now, length, needs}
 use Rattle.codec.specs.Format.{over}
 use Rattle.codec.proofs.Lending.{put-over}
 use Rattle.grouping.proofs.Typed.{typed-id}
 use Rattle.area_area.proofs.Writing.{written-bytes, no-bytes}
-use borrow.Author.Needs.{needs}
 use Rattle.area_area.proofs.area_encode.put_subspace.Statement.{statement}
 use Rattle.area_area.proofs.area_encode.put_subspace.Tie as tie
 

@@ -1,9 +1,6 @@
-use mathlib.Core.Path.{sym, ap, _∙_}
-use native.Mathlib.Omega.{arith}
-use lib.ListN.{length}
+use Rattle.codec.proofs.Prelude.{sym, ap, _∙_, arith, length, needs}
 use Rattle.grouping.proofs.Typed.{typed-id}
 use Rattle.area_area.proofs.Writing.{written-bytes, no-bytes}
-use borrow.Author.Needs.{needs}
 use Rattle.area_area.proofs.area_encode.subspace_len.Statement.{statement}
 use Rattle.area_area.proofs.area_encode.subspace_len.Tie as tie
 

@@ -1,11 +1,4 @@
-use mathlib.Core.Path.{_≡_, refl, sym, _∙_}
-use mathlib.Core.Bool.{true, false}
-use mathlib.Core.Logic.{⊎-elim}
-use Prim.Native.Nat.{_+_}
-use native.Mathlib.Omega.{arith}
-use denote.Ref.{now}
-use lib.ListN.{getD, length-drop}
-use borrow.Author.Tests.{not-true, not-false}
+use Rattle.codec.proofs.Prelude.{_≡_, refl, sym, _∙_, true, false, ⊎-elim, _+_, arith, now, getD, length-drop, not-true, not-false, needs}
 use Rattle.codec.proofs.Answers.{gives-refused}
 use Rattle.codec.proofs.Lending.{to-end}
 use Rattle.path.specs.Record.{pathOf}
@@ -15,7 +8,6 @@ use Rattle.area_times.specs.declared.Header.{Header}
 use Rattle.area_times.specs.Header.{unpackHeader, spareBits}
 use Rattle.area_area.specs.Answers.{refusal}
 use Rattle.area_area.proofs.DecodeExits.{gives-early, no-subspace, no-path, area-none, area-spare, area-parts}
-use borrow.Author.Needs.{needs}
 use Rattle.area_area.proofs.parts.relative_decode.Statement.{statement}
 use Rattle.area_area.proofs.parts.relative_decode.Tie as tie
 

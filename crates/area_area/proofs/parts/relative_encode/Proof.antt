@@ -1,7 +1,4 @@
-use mathlib.Core.Path.{_≡_, sym, ap, _∙_}
-use native.Mathlib.Omega.{arith}
-use denote.Ref.{now}
-use lib.ListN.{length, drop}
+use Rattle.codec.proofs.Prelude.{_≡_, sym, ap, _∙_, arith, now, length, drop, needs}
 use Rattle.codec.specs.Answers.{outcomeOf, wrote}
 use Rattle.codec.specs.Format.{allowed, writeAnswer}
 use Rattle.codec.proofs.Lending.{put-barred, put-wrote, no-length, to-end, put-end}
@@ -11,7 +8,6 @@ use Rattle.grouping.specs.declared.Area.{Area}
 use Rattle.grouping.specs.Record.{areaWith}
 use Rattle.area_area.specs.Records.{againstArea}
 use Rattle.area_area.proofs.Writing.{contained, not-contained, unformed, suffix-short, area-full, area-refused, area-written}
-use borrow.Author.Needs.{needs}
 use Rattle.area_area.proofs.parts.relative_encode.Statement.{statement}
 use Rattle.area_area.proofs.parts.relative_encode.Tie as tie
 

@@ -1,7 +1,4 @@
-use mathlib.Core.Path.{_≡_, sym, ap, _∙_}
-use native.Mathlib.Omega.{arith}
-use denote.Ref.{now}
-use lib.ListN.{length}
+use Rattle.codec.proofs.Prelude.{_≡_, sym, ap, _∙_, arith, now, length, needs}
 use Rattle.codec.specs.Answers.{outcomeOf}
 use Rattle.codec.specs.Format.{allowed}
 use Rattle.codec.proofs.Lending.{length-allowed, length-barred, length-wrote, length-not-denied, no-length}
@@ -11,7 +8,6 @@ use Rattle.grouping.specs.declared.Area.{Area}
 use Rattle.grouping.specs.Record.{areaWith}
 use Rattle.area_area.specs.Records.{againstArea}
 use Rattle.area_area.proofs.Writing.{contained, not-contained, unformed, suffix-allowed, suffix-short, area-long}
-use borrow.Author.Needs.{needs}
 use Rattle.area_area.proofs.parts.relative_len_of_encoding.Statement.{statement}
 use Rattle.area_area.proofs.parts.relative_len_of_encoding.Tie as tie
 

@@ -1,4 +1,4 @@
-use borrow.Author.Tests.{not-true, not-false}
+use Rattle.codec.proofs.Prelude.{not-true, not-false}
 use Rattle.area_times.specs.Header.{spareBits}
 use Rattle.area_times.proofs.area_header.spare_bits.Statement.{statement}
 use Rattle.area_times.proofs.area_header.spare_bits.Tie as tie

@@ -1,8 +1,6 @@
-use denote.Ref.{now}
-use borrow.Author.Tests.{not-true, not-false}
+use Rattle.codec.proofs.Prelude.{now, not-true, not-false, needs}
 use Rattle.case_text.proofs.Steps.{puts, decimal-refused, decimal-value}
 use Rattle.case_paths.proofs.RawSteps.{raw-fields, raw-count, raw-lengths, raw-bytes, raw-answer}
-use borrow.Author.Needs.{needs}
 use Rattle.case_paths.proofs.raw.raw.Statement.{statement}
 use Rattle.case_paths.proofs.raw.raw.Tie as tie
 

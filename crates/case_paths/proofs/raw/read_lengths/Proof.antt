@@ -1,9 +1,5 @@
-use Prim.Native.Nat.{_-_, _≤_}
-use mathlib.Core.Path.{refl, _∙_, sym}
-use denote.Ref.{now}
-use native.Mathlib.Omega.{arith}
+use Rattle.codec.proofs.Prelude.{_-_, _≤_, refl, _∙_, sym, now, arith, needs}
 use Rattle.case_paths.proofs.RawSteps.{LengthsRead, lengths-few, lengths-refused, lengths-next, lengths-all, number-said}
-use borrow.Author.Needs.{needs}
 use Rattle.case_paths.proofs.raw.read_lengths.Statement.{statement}
 use Rattle.case_paths.proofs.raw.read_lengths.Tie as tie
 

@@ -1,8 +1,5 @@
-use mathlib.Core.Path.{sym, _∙_}
-use denote.Ref.{now}
-use native.Mathlib.Omega.{arith}
+use Rattle.codec.proofs.Prelude.{sym, _∙_, now, arith, needs}
 use Rattle.case_text.proofs.FieldLaws.{hex-left, hex-taken}
-use borrow.Author.Needs.{needs}
 use Rattle.case_text.proofs.fields.hex.Statement.{statement}
 use Rattle.case_text.proofs.fields.hex.Tie as tie
 

@@ -1,9 +1,6 @@
-use denote.Ref.{now}
-use native.Mathlib.Omega.{arith}
-use lib.ListN.{length}
+use Rattle.codec.proofs.Prelude.{now, arith, length, needs}
 use Rattle.case_text.proofs.Steps.{decimal-refused, decimal-value}
 use Rattle.case_text.proofs.FieldLaws.{message-fields, message-start, message-none, message-some}
-use borrow.Author.Needs.{needs}
 use Rattle.case_text.proofs.fields.message.Statement.{statement}
 use Rattle.case_text.proofs.fields.message.Tie as tie
 

@@ -1,4 +1,4 @@
-use borrow.Author.Needs.{needs}
+use Rattle.codec.proofs.Prelude.{needs}
 use Rattle.case_text.specs.Fields.{opOf}
 use Rattle.case_text.proofs.fields.op.Statement.{statement}
 use Rattle.case_text.proofs.fields.op.Tie as tie

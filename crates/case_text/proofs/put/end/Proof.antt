@@ -1,6 +1,4 @@
-use mathlib.Core.List.{[], _∷_}
-use native.Mathlib.Omega.{arith}
-use borrow.Author.Needs.{needs}
+use Rattle.codec.proofs.Prelude.{[], _∷_, arith, needs}
 use Rattle.case_text.proofs.Puts.{puts-fits}
 use Rattle.case_text.proofs.put.end.Statement.{statement}
 use Rattle.case_text.proofs.put.end.Tie as tie

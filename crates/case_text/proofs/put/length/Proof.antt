@@ -1,6 +1,5 @@
-use native.Mathlib.Omega.{arith}
+use Rattle.codec.proofs.Prelude.{arith, needs}
 use Rattle.case_text.proofs.Puts.{puts-then, within-full, within-fits}
-use borrow.Author.Needs.{needs}
 use Rattle.case_text.proofs.put.length.Statement.{statement}
 use Rattle.case_text.proofs.put.length.Tie as tie
 

@@ -1,5 +1,4 @@
-use native.Mathlib.Omega.{arith}
-use borrow.Author.Needs.{needs}
+use Rattle.codec.proofs.Prelude.{arith, needs}
 use Rattle.case_text.specs.Texts.{noText}
 use Rattle.case_text.proofs.Puts.{puts-then}
 use Rattle.case_text.proofs.put.no.Statement.{statement}

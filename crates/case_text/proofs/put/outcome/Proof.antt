@@ -1,4 +1,4 @@
-use borrow.Author.Needs.{needs}
+use Rattle.codec.proofs.Prelude.{needs}
 use Rattle.case_text.specs.Texts.{okText, noText}
 use Rattle.case_text.proofs.put.outcome.Statement.{statement}
 use Rattle.case_text.proofs.put.outcome.Tie as tie

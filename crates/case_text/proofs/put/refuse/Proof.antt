@@ -1,7 +1,5 @@
-use mathlib.Core.List.{[], _∷_}
-use native.Mathlib.Omega.{arith}
+use Rattle.codec.proofs.Prelude.{[], _∷_, arith, needs}
 use Rattle.case_text.proofs.Puts.{puts-fits, within-full, within-fits}
-use borrow.Author.Needs.{needs}
 use Rattle.case_text.proofs.put.refuse.Statement.{statement}
 use Rattle.case_text.proofs.put.refuse.Tie as tie
 

@@ -1,13 +1,7 @@
-use mathlib.Core.Path.{sym}
-use mathlib.Core.List.{[], _∷_}
-use denote.Ref.{now}
-use native.Mathlib.Omega.{arith}
-use lib.ListN.{take}
-use lib.Seq.{length-take-le, take-all}
+use Rattle.codec.proofs.Prelude.{sym, [], _∷_, now, arith, take, length-take-le, take-all, needs}
 use Rattle.text.specs.Hex.{hexText}
 use Rattle.text.proofs.HexSteps.{hexText-long}
 use Rattle.case_text.proofs.Puts.{puts-two}
-use borrow.Author.Needs.{needs}
 use Rattle.case_text.proofs.put.tab_hex.Statement.{statement}
 use Rattle.case_text.proofs.put.tab_hex.Tie as tie
 

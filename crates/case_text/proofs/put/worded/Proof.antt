@@ -1,5 +1,4 @@
-use denote.Ref.{now}
-use borrow.Author.Needs.{needs}
+use Rattle.codec.proofs.Prelude.{now, needs}
 use Rattle.text.specs.Decimal.{decimalText}
 use Rattle.text.proofs.DecimalPrinted.{decimal-few}
 use Rattle.case_text.proofs.Puts.{puts-two}

@@ -1,9 +1,6 @@
-use denote.Ref.{now}
-use native.Mathlib.Omega.{arith}
-use lib.ListN.{take}
+use Rattle.codec.proofs.Prelude.{now, arith, take, needs}
 use Rattle.case_text.specs.Texts.{okText}
 use Rattle.case_text.proofs.Puts.{puts-then, within-full, within-fits, refused-number}
-use borrow.Author.Needs.{needs}
 use Rattle.case_text.proofs.put.written_number.Statement.{statement}
 use Rattle.case_text.proofs.put.written_number.Tie as tie
 

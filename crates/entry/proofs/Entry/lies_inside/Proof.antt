@@ -1,4 +1,4 @@
-use borrow.Author.Needs.{needs}
+use Rattle.codec.proofs.Prelude.{needs}
 use Rattle.entry.proofs.Entry.lies_inside.Statement.{statement}
 use Rattle.entry.proofs.Entry.lies_inside.Tie as tie
 

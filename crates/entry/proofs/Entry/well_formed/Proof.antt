@@ -1,5 +1,5 @@
 use Rattle.entry.specs.Record.{wellFormedEntry}
-use borrow.Author.Needs.{needs}
+use Rattle.codec.proofs.Prelude.{needs}
 use Rattle.entry.proofs.Entry.well_formed.Statement.{statement}
 use Rattle.entry.proofs.Entry.well_formed.Tie as tie
 

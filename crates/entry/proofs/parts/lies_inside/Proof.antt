@@ -1,8 +1,4 @@
-use mathlib.Core.Path.{_≡_, sym, _∙_}
-use mathlib.Core.Bool.{true, _&&_}
-use mathlib.Core.Option.{some}
-use denote.Ref.{now}
-use borrow.Author.Tests.{not-true, not-false}
+use Rattle.codec.proofs.Prelude.{_≡_, sym, _∙_, true, _&&_, some, now, not-true, not-false, needs}
 use Rattle.codec.specs.Bytes.{sameBytes}
 use Rattle.path.specs.Record.{pathOf}
 use Rattle.path.specs.Answers.{verdict}
@@ -13,7 +9,6 @@ use Rattle.grouping.specs.Record.{areaWith, subspaceOf, wellFormedSubspace, sub
 use Rattle.entry.specs.declared.Entry.{Entry}
 use Rattle.entry.specs.Record.{entryWith, entryInside}
 use Rattle.entry.proofs.Compare.{area-malformed, not-prefix, prefix-told}
-use borrow.Author.Needs.{needs}
 use Rattle.entry.proofs.parts.lies_inside.Statement.{statement}
 use Rattle.entry.proofs.parts.lies_inside.Tie as tie
 

@@ -1,8 +1,5 @@
-use mathlib.Core.Path.{_≡_, sym, _∙_}
-use denote.Ref.{now}
-use borrow.Author.Tests.{not-true, not-false}
+use Rattle.codec.proofs.Prelude.{_≡_, sym, _∙_, now, not-true, not-false, needs}
 use Rattle.entry_area.proofs.DecodeExits.{id-fault, id-kept, id-there, same-flags}
-use borrow.Author.Needs.{needs}
 use Rattle.entry_area.proofs.entry_decode.decode_id.Statement.{statement}
 use Rattle.entry_area.proofs.entry_decode.decode_id.Tie as tie
 

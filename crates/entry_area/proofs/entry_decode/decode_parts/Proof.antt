@@ -1,5 +1,4 @@
-use mathlib.Core.Path.{_≡_, sym, ap, _∙_}
-use denote.Ref.{now}
+use Rattle.codec.proofs.Prelude.{_≡_, sym, ap, _∙_, now, needs}
 use Rattle.codec.specs.Answers.{accepted, answerOf}
 use Rattle.codec.specs.declared.Decoded.{Decoded}
 use Rattle.codec.proofs.Answers.{no-value}
@@ -8,7 +7,6 @@ use Rattle.grouping.specs.declared.Area.{Area}
 use Rattle.grouping.specs.Record.{subspaceOf, areaWith}
 use Rattle.entry_area.specs.Entry.{readId}
 use Rattle.entry_area.proofs.DecodeExits.{gives-early, parts-malformed, parts-id, id-inside, parts-rest}
-use borrow.Author.Needs.{needs}
 use Rattle.entry_area.proofs.entry_decode.decode_parts.Statement.{statement}
 use Rattle.entry_area.proofs.entry_decode.decode_parts.Tie as tie
 

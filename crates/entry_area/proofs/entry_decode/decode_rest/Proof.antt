@@ -1,14 +1,5 @@
-use mathlib.Core.Path.{_≡_, refl, sym, ap, _∙_}
-use mathlib.Core.List.{[], _∷_}
-use mathlib.Core.Bool.{Bool, true, false, cond}
-use mathlib.Core.Logic.{⊎-elim}
-use Prim.Native.Nat.{ℕ, _+_, _≤_}
-use native.Mathlib.Omega.{arith}
-use denote.Ref.{now}
+use Rattle.codec.proofs.Prelude.{_≡_, refl, sym, ap, _∙_, [], _∷_, Bool, true, false, cond, ⊎-elim, ℕ, _+_, _≤_, arith, now, OneOf, length, drop, length-drop, drop-drop, needs}
 use denote.Enum.Declared as declared
-use types.Run.{OneOf}
-use lib.ListN.{length, drop, length-drop}
-use lib.Seq.{drop-drop}
 use Rattle.codec.specs.Answers.{accepted, answerOf}
 use Rattle.codec.specs.Reader.{shift}
 use Rattle.codec.specs.declared.Decoded.{Decoded}
@@ -27,7 +18,6 @@ use Rattle.path_relative.proofs.Yields.{against-path-yields}
 use Rattle.entry.specs.Answers.{refusal}
 use Rattle.entry_end.specs.End.{readEnd}
 use Rattle.entry_area.proofs.DecodeExits.{rest-refused, formed, path-inside, shared-prefix, rest-outside, rest-end, rest-inside, rest-read}
-use borrow.Author.Needs.{needs}
 use Rattle.entry_area.proofs.entry_decode.decode_rest.Statement.{statement}
 use Rattle.entry_area.proofs.entry_decode.decode_rest.Tie as tie
 

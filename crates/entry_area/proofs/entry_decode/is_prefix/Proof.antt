@@ -1,5 +1,4 @@
-use mathlib.Core.Path.{sym, _∙_}
-use borrow.Author.Needs.{needs}
+use Rattle.codec.proofs.Prelude.{sym, _∙_, needs}
 use Rattle.entry_area.proofs.entry_decode.is_prefix.Statement.{statement}
 use Rattle.entry_area.proofs.entry_decode.is_prefix.Tie as tie
 

@@ -1,9 +1,7 @@
-use mathlib.Core.Path.{sym, ap, _∙_}
-use Prim.Native.Nat.{ℕ}
+use Rattle.codec.proofs.Prelude.{sym, ap, _∙_, ℕ, needs}
 use Rattle.compact_u64.specs.Answers.{numberAnswer}
 use Rattle.compact_u64.proofs.Exits.{refused-number}
 use Rattle.entry_area.specs.Records.{sharesAll}
-use borrow.Author.Needs.{needs}
 use Rattle.entry_area.proofs.entry_decode.shares_all.Statement.{statement}
 use Rattle.entry_area.proofs.entry_decode.shares_all.Tie as tie
 

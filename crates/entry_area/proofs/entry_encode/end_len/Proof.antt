@@ -1,7 +1,4 @@
-use native.Mathlib.Omega.{arith}
-use lib.ListN.{length-append}
-use Prim.Native.Nat.{ℕ}
-use borrow.Author.Needs.{needs, length-unmapped}
+use Rattle.codec.proofs.Prelude.{arith, length-append, ℕ, needs, length-unmapped}
 use Rattle.entry_area.proofs.entry_encode.end_len.Statement.{statement}
 use Rattle.entry_area.proofs.entry_encode.end_len.Tie as tie
 

@@ -1,5 +1,4 @@
-use native.Mathlib.Omega.{arith}
-use borrow.Author.Needs.{needs}
+use Rattle.codec.proofs.Prelude.{arith, needs}
 use Rattle.entry_area.proofs.entry_encode.head_len.Statement.{statement}
 use Rattle.entry_area.proofs.entry_encode.head_len.Tie as tie
 

@@ -1,14 +1,8 @@
-use mathlib.Core.Path.{_≡_, sym, ap, _∙_}
-use native.Mathlib.Omega.{arith}
-use mathlib.Core.List.{List, _++_}
-use Prim.Native.Nat.{ℕ, _+_, _≤_}
-use denote.Ref.{now}
-use lib.ListN.{length, length-append, length-drop}
+use Rattle.codec.proofs.Prelude.{_≡_, sym, ap, _∙_, arith, List, _++_, ℕ, _+_, _≤_, now, length, length-append, length-drop, needs}
 use Rattle.codec.specs.Format.{over}
 use Rattle.codec.proofs.Lending.{put-over, over-then, to-end, put-end}
 use Rattle.compact_u64.specs.Number.{numberBytes}
 use Rattle.entry_area.specs.Entry.{payloadOf, endOf}
-use borrow.Author.Needs.{needs}
 use Rattle.entry_area.proofs.entry_encode.put_end.Statement.{statement}
 use Rattle.entry_area.proofs.entry_encode.put_end.Tie as tie
 

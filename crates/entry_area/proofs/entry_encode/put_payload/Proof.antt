@@ -1,12 +1,7 @@
-use mathlib.Core.Path.{_≡_, _∙_}
-use native.Mathlib.Omega.{arith}
-use Prim.Native.Nat.{_≤_}
-use denote.Ref.{now}
-use lib.ListN.{length, drop, length-append, length-drop}
+use Rattle.codec.proofs.Prelude.{_≡_, _∙_, arith, _≤_, now, length, drop, length-append, length-drop, needs}
 use Rattle.codec.specs.Format.{over}
 use Rattle.codec.proofs.Lending.{put-over, over-then, to-end, put-end}
 use Rattle.compact_u64.specs.Number.{numberBytes}
-use borrow.Author.Needs.{needs}
 use Rattle.entry_area.proofs.entry_encode.put_payload.Statement.{statement}
 use Rattle.entry_area.proofs.entry_encode.put_payload.Tie as tie
 

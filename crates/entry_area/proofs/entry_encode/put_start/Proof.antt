@@ -1,19 +1,11 @@
-use mathlib.Core.Path.{_≡_, sym, ap, _∙_}
-use native.Mathlib.Omega.{arith}
-use mathlib.Core.List.{List}
-use mathlib.Core.Bool.{Bool}
-use Prim.Native.Nat.{ℕ, _≤_}
-use denote.Ref.{now}
-use lib.ListN.{length, drop, set, length-set, length-drop}
+use Rattle.codec.proofs.Prelude.{_≡_, sym, ap, _∙_, arith, List, Bool, ℕ, _≤_, now, length, drop, set, length-set, length-drop, not-true, not-false, needs}
 use Rattle.codec.specs.Format.{over}
-use borrow.Author.Tests.{not-true, not-false}
 use Rattle.codec.proofs.Lending.{over-cons, over-one, put-over, to-end, put-end, put-end-long}
 use Rattle.grouping.specs.Record.{subspaceOf}
 use Rattle.entry_end.specs.Header.{packHeader}
 use Rattle.entry_end.specs.End.{headerOf}
 use Rattle.entry_area.specs.Entry.{isAny}
 use Rattle.entry_area.proofs.Writing.{any-is, start-any, start-one}
-use borrow.Author.Needs.{needs}
 use Rattle.entry_area.proofs.entry_encode.put_start.Statement.{statement}
 use Rattle.entry_area.proofs.entry_encode.put_start.Tie as tie
 

@@ -1,9 +1,4 @@
-use mathlib.Core.Path.{_≡_, refl, sym, ap, _∙_}
-use mathlib.Core.List.{List, _++_}
-use Prim.Native.Nat.{ℕ, _+_}
-use native.Mathlib.Omega.{arith}
-use denote.Ref.{now}
-use lib.ListN.{length, take, length-append}
+use Rattle.codec.proofs.Prelude.{_≡_, refl, sym, ap, _∙_, List, _++_, ℕ, _+_, arith, now, length, take, length-append, needs}
 use Rattle.codec.specs.Answers.{outcomeOf, wrote}
 use Rattle.codec.specs.Format.{allowed, over, putAnswer, putBuffer}
 use Rattle.codec.proofs.Lending.{no-length, put-full, put-wrote, put-end-long, to-end, put-end}
@@ -14,7 +9,6 @@ use Rattle.entry.proofs.Typed.{subspace-long}
 use Rattle.entry_area.specs.Entry.{headBytes}
 use Rattle.entry_area.specs.Records.{endIn, tailBytes}
 use Rattle.entry_area.proofs.Writing.{head-long}
-use borrow.Author.Needs.{needs}
 use Rattle.entry_area.proofs.parts.put_known.Statement.{statement}
 use Rattle.entry_area.proofs.parts.put_known.Tie as tie
 

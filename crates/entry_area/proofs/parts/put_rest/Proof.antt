@@ -1,10 +1,4 @@
-use mathlib.Core.Path.{_≡_, sym, ap, _∙_}
-use mathlib.Core.List.{List, _++_}
-use Prim.Native.Nat.{ℕ, _+_, _-_, _≤_}
-use native.Mathlib.Omega.{arith}
-use denote.Ref.{now}
-use lib.ListN.{length, take, drop, length-drop}
-use lib.Seq.{length-front, length-take-le}
+use Rattle.codec.proofs.Prelude.{_≡_, sym, ap, _∙_, List, _++_, ℕ, _+_, _-_, _≤_, arith, now, length, take, drop, length-drop, length-front, length-take-le, needs}
 use Rattle.codec.specs.Answers.{outcomeOf, wrote}
 use Rattle.codec.specs.Format.{allowed, putAnswer}
 use Rattle.codec.proofs.Lending.{no-length, to-end, put-end}
@@ -13,7 +7,6 @@ use Rattle.path_suffix.specs.Suffix.{suffixFrom}
 use Rattle.path_relative.proofs.Writing.{suffix-within}
 use Rattle.entry_area.specs.Entry.{endOf}
 use Rattle.entry_area.proofs.Tail.{end-full, before-refused, before-fits, both-written}
-use borrow.Author.Needs.{needs}
 use Rattle.entry_area.proofs.parts.put_rest.Statement.{statement}
 use Rattle.entry_area.proofs.parts.put_rest.Tie as tie
 

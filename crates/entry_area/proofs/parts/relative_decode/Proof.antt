@@ -1,10 +1,4 @@
-use mathlib.Core.Path.{_≡_, refl, sym, _∙_}
-use mathlib.Core.Bool.{true}
-use Prim.Native.Nat.{_+_}
-use native.Mathlib.Omega.{arith}
-use denote.Ref.{now}
-use lib.ListN.{getD, length-drop}
-use borrow.Author.Tests.{not-true, not-false}
+use Rattle.codec.proofs.Prelude.{_≡_, refl, sym, _∙_, true, _+_, arith, now, getD, length-drop, not-true, not-false, needs}
 use Rattle.codec.proofs.Answers.{gives-refused}
 use Rattle.codec.proofs.Lending.{to-end}
 use Rattle.path.specs.Record.{pathOf}
@@ -13,7 +7,6 @@ use Rattle.grouping.specs.Record.{areaWith, wellFormedSubspace}
 use Rattle.entry.specs.Answers.{refusal}
 use Rattle.entry_end.specs.Header.{unpackHeader}
 use Rattle.entry_area.proofs.DecodeExits.{gives-early, no-subspace, no-path, entry-none, entry-spare, entry-parts}
-use borrow.Author.Needs.{needs}
 use Rattle.entry_area.proofs.parts.relative_decode.Statement.{statement}
 use Rattle.entry_area.proofs.parts.relative_decode.Tie as tie
 

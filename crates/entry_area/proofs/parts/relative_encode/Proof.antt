@@ -1,5 +1,4 @@
-use mathlib.Core.Path.{_≡_, sym, _∙_}
-use denote.Ref.{now}
+use Rattle.codec.proofs.Prelude.{_≡_, sym, _∙_, now, needs}
 use Rattle.codec.specs.Format.{allowed}
 use Rattle.codec.proofs.Lending.{put-barred}
 use Rattle.path.specs.Record.{pathOf}
@@ -9,7 +8,6 @@ use Rattle.entry.specs.declared.Entry.{Entry}
 use Rattle.entry.specs.Record.{entryWith}
 use Rattle.entry_area.specs.Records.{againstNamespaceArea}
 use Rattle.entry_area.proofs.Writing.{contained, not-contained, unformed, suffix-allowed, entry-bytes}
-use borrow.Author.Needs.{needs}
 use Rattle.entry_area.proofs.parts.relative_encode.Statement.{statement}
 use Rattle.entry_area.proofs.parts.relative_encode.Tie as tie
 

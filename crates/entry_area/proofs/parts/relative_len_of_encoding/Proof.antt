@@ -1,9 +1,4 @@
-use mathlib.Core.Path.{_≡_, sym, ap, _∙_}
-use mathlib.Core.List.{_++_}
-use native.Mathlib.Omega.{arith}
-use denote.Ref.{now}
-use lib.ListN.{length, length-append}
-use Prim.Native.Nat.{_+_, _≤_}
+use Rattle.codec.proofs.Prelude.{_≡_, sym, ap, _∙_, _++_, arith, now, length, length-append, _+_, _≤_, needs}
 use Rattle.codec.specs.Answers.{outcomeOf}
 use Rattle.codec.specs.Format.{allowed}
 use Rattle.codec.proofs.Lending.{length-allowed, length-barred, length-wrote, length-not-denied, no-length}
@@ -17,7 +12,6 @@ use Rattle.entry.proofs.Typed.{subspace-long}
 use Rattle.entry_area.specs.Entry.{headBytes, endOf}
 use Rattle.entry_area.specs.Records.{endIn, againstNamespaceArea}
 use Rattle.entry_area.proofs.Writing.{contained, not-contained, unformed, suffix-allowed, suffix-short, head-long, entry-bytes}
-use borrow.Author.Needs.{needs}
 use Rattle.entry_area.proofs.parts.relative_len_of_encoding.Statement.{statement}
 use Rattle.entry_area.proofs.parts.relative_len_of_encoding.Tie as tie
 

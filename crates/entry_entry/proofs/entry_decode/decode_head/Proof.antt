@@ -1,8 +1,4 @@
-use mathlib.Core.Path.{_≡_, sym, ap, _∙_}
-use Prim.Native.Nat.{_+_, _≤_, _<_}
-use native.Mathlib.Omega.{arith}
-use denote.Ref.{now}
-use lib.ListN.{length, drop, getD}
+use Rattle.codec.proofs.Prelude.{_≡_, sym, ap, _∙_, _+_, _≤_, _<_, arith, now, length, drop, getD, needs}
 use Rattle.codec.specs.Answers.{accepted, answerOf}
 use Rattle.codec.specs.declared.Decoded.{Decoded}
 use Rattle.codec.proofs.Answers.{no-value}
@@ -12,7 +8,6 @@ use Rattle.entry_numbers.specs.Header.{unpackHeader}
 use Rattle.entry_numbers.specs.Numbers.{readNumbers}
 use Rattle.entry_entry.specs.Entry.{readIds}
 use Rattle.entry_entry.proofs.DecodeExits.{head-none, head-ids, head-numbers, head-read, first-inside, second-inside}
-use borrow.Author.Needs.{needs}
 use Rattle.entry_entry.proofs.entry_decode.decode_head.Statement.{statement}
 use Rattle.entry_entry.proofs.entry_decode.decode_head.Tie as tie
 

@@ -1,4 +1,4 @@
-use borrow.Author.Needs.{needs}
+use Rattle.codec.proofs.Prelude.{needs}
 use Rattle.entry_entry.proofs.entry_decode.decode_id.Statement.{statement}
 use Rattle.entry_entry.proofs.entry_decode.decode_id.Tie as tie
 

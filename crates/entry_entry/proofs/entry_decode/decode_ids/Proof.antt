@@ -1,13 +1,9 @@
-use mathlib.Core.Path.{_≡_, sym, ap, _∙_}
-use native.Mathlib.Omega.{arith}
-use denote.Ref.{now}
-use lib.ListN.{drop}
+use Rattle.codec.proofs.Prelude.{_≡_, sym, ap, _∙_, arith, now, drop, needs}
 use Rattle.codec.specs.Answers.{accepted, answerOf}
 use Rattle.codec.specs.declared.Decoded.{Decoded}
 use Rattle.codec.proofs.Answers.{no-value}
 use Rattle.entry_entry.specs.Entry.{readId}
 use Rattle.entry_entry.proofs.DecodeExits.{ids-first, ids-second, ids-read, ids-inside}
-use borrow.Author.Needs.{needs}
 use Rattle.entry_entry.proofs.entry_decode.decode_ids.Statement.{statement}
 use Rattle.entry_entry.proofs.entry_decode.decode_ids.Tie as tie
 

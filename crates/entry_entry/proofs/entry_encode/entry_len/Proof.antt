@@ -1,5 +1,4 @@
-use borrow.Author.Needs.{needs}
-use native.Mathlib.Omega.{arith}
+use Rattle.codec.proofs.Prelude.{needs, arith}
 use Rattle.entry_entry.proofs.entry_encode.entry_len.Statement.{statement}
 use Rattle.entry_entry.proofs.entry_encode.entry_len.Tie as tie
 

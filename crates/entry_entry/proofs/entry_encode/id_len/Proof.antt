@@ -1,8 +1,5 @@
-use mathlib.Core.Path.{sym, ap, _∙_}
-use native.Mathlib.Omega.{arith}
-use lib.ListN.{length}
+use Rattle.codec.proofs.Prelude.{sym, ap, _∙_, arith, length, needs}
 use Rattle.entry_entry.proofs.Writing.{id-there, id-kept}
-use borrow.Author.Needs.{needs}
 use Rattle.entry_entry.proofs.entry_encode.id_len.Statement.{statement}
 use Rattle.entry_entry.proofs.entry_encode.id_len.Tie as tie
 

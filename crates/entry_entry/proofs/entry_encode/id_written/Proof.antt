@@ -1,5 +1,5 @@
 use Rattle.entry_entry.specs.Entry.{idWritten}
-use borrow.Author.Needs.{needs}
+use Rattle.codec.proofs.Prelude.{needs}
 use Rattle.entry_entry.proofs.entry_encode.id_written.Statement.{statement}
 use Rattle.entry_entry.proofs.entry_encode.id_written.Tie as tie
 

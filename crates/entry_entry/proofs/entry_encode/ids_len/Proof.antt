@@ -1,6 +1,4 @@
-use borrow.Author.Needs.{needs}
-use native.Mathlib.Omega.{arith}
-use lib.ListN.{length-append}
+use Rattle.codec.proofs.Prelude.{needs, arith, length-append}
 use Rattle.entry_entry.proofs.entry_encode.ids_len.Statement.{statement}
 use Rattle.entry_entry.proofs.entry_encode.ids_len.Tie as tie
 

@@ -1,16 +1,10 @@
-use mathlib.Core.Path.{_≡_, refl, sym, ap, _∙_}
-use mathlib.Core.List.{List}
-use Prim.Native.Nat.{ℕ, _+_, _≤_}
-use native.Mathlib.Omega.{arith}
-use denote.Ref.{now}
-use lib.ListN.{length, drop, length-append, length-drop}
+use Rattle.codec.proofs.Prelude.{_≡_, refl, sym, ap, _∙_, List, ℕ, _+_, _≤_, arith, now, length, drop, length-append, length-drop, needs}
 use Rattle.codec.specs.Format.{over, writeAnswer, writeBuffer}
 use Rattle.codec.specs.Answers.{outcomeOf, wrote}
 use Rattle.codec.proofs.Lending.{put-over, put-fits, over-then, to-end, put-end, no-length, written-is, wrote-not-denied}
 use Rattle.path.specs.declared.Path.{Path}
 use Rattle.path.specs.Record.{pathOf}
 use Rattle.path_relative.specs.Records.{sharedFrom}
-use borrow.Author.Needs.{needs}
 use Rattle.entry_entry.proofs.entry_encode.put_end.Statement.{statement}
 use Rattle.entry_entry.proofs.entry_encode.put_end.Tie as tie
 

@@ -1,10 +1,4 @@
-use borrow.Author.Needs.{needs}
-use mathlib.Core.Path.{ap, _∙_}
-use mathlib.Core.List.{List, _∷_}
-use Prim.Native.Nat.{ℕ}
-use native.Mathlib.Omega.{arith}
-use denote.Ref.{now}
-use lib.ListN.{set, length-drop, length-set}
+use Rattle.codec.proofs.Prelude.{needs, ap, _∙_, List, _∷_, ℕ, arith, now, set, length-drop, length-set}
 use Rattle.codec.specs.Format.{over}
 use Rattle.codec.proofs.Lending.{over-cons, to-end, put-end, put-end-long}
 use Rattle.path.specs.Record.{pathOf}

@@ -1,13 +1,7 @@
-use mathlib.Core.Path.{sym, ap, _∙_}
-use mathlib.Core.List.{List}
-use Prim.Native.Nat.{ℕ, _≤_}
-use native.Mathlib.Omega.{arith}
-use denote.Ref.{now}
-use lib.ListN.{length}
+use Rattle.codec.proofs.Prelude.{sym, ap, _∙_, List, ℕ, _≤_, arith, now, length, needs}
 use Rattle.codec.specs.Format.{over}
 use Rattle.codec.proofs.Lending.{put-over}
 use Rattle.entry_entry.proofs.Writing.{id-there, id-kept}
-use borrow.Author.Needs.{needs}
 use Rattle.entry_entry.proofs.entry_encode.put_id.Statement.{statement}
 use Rattle.entry_entry.proofs.entry_encode.put_id.Tie as tie
 

@@ -1,9 +1,4 @@
-use borrow.Author.Needs.{needs}
-use mathlib.Core.Path.{_∙_}
-use Prim.Native.Nat.{_+_, _≤_}
-use native.Mathlib.Omega.{arith}
-use denote.Ref.{now}
-use lib.ListN.{length, length-append, length-drop}
+use Rattle.codec.proofs.Prelude.{needs, _∙_, _+_, _≤_, arith, now, length, length-append, length-drop}
 use Rattle.codec.proofs.Lending.{over-then, to-end, put-end}
 use Rattle.entry_entry.specs.Entry.{idBytes}
 use Rattle.entry_entry.proofs.entry_encode.put_ids.Statement.{statement}

@@ -1,10 +1,4 @@
-use borrow.Author.Needs.{needs}
-use mathlib.Core.Path.{_∙_}
-use mathlib.Core.List.{List}
-use Prim.Native.Nat.{ℕ, _+_, _≤_}
-use native.Mathlib.Omega.{arith}
-use denote.Ref.{now}
-use lib.ListN.{length, length-append, length-drop}
+use Rattle.codec.proofs.Prelude.{needs, _∙_, List, ℕ, _+_, _≤_, arith, now, length, length-append, length-drop}
 use Rattle.codec.proofs.Lending.{over-then, to-end, put-end}
 use Rattle.path.specs.Record.{pathOf}
 use Rattle.path_relative.specs.Records.{sharedFrom}

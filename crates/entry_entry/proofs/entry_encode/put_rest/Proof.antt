@@ -1,15 +1,9 @@
-use mathlib.Core.Path.{_≡_, _∙_}
-use mathlib.Core.List.{List, _++_}
-use Prim.Native.Nat.{ℕ, _+_, _≤_}
-use native.Mathlib.Omega.{arith}
-use denote.Ref.{now}
-use lib.ListN.{length, length-append, length-drop}
+use Rattle.codec.proofs.Prelude.{_≡_, _∙_, List, _++_, ℕ, _+_, _≤_, arith, now, length, length-append, length-drop, needs}
 use Rattle.codec.specs.Format.{over}
 use Rattle.codec.proofs.Lending.{put-over, over-then, to-end, put-end}
 use Rattle.path.specs.Record.{pathOf}
 use Rattle.path_relative.specs.Records.{sharedFrom}
 use Rattle.entry_numbers.specs.Numbers.{numbersBytes}
-use borrow.Author.Needs.{needs}
 use Rattle.entry_entry.proofs.entry_encode.put_rest.Statement.{statement}
 use Rattle.entry_entry.proofs.entry_encode.put_rest.Tie as tie
 

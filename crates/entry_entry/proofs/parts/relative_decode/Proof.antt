@@ -1,11 +1,4 @@
-use mathlib.Core.Path.{_≡_, sym, ap, _∙_}
-use mathlib.Core.Bool.{false}
-use Prim.Native.Nat.{_+_, _≤_}
-use native.Mathlib.Omega.{arith}
-use mir.Syntax.{w64}
-use mir.Val.{Fits}
-use denote.Ref.{now}
-use lib.ListN.{length, drop}
+use Rattle.codec.proofs.Prelude.{_≡_, sym, ap, _∙_, false, _+_, _≤_, arith, w64, Fits, now, length, drop, needs}
 use Rattle.codec.specs.Answers.{accepted, answerOf}
 use Rattle.codec.specs.Reader.{someBytes}
 use Rattle.codec.specs.declared.Decoded.{Decoded}
@@ -18,7 +11,6 @@ use Rattle.entry.specs.Record.{entryWith}
 use Rattle.entry.specs.Answers.{refusal}
 use Rattle.entry_entry.specs.Entry.{readHead}
 use Rattle.entry_entry.proofs.DecodeExits.{head-inside, entry-unread, entry-path, path-inside, entry-digest, entry-read, digest-inside}
-use borrow.Author.Needs.{needs}
 use Rattle.entry_entry.proofs.parts.relative_decode.Statement.{statement}
 use Rattle.entry_entry.proofs.parts.relative_decode.Tie as tie
 

@@ -1,10 +1,4 @@
-use borrow.Author.Needs.{needs}
-use mathlib.Core.Path.{_≡_, sym, ap, _∙_}
-use mathlib.Core.List.{List, _∷_}
-use Prim.Native.Nat.{ℕ}
-use native.Mathlib.Omega.{arith}
-use denote.Ref.{now}
-use lib.ListN.{length}
+use Rattle.codec.proofs.Prelude.{needs, _≡_, sym, ap, _∙_, List, _∷_, ℕ, arith, now, length}
 use Rattle.codec.specs.Answers.{outcomeOf}
 use Rattle.codec.specs.Format.{allowed, barred, over}
 use Rattle.codec.proofs.Lending.{length-wrote, length-not-denied, put-barred, put-full, put-fits, no-length}

@@ -1,8 +1,4 @@
-use borrow.Author.Needs.{needs}
-use mathlib.Core.Path.{_≡_, sym, ap, _∙_}
-use native.Mathlib.Omega.{arith}
-use denote.Ref.{now}
-use lib.ListN.{length}
+use Rattle.codec.proofs.Prelude.{needs, _≡_, sym, ap, _∙_, arith, now, length}
 use Rattle.codec.specs.Answers.{outcomeOf}
 use Rattle.codec.specs.Format.{allowed}
 use Rattle.codec.proofs.Lending.{length-allowed, length-barred, length-wrote, length-denied, no-length}

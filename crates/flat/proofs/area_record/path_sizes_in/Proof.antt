@@ -1,6 +1,6 @@
 use Rattle.codec.proofs.Lending.{to-end}
 use Rattle.flat.specs.AreaRecord.{areaIn}
-use borrow.Author.Needs.{needs}
+use Rattle.codec.proofs.Prelude.{needs}
 use Rattle.flat.proofs.area_record.path_sizes_in.Statement.{statement}
 use Rattle.flat.proofs.area_record.path_sizes_in.Tie as tie
 

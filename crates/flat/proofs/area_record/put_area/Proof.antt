@@ -1,7 +1,6 @@
-use mathlib.Core.List.{append-assoc}
+use Rattle.codec.proofs.Prelude.{append-assoc, needs}
 use Rattle.flat.specs.AreaRecord.{areaFlat}
 use Rattle.flat.proofs.Puts.{puts-tail}
-use borrow.Author.Needs.{needs}
 use Rattle.flat.proofs.area_record.put_area.Statement.{statement}
 use Rattle.flat.proofs.area_record.put_area.Tie as tie
 

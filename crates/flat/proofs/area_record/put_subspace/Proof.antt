@@ -1,13 +1,7 @@
-use Prim.Native.Nat.{ℕ}
+use Rattle.codec.proofs.Prelude.{ℕ, ap, _∷_, arith, now, length-set, needs}
 use Rattle.codec.specs.Header.{bit}
-use mathlib.Core.Path.{ap}
-use mathlib.Core.List.{_∷_}
-use native.Mathlib.Omega.{arith}
-use denote.Ref.{now}
-use lib.ListN.{length-set}
 use Rattle.flat.proofs.Puts.{puts-put, puts-first, puts-long, puts-tail, puts-as, room-after}
 use Rattle.grouping.proofs.Typed.{typed-id}
-use borrow.Author.Needs.{needs}
 use Rattle.flat.proofs.area_record.put_subspace.Statement.{statement}
 use Rattle.flat.proofs.area_record.put_subspace.Tie as tie
 

@@ -1,9 +1,7 @@
-use mathlib.Core.List.{append-assoc}
-use native.Mathlib.Omega.{arith}
+use Rattle.codec.proofs.Prelude.{append-assoc, arith, needs}
 use Rattle.compact_u64.specs.BigEndian.{bigEndian}
 use Rattle.entry.proofs.Typed.{digest-long}
 use Rattle.flat.proofs.Puts.{puts-put, puts-number, puts-tail, puts-as, room-after}
-use borrow.Author.Needs.{needs}
 use Rattle.flat.proofs.entry_record.put_end.Statement.{statement}
 use Rattle.flat.proofs.entry_record.put_end.Tie as tie
 

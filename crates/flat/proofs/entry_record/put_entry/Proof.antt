@@ -1,7 +1,6 @@
-use mathlib.Core.List.{append-assoc}
+use Rattle.codec.proofs.Prelude.{append-assoc, needs}
 use Rattle.flat.specs.EntryRecord.{entryFlat}
 use Rattle.flat.proofs.Puts.{puts-tail}
-use borrow.Author.Needs.{needs}
 use Rattle.flat.proofs.entry_record.put_entry.Statement.{statement}
 use Rattle.flat.proofs.entry_record.put_entry.Tie as tie
 

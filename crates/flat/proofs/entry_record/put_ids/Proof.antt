@@ -1,7 +1,6 @@
-use native.Mathlib.Omega.{arith}
+use Rattle.codec.proofs.Prelude.{arith, needs}
 use Rattle.entry.proofs.Typed.{namespace-long, subspace-long}
 use Rattle.flat.proofs.Puts.{puts-put, puts-tail, room-after}
-use borrow.Author.Needs.{needs}
 use Rattle.flat.proofs.entry_record.put_ids.Statement.{statement}
 use Rattle.flat.proofs.entry_record.put_ids.Tie as tie
 

@@ -1,10 +1,4 @@
-use mathlib.Core.Path.{_≡_, refl}
-use Prim.Native.Nat.{_*_, _-_, _≤_}
-use native.Mathlib.Omega.{arith}
-use denote.Ref.{now}
-use lib.ListN.{take, getD}
-use lib.Seq.{take-all}
-use borrow.Author.Needs.{needs}
+use Rattle.codec.proofs.Prelude.{_≡_, refl, _*_, _-_, _≤_, arith, now, take, getD, take-all, needs}
 use Rattle.flat.specs.PathRecord.{shorts}
 use Rattle.flat.specs.Puts.{Puts}
 use Rattle.flat.proofs.Puts.{puts-number, puts-long, puts-tail, puts-as, room-after}

@@ -1,10 +1,6 @@
-use Prim.Native.Nat.{_%_}
-use native.Mathlib.Omega.{arith}
-use denote.Ref.{now}
-use lib.ListN.{length-set}
+use Rattle.codec.proofs.Prelude.{_%_, arith, now, length-set, needs}
 use Rattle.flat.specs.PathRecord.{pathFlat}
 use Rattle.flat.proofs.Puts.{puts-put, puts-first, puts-long, puts-tail, room-after}
-use borrow.Author.Needs.{needs}
 use Rattle.flat.proofs.path_record.put_path.Statement.{statement}
 use Rattle.flat.proofs.path_record.put_path.Tie as tie
 

@@ -1,13 +1,5 @@
-use native.Mathlib.Numerals.{add-one}
-use lib.Seq.{drop-drop, take-all, take-suc-set}
+use Rattle.codec.proofs.Prelude.{add-one, drop-drop, take-all, take-suc-set, _≡_, refl, sym, ap, _∙_, arith, now, ℕ, _+_, _*_, _-_, _≤_, length, take, drop, set, length-set, needs, not-true, not-false}
 use Rattle.compact_u64.specs.BigEndian.{valueOf}
-use mathlib.Core.Path.{_≡_, refl, sym, ap, _∙_}
-use native.Mathlib.Omega.{arith}
-use denote.Ref.{now}
-use Prim.Native.Nat.{ℕ, _+_, _*_, _-_, _≤_}
-use lib.ListN.{length, take, drop, set, length-set}
-use borrow.Author.Needs.{needs}
-use borrow.Author.Tests.{not-true, not-false}
 use Rattle.flat.specs.PathRecord.{shortsIn}
 use Rattle.flat.proofs.Shorts.{short-there, shorts-in-next}
 use Rattle.flat.proofs.path_record.sizes_in.Statement.{statement}

@@ -1,7 +1,7 @@
 use Rattle.codec.proofs.Lending.{to-end}
 use Rattle.flat.specs.RangeRecord.{rangeIn}
 use Rattle.flat.specs.PathRecord.{pathIn}
-use borrow.Author.Needs.{needs}
+use Rattle.codec.proofs.Prelude.{needs}
 use Rattle.flat.proofs.range_record.end_bytes_in.Statement.{statement}
 use Rattle.flat.proofs.range_record.end_bytes_in.Tie as tie
 

@@ -1,6 +1,5 @@
-use mathlib.Core.Path.{refl}
+use Rattle.codec.proofs.Prelude.{refl, needs}
 use Rattle.flat.specs.RangeRecord.{rangeIn}
-use borrow.Author.Needs.{needs}
 use Rattle.flat.proofs.range_record.end_open_in.Statement.{statement}
 use Rattle.flat.proofs.range_record.end_open_in.Tie as tie
 

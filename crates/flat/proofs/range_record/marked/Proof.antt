@@ -1,7 +1,6 @@
-use borrow.Author.Tests.{le-leb, lt-leb}
+use Rattle.codec.proofs.Prelude.{le-leb, lt-leb, needs}
 use Rattle.codec.proofs.Lending.{to-end}
 use Rattle.flat.specs.RangeRecord.{rangeMarked}
-use borrow.Author.Needs.{needs}
 use Rattle.flat.proofs.range_record.marked.Statement.{statement}
 use Rattle.flat.proofs.range_record.marked.Tie as tie
 

@@ -1,13 +1,7 @@
-use mathlib.Core.Path.{ap, _∙_}
-use mathlib.Core.List.{[], _∷_, _++_, append-assoc}
-use Prim.Native.Nat.{ℕ}
-use native.Mathlib.Omega.{arith}
-use denote.Ref.{now}
-use lib.ListN.{length-set}
+use Rattle.codec.proofs.Prelude.{ap, _∙_, [], _∷_, _++_, append-assoc, ℕ, arith, now, length-set, needs}
 use Rattle.path.specs.Record.{pathOf}
 use Rattle.flat.specs.PathRecord.{pathFlat}
 use Rattle.flat.proofs.Puts.{puts-long, puts-tail, puts-byte, puts-as, room-after}
-use borrow.Author.Needs.{needs}
 use Rattle.flat.proofs.range_record.put_paths.Statement.{statement}
 use Rattle.flat.proofs.range_record.put_paths.Tie as tie
 

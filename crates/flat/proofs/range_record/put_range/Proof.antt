@@ -1,6 +1,5 @@
-use mathlib.Core.List.{append-assoc}
+use Rattle.codec.proofs.Prelude.{append-assoc, needs}
 use Rattle.flat.proofs.Puts.{puts-tail}
-use borrow.Author.Needs.{needs}
 use Rattle.flat.proofs.range_record.put_range.Statement.{statement}
 use Rattle.flat.proofs.range_record.put_range.Tie as tie
 

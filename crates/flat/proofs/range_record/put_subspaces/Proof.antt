@@ -1,12 +1,7 @@
-use Prim.Native.Nat.{ℕ}
+use Rattle.codec.proofs.Prelude.{ℕ, ap, _∙_, [], _∷_, _++_, append-assoc, arith, length-set, needs}
 use Rattle.codec.specs.Header.{bit}
-use mathlib.Core.Path.{ap, _∙_}
-use mathlib.Core.List.{[], _∷_, _++_, append-assoc}
-use native.Mathlib.Omega.{arith}
-use lib.ListN.{length-set}
 use Rattle.flat.proofs.Puts.{puts-put, puts-long, puts-tail, puts-byte, puts-as, room-after}
 use Rattle.range_3d.proofs.Typed.{typed-subspaces}
-use borrow.Author.Needs.{needs}
 use Rattle.flat.proofs.range_record.put_subspaces.Statement.{statement}
 use Rattle.flat.proofs.range_record.put_subspaces.Tie as tie
 

@@ -1,7 +1,6 @@
-use native.Mathlib.Omega.{arith}
+use Rattle.codec.proofs.Prelude.{arith, needs}
 use Rattle.flat.proofs.Puts.{puts-whole}
 use Rattle.flat.specs.RangeRecord.{rangeFlat}
-use borrow.Author.Needs.{needs}
 use Rattle.flat.proofs.range_record.store.Statement.{statement}
 use Rattle.flat.proofs.range_record.store.Tie as tie
 

@@ -1,5 +1,5 @@
 use Rattle.flat.specs.RangeRecord.{rangeIn}
-use borrow.Author.Needs.{needs}
+use Rattle.codec.proofs.Prelude.{needs}
 use Rattle.flat.proofs.range_record.subspaces.Statement.{statement}
 use Rattle.flat.proofs.range_record.subspaces.Tie as tie
 

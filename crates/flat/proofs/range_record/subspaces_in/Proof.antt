@@ -1,8 +1,5 @@
-use native.Mathlib.Omega.{arith}
-use denote.Ref.{now}
-use lib.ListN.{drop}
+use Rattle.codec.proofs.Prelude.{arith, now, drop, needs}
 use Rattle.flat.proofs.Parts.{id-there, from-room}
-use borrow.Author.Needs.{needs}
 use Rattle.flat.proofs.range_record.subspaces_in.Statement.{statement}
 use Rattle.flat.proofs.range_record.subspaces_in.Tie as tie
 

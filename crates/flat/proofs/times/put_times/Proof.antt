@@ -1,10 +1,7 @@
 use Rattle.codec.specs.Header.{bit}
-use mathlib.Core.List.{append-assoc}
-use native.Mathlib.Omega.{arith}
-use lib.ListN.{length-set}
+use Rattle.codec.proofs.Prelude.{append-assoc, arith, length-set, needs}
 use Rattle.flat.proofs.Puts.{puts-number, puts-long, puts-tail, puts-byte, puts-as, room-after}
 use Rattle.flat.specs.Times.{timesFlat}
-use borrow.Author.Needs.{needs}
 use Rattle.flat.proofs.times.put_times.Statement.{statement}
 use Rattle.flat.proofs.times.put_times.Tie as tie
 

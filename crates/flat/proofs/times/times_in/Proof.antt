@@ -1,6 +1,5 @@
 use Rattle.flat.specs.Times.{timesIn}
-use borrow.Author.Tests.{eq-eqb, ne-eqb}
-use borrow.Author.Needs.{needs}
+use Rattle.codec.proofs.Prelude.{eq-eqb, ne-eqb, needs}
 use Rattle.flat.proofs.times.times_in.Statement.{statement}
 use Rattle.flat.proofs.times.times_in.Tie as tie
 

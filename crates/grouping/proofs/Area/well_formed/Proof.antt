@@ -1,7 +1,5 @@
-use mathlib.Core.Path.{sym, _∙_}
-use borrow.Author.Tests.{not-true, not-false}
+use Rattle.codec.proofs.Prelude.{sym, _∙_, not-true, not-false, needs}
 use Rattle.grouping.specs.Record.{wellFormedArea}
-use borrow.Author.Needs.{needs}
 use Rattle.grouping.proofs.Area.well_formed.Statement.{statement}
 use Rattle.grouping.proofs.Area.well_formed.Tie as tie
 

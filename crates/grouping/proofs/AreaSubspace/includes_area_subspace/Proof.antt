@@ -1,5 +1,5 @@
 use Rattle.grouping.specs.Record.{subspaceIncludes}
-use borrow.Author.Needs.{needs}
+use Rattle.codec.proofs.Prelude.{needs}
 use Rattle.grouping.proofs.AreaSubspace.includes_area_subspace.Statement.{statement}
 use Rattle.grouping.proofs.AreaSubspace.includes_area_subspace.Tie as tie
 

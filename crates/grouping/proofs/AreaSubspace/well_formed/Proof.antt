@@ -1,5 +1,5 @@
 use Rattle.grouping.specs.Record.{wellFormedSubspace}
-use borrow.Author.Needs.{needs}
+use Rattle.codec.proofs.Prelude.{needs}
 use Rattle.grouping.proofs.AreaSubspace.well_formed.Statement.{statement}
 use Rattle.grouping.proofs.AreaSubspace.well_formed.Tie as tie
 

@@ -1,9 +1,7 @@
-use mathlib.Core.Path.{_≡_, refl}
-use mathlib.Core.Bool.{true}
+use Rattle.codec.proofs.Prelude.{_≡_, refl, true, needs}
 use Rattle.grouping.specs.declared.RangeEnd.{RangeEnd}
 use Rattle.grouping.specs.declared.RangeEnd.the-variants.{Closed, Open}
 use Rattle.grouping.specs.Range.{endAtMost}
-use borrow.Author.Needs.{needs}
 use Rattle.grouping.proofs.RangeEnd.at_most.Statement.{statement}
 use Rattle.grouping.proofs.RangeEnd.at_most.Tie as tie
 

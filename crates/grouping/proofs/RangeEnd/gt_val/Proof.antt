@@ -1,4 +1,4 @@
-use borrow.Author.Needs.{needs}
+use Rattle.codec.proofs.Prelude.{needs}
 use Rattle.grouping.proofs.RangeEnd.gt_val.Statement.{statement}
 use Rattle.grouping.proofs.RangeEnd.gt_val.Tie as tie
 

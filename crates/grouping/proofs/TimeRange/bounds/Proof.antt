@@ -1,6 +1,5 @@
-use borrow.Author.Tests.{le-leb, lt-leb}
+use Rattle.codec.proofs.Prelude.{le-leb, lt-leb, needs}
 use Rattle.grouping.specs.Range.{bounds}
-use borrow.Author.Needs.{needs}
 use Rattle.grouping.proofs.TimeRange.bounds.Statement.{statement}
 use Rattle.grouping.proofs.TimeRange.bounds.Tie as tie
 

@@ -1,6 +1,5 @@
-use borrow.Author.Tests.{le-leb, lt-leb}
+use Rattle.codec.proofs.Prelude.{le-leb, lt-leb, needs}
 use Rattle.grouping.specs.Range.{includesRange}
-use borrow.Author.Needs.{needs}
 use Rattle.grouping.proofs.TimeRange.includes_range.Statement.{statement}
 use Rattle.grouping.proofs.TimeRange.includes_range.Tie as tie
 

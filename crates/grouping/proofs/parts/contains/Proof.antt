@@ -1,14 +1,10 @@
-use mathlib.Core.Path.{_≡_, sym, _∙_}
-use mathlib.Core.Bool.{_&&_}
-use denote.Ref.{now}
-use borrow.Author.Tests.{not-true, not-false}
+use Rattle.codec.proofs.Prelude.{_≡_, sym, _∙_, _&&_, now, not-true, not-false, needs}
 use Rattle.path.specs.Record.{pathOf}
 use Rattle.path.specs.Answers.{verdict}
 use Rattle.grouping.specs.declared.Area.{Area}
 use Rattle.grouping.specs.Range.{endValue, bounds}
 use Rattle.grouping.specs.Record.{areaWith, areaInside}
 use Rattle.grouping.proofs.Compare.{not-included, included-told}
-use borrow.Author.Needs.{needs}
 use Rattle.grouping.proofs.parts.contains.Statement.{statement}
 use Rattle.grouping.proofs.parts.contains.Tie as tie
 

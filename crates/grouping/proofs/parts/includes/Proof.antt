@@ -1,7 +1,4 @@
-use mathlib.Core.Path.{_≡_, sym, _∙_}
-use mathlib.Core.Bool.{true, _&&_}
-use denote.Ref.{now}
-use borrow.Author.Tests.{not-true, not-false}
+use Rattle.codec.proofs.Prelude.{_≡_, sym, _∙_, true, _&&_, now, not-true, not-false, needs}
 use Rattle.path.specs.Record.{pathOf}
 use Rattle.path.specs.Answers.{verdict}
 use Rattle.grouping.specs.declared.Area.{Area}
@@ -9,7 +6,6 @@ use Rattle.grouping.specs.Range.{includesRange}
 use Rattle.grouping.specs.Area.{includesSubspace}
 use Rattle.grouping.specs.Record.{areaWith, subspaceOf, wellFormedSubspace, areaIncludes, subspaceIncludes}
 use Rattle.grouping.proofs.Compare.{reference-malformed, area-malformed, not-prefix, prefix-told}
-use borrow.Author.Needs.{needs}
 use Rattle.grouping.proofs.parts.includes.Statement.{statement}
 use Rattle.grouping.proofs.parts.includes.Tie as tie
 

@@ -1,6 +1,6 @@
 use Rattle.jakepuro.proofs.Calls.{stores-refused, stores-accepted}
 use Rattle.flat.specs.EntryRecord.{entryFlat}
-use borrow.Author.Needs.{needs}
+use Rattle.codec.proofs.Prelude.{needs}
 use Rattle.jakepuro.proofs.answers.give_entry.Statement.{statement}
 use Rattle.jakepuro.proofs.answers.give_entry.Tie as tie
 

@@ -1,6 +1,6 @@
 use Rattle.jakepuro.proofs.Calls.{stores-refused, stores-accepted}
 use Rattle.flat.specs.PathRecord.{pathFlat}
-use borrow.Author.Needs.{needs}
+use Rattle.codec.proofs.Prelude.{needs}
 use Rattle.jakepuro.proofs.answers.give_path.Statement.{statement}
 use Rattle.jakepuro.proofs.answers.give_path.Tie as tie
 

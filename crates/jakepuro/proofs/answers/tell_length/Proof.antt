@@ -1,5 +1,5 @@
 use Rattle.jakepuro.proofs.Calls.{told-denied}
-use borrow.Author.Needs.{needs}
+use Rattle.codec.proofs.Prelude.{needs}
 use Rattle.jakepuro.proofs.answers.tell_length.Statement.{statement}
 use Rattle.jakepuro.proofs.answers.tell_length.Tie as tie
 

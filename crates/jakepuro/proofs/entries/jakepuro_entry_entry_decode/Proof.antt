@@ -1,5 +1,5 @@
 use Rattle.jakepuro.proofs.Calls.{stores-as}
-use borrow.Author.Needs.{needs}
+use Rattle.codec.proofs.Prelude.{needs}
 use Rattle.jakepuro.proofs.entries.jakepuro_entry_entry_decode.Statement.{statement}
 use Rattle.jakepuro.proofs.entries.jakepuro_entry_entry_decode.Tie as tie
 

@@ -1,6 +1,5 @@
-use Prim.Native.Nat.{ℕ}
+use Rattle.codec.proofs.Prelude.{ℕ, needs}
 use Rattle.compact_u64.proofs.Exits.{refused-number}
-use borrow.Author.Needs.{needs}
 use Rattle.jakepuro.proofs.numbers.give_number.Statement.{statement}
 use Rattle.jakepuro.proofs.numbers.give_number.Tie as tie
 

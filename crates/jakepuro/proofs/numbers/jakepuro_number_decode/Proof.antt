@@ -1,9 +1,6 @@
-use mathlib.Core.Path.{refl, _∙_}
-use denote.Ref.{now}
+use Rattle.codec.proofs.Prelude.{refl, _∙_, now, drop, needs}
 use Rattle.jakepuro.proofs.Calls.{stores-as}
 use Rattle.jakepuro.proofs.Tagged.{has-no-bits, has-bits, tagged-refused, tagged-reads}
-use lib.ListN.{drop}
-use borrow.Author.Needs.{needs}
 use Rattle.jakepuro.proofs.numbers.jakepuro_number_decode.Statement.{statement}
 use Rattle.jakepuro.proofs.numbers.jakepuro_number_decode.Tie as tie
 

@@ -1,12 +1,10 @@
-use mathlib.Core.Path.{ap}
-use denote.Ref.{now}
+use Rattle.codec.proofs.Prelude.{ap, now, needs}
 use Rattle.jakepuro.proofs.Calls.{encodes}
 use Rattle.jakepuro.proofs.Tagged.{has-no-bits, has-bits, tagged-barred, tagged-writes}
 use Rattle.jakepuro.specs.Tagged.{tagged}
 use Rattle.compact_u64.specs.Number.{numberBytes}
 use Rattle.codec.proofs.Lending.{put-barred, no-length}
 use Rattle.codec.specs.Answers.{outcomeOf}
-use borrow.Author.Needs.{needs}
 use Rattle.jakepuro.proofs.numbers.jakepuro_number_encode.Statement.{statement}
 use Rattle.jakepuro.proofs.numbers.jakepuro_number_encode.Tie as tie
 

@@ -2,7 +2,7 @@ use Rattle.jakepuro.proofs.Calls.{told-as}
 use Rattle.jakepuro.proofs.Tagged.{has-no-bits, has-bits, tagged-barred, tagged-allowed}
 use Rattle.jakepuro.specs.Tagged.{tagged}
 use Rattle.codec.proofs.Lending.{length-barred, length-allowed}
-use borrow.Author.Needs.{needs}
+use Rattle.codec.proofs.Prelude.{needs}
 use Rattle.jakepuro.proofs.numbers.jakepuro_number_len_of_encoding.Statement.{statement}
 use Rattle.jakepuro.proofs.numbers.jakepuro_number_len_of_encoding.Tie as tie
 

@@ -1,8 +1,7 @@
-use mathlib.Core.Path.{ap}
+use Rattle.codec.proofs.Prelude.{ap, needs}
 use Rattle.jakepuro.proofs.Calls.{told-as}
 use Rattle.codec.specs.Format.{lengthAnswer}
 use Rattle.codec.specs.Answers.{wrote}
-use borrow.Author.Needs.{needs}
 use Rattle.jakepuro.proofs.numbers.jakepuro_standalone_len_of_encoding.Statement.{
   statement,
 }

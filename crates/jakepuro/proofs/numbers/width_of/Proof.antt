@@ -1,7 +1,5 @@
-use mathlib.Core.Path.{_≡_, sym}
-use native.Mathlib.Omega.{arith}
+use Rattle.codec.proofs.Prelude.{_≡_, sym, arith, ne-eqb}
 use Rattle.jakepuro.specs.Tagged.{isWidth}
-use borrow.Author.Tests.{ne-eqb}
 use Rattle.jakepuro.proofs.numbers.width_of.Statement.{statement}
 use Rattle.jakepuro.proofs.numbers.width_of.Tie as tie
 

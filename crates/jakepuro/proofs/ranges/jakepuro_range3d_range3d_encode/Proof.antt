@@ -1,11 +1,9 @@
-use mathlib.Core.Path.{_≡_}
-use denote.Ref.{now}
+use Rattle.codec.proofs.Prelude.{_≡_, now, needs}
 use Rattle.path.specs.Record.{pathOf}
 use Rattle.range_paths.specs.Records.{pathsWith}
 use Rattle.range3d_range3d.specs.Records.{rangeWith, againstRange}
 use Rattle.flat.specs.RangeRecord.{rangeIn}
 use Rattle.jakepuro.proofs.Calls.{encodes-of}
-use borrow.Author.Needs.{needs}
 use Rattle.jakepuro.proofs.ranges.jakepuro_range3d_range3d_encode.Statement.{statement}
 use Rattle.jakepuro.proofs.ranges.jakepuro_range3d_range3d_encode.Tie as tie
 

@@ -1,13 +1,8 @@
-use mathlib.Core.Path.{_≡_, sym, _∙_}
-use mathlib.Core.Bool.{true, false}
-use native.Mathlib.Omega.{arith}
-use lib.Seq.{length-take-le}
-use borrow.Author.Tests.{not-true, not-false, lt-ltb, le-ltb}
+use Rattle.codec.proofs.Prelude.{_≡_, sym, _∙_, true, false, arith, length-take-le, not-true, not-false, lt-ltb, le-ltb, needs}
 use Rattle.path.specs.Record.{wellFormed, lengthAt, startAt}
 use Rattle.path.specs.Answers.{componentAt}
 use Rattle.path.proofs.Typed.{typed}
 use Rattle.path.proofs.Components.{Formed, formed, start-is, start-small}
-use borrow.Author.Needs.{needs}
 use Rattle.path.proofs.Path.component.Statement.{statement}
 use Rattle.path.proofs.Path.component.Tie as tie
 

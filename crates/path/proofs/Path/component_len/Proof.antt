@@ -1,8 +1,4 @@
-use mathlib.Core.Path.{_≡_, refl, sym}
-use Prim.Native.Nat.{_≤_}
-use native.Mathlib.Omega.{arith}
-use lib.ListN.{length, List·getD-eq-default}
-use borrow.Author.Needs.{needs}
+use Rattle.codec.proofs.Prelude.{_≡_, refl, sym, _≤_, arith, length, List·getD-eq-default, needs}
 use Rattle.path.specs.Record.{lengthAt}
 use Rattle.path.proofs.Typed.{typed}
 use Rattle.path.proofs.Path.component_len.Statement.{statement}

@@ -1,10 +1,6 @@
-use mathlib.Core.Path.{_≡_, sym, _∙_}
-use mathlib.Core.Bool.{_&&_}
-use lib.Dec.{eqb}
-use borrow.Author.Tests.{eq-eqb, ne-eqb}
+use Rattle.codec.proofs.Prelude.{_≡_, sym, _∙_, _&&_, eqb, eq-eqb, ne-eqb, needs}
 use Rattle.path.specs.Answers.{equalTo, verdict}
 use Rattle.path.proofs.Compare.{equal-malformed, equal-verdict}
-use borrow.Author.Needs.{needs}
 use Rattle.path.proofs.Path.equals.Statement.{statement}
 use Rattle.path.proofs.Path.equals.Tie as tie
 

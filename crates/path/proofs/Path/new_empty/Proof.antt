@@ -1,4 +1,4 @@
-use mathlib.Core.Path.{refl}
+use Rattle.codec.proofs.Prelude.{refl}
 use Rattle.path.specs.Record.{pathFrom}
 use Rattle.path.proofs.Path.new_empty.Statement.{statement}
 use Rattle.path.proofs.Path.new_empty.Tie as tie

@@ -1,9 +1,4 @@
-use mathlib.Core.Path.{_≡_, sym, _∙_}
-use Prim.Native.Nat.{ℕ}
-use denote.Ref.{now}
-use borrow.Author.Needs.{length-unmapped, needs}
-use borrow.Author.Tests.{not-true, not-false}
-use lib.ListN.{length}
+use Rattle.codec.proofs.Prelude.{_≡_, sym, _∙_, ℕ, now, length-unmapped, needs, not-true, not-false, length}
 use Rattle.path.specs.Builder.{appendComponent}
 use Rattle.path.proofs.Builder.{rebuilt, appends}
 use Rattle.path.proofs.PathBuilder.append_component.Statement.{statement}

@@ -1,15 +1,9 @@
-use lib.ListN.{length, take, length-drop}
+use Rattle.codec.proofs.Prelude.{length, take, length-drop, ℕ, _+_, _≤_, _≡_, sym, arith, needs, length-unmapped, length-take-le, needs}
 use Rattle.path.proofs.Lists.{rest-part}
-use Prim.Native.Nat.{ℕ, _+_, _≤_}
-use mathlib.Core.Path.{_≡_, sym}
-use native.Mathlib.Omega.{arith}
-use borrow.Author.Needs.{needs, length-unmapped}
-use lib.Seq.{length-take-le}
 use Rattle.path.specs.Record.{sumOf}
 use Rattle.path.proofs.Record.{well-formed}
 use Rattle.path.proofs.Components.{Formed}
 use Rattle.path.proofs.Builder.{extended-fits, extended-bytes, extended-lengths, extended-is}
-use borrow.Author.Needs.{needs}
 use Rattle.path.proofs.PathBuilder.extended.Statement.{statement}
 use Rattle.path.proofs.PathBuilder.extended.Tie as tie
 

@@ -1,10 +1,4 @@
-use mathlib.Core.Path.{_≡_, sym, _∙_}
-use Prim.Native.Nat.{ℕ}
-use native.Mathlib.Omega.{arith}
-use borrow.Author.Needs.{length-unmapped, needs}
-use borrow.Author.Tests.{not-true, not-false}
-use lib.ListN.{length}
-use lib.Seq.{length-take-le}
+use Rattle.codec.proofs.Prelude.{_≡_, sym, _∙_, ℕ, arith, length-unmapped, needs, not-true, not-false, length, length-take-le}
 use Rattle.path.specs.Builder.{isBuilder}
 use Rattle.path.proofs.Record.{WellFormed, well-formed}
 use Rattle.path.proofs.PathBuilder.is_made.Statement.{statement}

@@ -1,4 +1,4 @@
-use borrow.Author.Needs.{needs}
+use Rattle.codec.proofs.Prelude.{needs}
 use Rattle.path.proofs.PathBuilder.new.Statement.{statement}
 use Rattle.path.proofs.PathBuilder.new.Tie as tie
 

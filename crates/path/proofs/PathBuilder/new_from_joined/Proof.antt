@@ -1,11 +1,4 @@
-use mathlib.Core.Path.{_≡_, sym, _∙_}
-use mathlib.Core.List.{[]}
-use mathlib.Core.Bool.{true}
-use Prim.Native.Nat.{ℕ, _+_, _≤_}
-use native.Mathlib.Omega.{arith}
-use borrow.Author.Needs.{length-unmapped, needs}
-use borrow.Author.Tests.{not-true, not-false, le-leb, lt-leb}
-use lib.Seq.{length-take-le}
+use Rattle.codec.proofs.Prelude.{_≡_, sym, _∙_, [], true, ℕ, _+_, _≤_, arith, length-unmapped, needs, not-true, not-false, le-leb, lt-leb, length-take-le}
 use Rattle.path.specs.Limits.{totalOf}
 use Rattle.path.specs.Record.{wellFormed, componentsOf}
 use Rattle.path.specs.Builder.{builderFrom, joinedBuilder}

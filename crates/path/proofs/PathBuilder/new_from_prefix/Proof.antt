@@ -1,9 +1,4 @@
-use mathlib.Core.Path.{_≡_, sym, _∙_}
-use mathlib.Core.List.{[]}
-use mathlib.Core.Bool.{true}
-use Prim.Native.Nat.{ℕ}
-use borrow.Author.Needs.{length-unmapped, needs}
-use borrow.Author.Tests.{not-true, not-false, le-leb, lt-leb}
+use Rattle.codec.proofs.Prelude.{_≡_, sym, _∙_, [], true, ℕ, length-unmapped, needs, not-true, not-false, le-leb, lt-leb}
 use Rattle.path.specs.Record.{wellFormed}
 use Rattle.path.specs.Builder.{prefixBuilder}
 use Rattle.path.proofs.Record.{well-formed}

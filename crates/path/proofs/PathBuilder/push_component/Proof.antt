@@ -1,13 +1,4 @@
-use mathlib.Core.Path.{_≡_, refl, _∙_, sym}
-use mathlib.Core.List.{_++_}
-use Prim.Native.Nat.{ℕ, _+_, _≤_, _-_}
-use denote.Ref.{now}
-use native.Mathlib.Omega.{arith}
-use native.Mathlib.Numerals.{add-one}
-use borrow.Author.Needs.{needs, length-unmapped}
-use borrow.Author.Tests.{not-true, not-false}
-use lib.ListN.{length, take, drop}
-use lib.Seq.{paste, paste-zero, paste-suc}
+use Rattle.codec.proofs.Prelude.{_≡_, refl, _∙_, sym, _++_, ℕ, _+_, _≤_, _-_, now, arith, add-one, needs, length-unmapped, not-true, not-false, length, take, drop, paste, paste-zero, paste-suc}
 use Rattle.path.specs.Builder.{grown, pushComponent}
 use Rattle.path.proofs.Lists.{paste-whole}
 use Rattle.path.proofs.Builder.{Fitting, fitting}

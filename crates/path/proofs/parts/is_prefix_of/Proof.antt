@@ -1,12 +1,8 @@
-use mathlib.Core.Path.{_≡_, sym, _∙_}
-use denote.Ref.{now}
-use lib.Dec.{eqb}
-use borrow.Author.Tests.{eq-eqb, ne-eqb}
+use Rattle.codec.proofs.Prelude.{_≡_, sym, _∙_, now, eqb, eq-eqb, ne-eqb, needs}
 use Rattle.path.specs.declared.Path.{Path}
 use Rattle.path.specs.Record.{pathOf}
 use Rattle.path.specs.Answers.{prefixOf, verdict}
 use Rattle.path.proofs.Compare.{prefix-malformed, prefix-verdict}
-use borrow.Author.Needs.{needs}
 use Rattle.path.proofs.parts.is_prefix_of.Statement.{statement}
 use Rattle.path.proofs.parts.is_prefix_of.Tie as tie
 

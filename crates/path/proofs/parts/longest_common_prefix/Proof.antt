@@ -1,12 +1,8 @@
-use mathlib.Core.Path.{_≡_, sym, ap, _∙_}
-use mathlib.Core.Bool.{true, false}
-use denote.Ref.{now}
-use borrow.Author.Tests.{not-true, not-false}
+use Rattle.codec.proofs.Prelude.{_≡_, sym, ap, _∙_, true, false, now, not-true, not-false, needs}
 use Rattle.path.specs.declared.Path.{Path}
 use Rattle.path.specs.declared.ComponentCount.the-variants as count
 use Rattle.path.specs.Record.{pathOf, wellFormed}
 use Rattle.path.specs.Answers.{commonPrefix}
-use borrow.Author.Needs.{needs}
 use Rattle.path.proofs.parts.longest_common_prefix.Statement.{statement}
 use Rattle.path.proofs.parts.longest_common_prefix.Tie as tie
 

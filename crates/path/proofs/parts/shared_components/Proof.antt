@@ -1,8 +1,4 @@
-use Prim.Native.Nat.{_+_, _≤_, _-_}
-use mathlib.Core.Path.{_≡_, refl, sym}
-use native.Mathlib.Omega.{arith}
-use denote.Ref.{now}
-use lib.ListN.{take, drop, getD}
+use Rattle.codec.proofs.Prelude.{_+_, _≤_, _-_, _≡_, refl, sym, arith, now, take, drop, getD}
 use Rattle.path.specs.Record.{pathOf}
 use Rattle.path.proofs.Components.{parts-formed}
 use Rattle.path.proofs.Compare.{agree-next, Together, together, together-next, left-ends, right-ends, left-inside, lengths-differ, bytes-differ}

@@ -1,6 +1,5 @@
-use borrow.Author.Tests.{eq-eqb, ne-eqb}
+use Rattle.codec.proofs.Prelude.{eq-eqb, ne-eqb, needs}
 use Rattle.path.specs.Record.{wellFormed}
-use borrow.Author.Needs.{needs}
 use Rattle.path.proofs.parts.well_formed.Statement.{statement}
 use Rattle.path.proofs.parts.well_formed.Tie as tie
 

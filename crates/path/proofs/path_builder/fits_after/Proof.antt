@@ -1,6 +1,4 @@
-use Prim.Native.Nat.{_+_}
-use native.Mathlib.Omega.{arith}
-use borrow.Author.Tests.{le-leb, lt-leb, lt-ltb, le-ltb}
+use Rattle.codec.proofs.Prelude.{_+_, arith, le-leb, lt-leb, lt-ltb, le-ltb}
 use Rattle.path.specs.Builder.{fitsAfter}
 use Rattle.path.proofs.Builder.{room-left}
 use Rattle.path.proofs.path_builder.fits_after.Statement.{statement}

@@ -1,11 +1,4 @@
-use Prim.Native.Nat.{_≤_, _-_}
-use mathlib.Core.Path.{_≡_, refl, _∙_}
-use mathlib.Core.List.{_++_}
-use denote.Ref.{now}
-use native.Mathlib.Omega.{arith}
-use borrow.Author.Needs.{needs}
-use lib.ListN.{length, take, drop, length-set}
-use lib.Seq.{take-all}
+use Rattle.codec.proofs.Prelude.{_≤_, _-_, _≡_, refl, _∙_, _++_, now, arith, needs, length, take, drop, length-set, take-all}
 use Rattle.codec.proofs.Lending.{copy-next}
 use Rattle.path.proofs.path_builder.put_lengths.Statement.{statement}
 use Rattle.path.proofs.path_builder.put_lengths.Tie as tie

@@ -1,11 +1,8 @@
-use mathlib.Core.Path.{ap, _∙_}
-use denote.Ref.{now}
-use lib.ListN.{length}
+use Rattle.codec.proofs.Prelude.{ap, _∙_, now, length, needs}
 use Rattle.codec.specs.Format.{Format, writeAnswer, writeBuffer}
 use Rattle.path.specs.declared.Path.{Path}
 use Rattle.path.specs.Record.{pathOf}
 use Rattle.path_codec.proofs.Plain.{plain-suffix}
-use borrow.Author.Needs.{needs}
 use Rattle.path_codec.proofs.parts.encode.Statement.{statement}
 use Rattle.path_codec.proofs.parts.encode.Tie as tie
 

@@ -1,10 +1,8 @@
-use mathlib.Core.Path.{ap, _∙_}
-use denote.Ref.{now}
+use Rattle.codec.proofs.Prelude.{ap, _∙_, now, needs}
 use Rattle.codec.specs.Format.{Format, lengthAnswer}
 use Rattle.path.specs.declared.Path.{Path}
 use Rattle.path.specs.Record.{pathOf}
 use Rattle.path_codec.proofs.Plain.{plain-suffix}
-use borrow.Author.Needs.{needs}
 use Rattle.path_codec.proofs.parts.len_of_encoding.Statement.{statement}
 use Rattle.path_codec.proofs.parts.len_of_encoding.Tie as tie
 

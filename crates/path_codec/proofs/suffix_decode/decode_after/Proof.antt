@@ -1,10 +1,4 @@
-use mathlib.Core.Path.{_≡_, refl, sym, ap, _∙_}
-use mathlib.Core.Bool.{true}
-use Prim.Native.Nat.{ℕ, _+_, _≤_}
-use denote.Ref.{now}
-use native.Mathlib.Omega.{arith}
-use borrow.Author.Tests.{not-true, not-false}
-use lib.ListN.{length, replicate}
+use Rattle.codec.proofs.Prelude.{_≡_, refl, sym, ap, _∙_, true, ℕ, _+_, _≤_, now, arith, not-true, not-false, length, replicate, needs}
 use Rattle.codec.specs.Answers.{answerOf}
 use Rattle.codec.specs.declared.Decoded.{Decoded}
 use Rattle.codec.proofs.Answers.{gives-refused, gives-accepted, no-value}
@@ -13,7 +7,6 @@ use Rattle.path.specs.Record.{sumOf}
 use Rattle.path_codec.specs.Plain.{partsOk}
 use Rattle.path_codec.specs.Answers.{restOf}
 use Rattle.path_codec.proofs.After.{Parts, parts, after-malformed, after-long, after-many, after-refused, after-accepted, stands}
-use borrow.Author.Needs.{needs}
 use Rattle.path_codec.proofs.suffix_decode.decode_after.Statement.{statement}
 use Rattle.path_codec.proofs.suffix_decode.decode_after.Tie as tie
 

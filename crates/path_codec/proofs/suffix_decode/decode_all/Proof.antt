@@ -1,6 +1,5 @@
-use mathlib.Core.Path.{sym}
+use Rattle.codec.proofs.Prelude.{sym, needs}
 use Rattle.path_codec.proofs.Ahead.{ahead-none, ahead-over}
-use borrow.Author.Needs.{needs}
 use Rattle.path_codec.proofs.suffix_decode.decode_all.Statement.{statement}
 use Rattle.path_codec.proofs.suffix_decode.decode_all.Tie as tie
 

@@ -1,13 +1,7 @@
-use mathlib.Core.Path.{_≡_, sym, ap, _∙_}
-use Prim.Native.Nat.{_+_, _-_}
-use denote.Ref.{now}
-use native.Mathlib.Omega.{arith}
-use lib.ListN.{length, take, drop, length-drop}
-use lib.Seq.{length-take-le}
+use Rattle.codec.proofs.Prelude.{_≡_, sym, ap, _∙_, _+_, _-_, now, arith, length, take, drop, length-drop, length-take-le, needs}
 use Rattle.codec.specs.Answers.{accepted}
 use Rattle.path_codec.specs.Answers.{Rest, Room, restOf}
 use Rattle.path_codec.proofs.Ahead.{put-placed, last-over, last-long, last-short, last-there}
-use borrow.Author.Needs.{needs}
 use Rattle.path_codec.proofs.suffix_decode.decode_last.Statement.{statement}
 use Rattle.path_codec.proofs.suffix_decode.decode_last.Tie as tie
 

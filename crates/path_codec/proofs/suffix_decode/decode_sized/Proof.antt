@@ -1,13 +1,8 @@
-use mathlib.Core.Path.{_≡_, ap, _∙_, sym}
-use Prim.Native.Nat.{_+_, _≤_}
-use denote.Ref.{now}
-use native.Mathlib.Omega.{arith}
-use lib.ListN.{length, drop}
+use Rattle.codec.proofs.Prelude.{_≡_, ap, _∙_, sym, _+_, _≤_, now, arith, length, drop, needs}
 use Rattle.codec.specs.Answers.{accepted}
 use Rattle.compact_u64.specs.Number.{readStandalone}
 use Rattle.compact_u64.specs.Answers.{numberAnswer}
 use Rattle.path_codec.proofs.Exits.{sized-refused, sized-long, length-inside, sized-short, sized-there}
-use borrow.Author.Needs.{needs}
 use Rattle.path_codec.proofs.suffix_decode.decode_sized.Statement.{statement}
 use Rattle.path_codec.proofs.suffix_decode.decode_sized.Tie as tie
 

@@ -1,15 +1,10 @@
-use mathlib.Core.Path.{_≡_, ap, _∙_, sym}
-use Prim.Native.Nat.{_+_, _≤_}
-use denote.Ref.{now}
-use native.Mathlib.Omega.{arith}
-use lib.ListN.{length, drop, getD, length-drop}
+use Rattle.codec.proofs.Prelude.{_≡_, ap, _∙_, sym, _+_, _≤_, now, arith, length, drop, getD, length-drop, needs}
 use Rattle.codec.specs.Answers.{accepted}
 use Rattle.compact_u64.specs.Number.{readNumber}
 use Rattle.compact_u64.specs.Answers.{numberAnswer}
 use Rattle.compact_u64.proofs.Number.{number-bounded}
 use Rattle.path_suffix.specs.Header.{unpackTags}
 use Rattle.path_codec.proofs.Exits.{no-number, sizes-none, sizes-first, sizes-second, sizes-both}
-use borrow.Author.Needs.{needs}
 use Rattle.path_codec.proofs.suffix_decode.decode_sizes.Statement.{statement}
 use Rattle.path_codec.proofs.suffix_decode.decode_sizes.Tie as tie
 

@@ -1,11 +1,5 @@
 use Rattle.codec.proofs.Lending.{put-end-long}
-use Prim.Native.Nat.{_-_}
-use mathlib.Core.Path.{_∙_, sym, subst}
-use mathlib.Core.Logic.{⊎-elim}
-use denote.Ref.{now}
-use native.Mathlib.Omega.{arith}
-use borrow.Author.Needs.{needs}
-use lib.ListN.{length-set}
+use Rattle.codec.proofs.Prelude.{_-_, _∙_, sym, subst, ⊎-elim, now, arith, needs, length-set}
 use Rattle.path_codec.specs.declared.DecodedComponent.{DecodedComponent}
 use Rattle.path_codec.specs.declared.DecodedComponent.the-variants as component
 use Rattle.path_codec.specs.Answers.{ReadsSized, restOf}

@@ -1,10 +1,4 @@
-use Prim.Native.Nat.{_+_, _*_, _≤_, _-_}
-use mathlib.Core.Path.{_≡_, refl, _∙_, sym}
-use mathlib.Core.Bool.{true}
-use denote.Ref.{now}
-use native.Mathlib.Omega.{arith}
-use borrow.Author.Tests.{lt-leb, le-leb}
-use lib.ListN.{length, drop}
+use Rattle.codec.proofs.Prelude.{_+_, _*_, _≤_, _-_, _≡_, refl, _∙_, sym, true, now, arith, lt-leb, le-leb, length, drop}
 use Rattle.path.specs.Record.{sumOf, allAtMost}
 use Rattle.path.proofs.Lists.{sum-next, sum-end, at-most-next, at-most-end}
 use Rattle.path_codec.proofs.After.{parts-many, parts-long, parts-over, parts-within}

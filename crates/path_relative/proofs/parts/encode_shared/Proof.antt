@@ -1,17 +1,13 @@
-use mathlib.Core.Path.{_≡_, sym, ap, _∙_}
-use native.Mathlib.Omega.{arith}
-use denote.Ref.{now}
+use Rattle.codec.proofs.Prelude.{_≡_, sym, ap, _∙_, arith, now, length, drop, length-append, needs}
 use Rattle.path.specs.declared.Path.{Path}
 use Rattle.path.specs.Record.{pathOf}
 use Rattle.path_suffix.specs.Suffix.{suffixFrom}
-use lib.ListN.{length, drop, length-append}
 use Rattle.codec.specs.Answers.{outcomeOf, wrote}
 use Rattle.codec.specs.Format.{writeAnswer}
 use Rattle.codec.proofs.Lending.{length-in-room, no-length, to-end, put-end, put-wrote}
 use Rattle.compact_u64.specs.Number.{standaloneBytes}
 use Rattle.path_relative.specs.Records.{sharedFrom}
 use Rattle.path_relative.proofs.Writing.{rest-denied, short-unchanged, suffix-within, shared-written}
-use borrow.Author.Needs.{needs}
 use Rattle.path_relative.proofs.parts.encode_shared.Statement.{statement}
 use Rattle.path_relative.proofs.parts.encode_shared.Tie as tie
 

@@ -1,16 +1,12 @@
-use mathlib.Core.Path.{_≡_, sym, ap, _∙_}
-use native.Mathlib.Omega.{arith}
-use denote.Ref.{now}
+use Rattle.codec.proofs.Prelude.{_≡_, sym, ap, _∙_, arith, now, length, needs}
 use Rattle.path.specs.declared.Path.{Path}
 use Rattle.path.specs.Record.{pathOf}
 use Rattle.path_suffix.specs.Suffix.{suffixFrom}
-use lib.ListN.{length}
 use Rattle.codec.specs.Format.{allowed}
 use Rattle.codec.specs.Answers.{outcomeOf}
 use Rattle.codec.proofs.Lending.{length-barred, length-allowed, length-wrote, length-denied, no-length}
 use Rattle.path_relative.specs.Records.{sharedFrom}
 use Rattle.path_relative.proofs.Writing.{suffix-within, shared-long}
-use borrow.Author.Needs.{needs}
 use Rattle.path_relative.proofs.parts.shared_len.Statement.{statement}
 use Rattle.path_relative.proofs.parts.shared_len.Tie as tie
 

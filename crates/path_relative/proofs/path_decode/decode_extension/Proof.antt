@@ -1,9 +1,4 @@
-use mathlib.Core.Path.{_≡_, sym, ap, _∙_}
-use Prim.Native.Nat.{_+_, _≤_}
-use denote.Ref.{now}
-use native.Mathlib.Omega.{arith}
-use lib.ListN.{length, take, drop, length-drop}
-use lib.Seq.{length-take-le}
+use Rattle.codec.proofs.Prelude.{_≡_, sym, ap, _∙_, _+_, _≤_, now, arith, length, take, drop, length-drop, length-take-le, needs}
 use Rattle.codec.specs.Answers.{accepted, answerOf}
 use Rattle.codec.specs.Reader.{shift}
 use Rattle.codec.specs.declared.Decoded.{Decoded}
@@ -21,7 +16,6 @@ use Rattle.path_codec.proofs.Exits.{no-sizes, sizes-inside}
 use Rattle.path_relative.specs.Records.{readExtendsPath}
 use Rattle.path_relative.proofs.Leading.{lead-long, lead-small}
 use Rattle.path_relative.proofs.Exits.{extends-sizes, extends-long, extends-many, extends-after}
-use borrow.Author.Needs.{needs}
 use Rattle.path_relative.proofs.path_decode.decode_extension.Statement.{statement}
 use Rattle.path_relative.proofs.path_decode.decode_extension.Tie as tie
 

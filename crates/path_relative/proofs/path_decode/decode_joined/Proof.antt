@@ -1,12 +1,4 @@
-use mathlib.Core.Path.{_≡_, refl, sym, ap, _∙_}
-use mathlib.Core.Bool.{true}
-use Prim.Native.Nat.{_≤_}
-use denote.Ref.{now}
-use native.Mathlib.Omega.{arith}
-use lib.Dec.{eqb}
-use lib.ListN.{length, take}
-use lib.Seq.{length-take-le}
-use borrow.Author.Tests.{not-true, not-false}
+use Rattle.codec.proofs.Prelude.{_≡_, refl, sym, ap, _∙_, true, _≤_, now, arith, eqb, length, take, length-take-le, not-true, not-false, needs}
 use Rattle.codec.specs.Answers.{accepted, answerOf}
 use Rattle.codec.specs.Reader.{passed}
 use Rattle.codec.specs.declared.Decoded.{Decoded}
@@ -21,7 +13,6 @@ use Rattle.path_codec.proofs.Yields.{After}
 use Rattle.path_relative.specs.Records.{readJoined}
 use Rattle.path_relative.proofs.Leading.{lead-long, lead-small, lead-read, no-more, no-rest, stands-here, stands-read, same-judged, other-judged}
 use Rattle.path_relative.proofs.Exits.{joined-after, joined-lenient, joined-strict}
-use borrow.Author.Needs.{needs}
 use Rattle.path_relative.proofs.path_decode.decode_joined.Statement.{statement}
 use Rattle.path_relative.proofs.path_decode.decode_joined.Tie as tie
 

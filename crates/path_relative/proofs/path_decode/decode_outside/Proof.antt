@@ -1,8 +1,7 @@
-use mathlib.Core.Path.{refl, sym, ap, _∙_}
+use Rattle.codec.proofs.Prelude.{refl, sym, ap, _∙_, needs}
 use Rattle.codec.specs.Answers.{answerOf}
 use Rattle.codec.specs.declared.Decoded.{Decoded}
 use Rattle.codec.proofs.Answers.{gives-refused, bind-refused}
-use borrow.Author.Needs.{needs}
 use Rattle.path_relative.proofs.path_decode.decode_outside.Statement.{statement}
 use Rattle.path_relative.proofs.path_decode.decode_outside.Tie as tie
 

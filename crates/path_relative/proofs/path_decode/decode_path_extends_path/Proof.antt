@@ -1,8 +1,6 @@
-use mathlib.Core.Path.{refl, sym, _∙_}
-use borrow.Author.Tests.{not-true, not-false}
+use Rattle.codec.proofs.Prelude.{refl, sym, _∙_, not-true, not-false, needs}
 use Rattle.codec.proofs.Answers.{gives-refused}
 use Rattle.path_relative.proofs.Exits.{extends-unformed}
-use borrow.Author.Needs.{needs}
 use Rattle.path_relative.proofs.path_decode.decode_path_extends_path.Statement.{
   statement,
 }

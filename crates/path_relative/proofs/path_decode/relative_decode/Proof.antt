@@ -1,11 +1,4 @@
-use mathlib.Core.Path.{_≡_, refl, sym, ap, _∙_}
-use mathlib.Core.List.{[]}
-use mathlib.Core.Bool.{true}
-use Prim.Native.Nat.{_≤_, _<_, _+_, _^_}
-use native.Mathlib.Omega.{arith}
-use denote.Ref.{now}
-use lib.ListN.{length, drop, length-drop}
-use borrow.Author.Tests.{not-true, not-false}
+use Rattle.codec.proofs.Prelude.{_≡_, refl, sym, ap, _∙_, [], true, _≤_, _<_, _+_, _^_, arith, now, length, drop, length-drop, not-true, not-false, needs}
 use Rattle.codec.specs.Answers.{accepted, answerOf}
 use Rattle.codec.specs.Reader.{shift}
 use Rattle.codec.specs.declared.Decoded.{Decoded}
@@ -22,7 +15,6 @@ use Rattle.path_codec.specs.Answers.{GivesPath, sizesAnswer}
 use Rattle.path_codec.proofs.Exits.{no-sizes, sizes-inside}
 use Rattle.path_relative.specs.Records.{readJoined, readAgainstPath}
 use Rattle.path_relative.proofs.Exits.{against-malformed, against-first, against-sizes, against-above, against-joined, joined-bounded}
-use borrow.Author.Needs.{needs}
 use Rattle.path_relative.proofs.path_decode.relative_decode.Statement.{statement}
 use Rattle.path_relative.proofs.path_decode.relative_decode.Tie as tie
 

@@ -1,9 +1,4 @@
-use mathlib.Core.Path.{_≡_, _∙_}
-use Prim.Native.Nat.{_+_, _-_}
-use denote.Ref.{now}
-use native.Mathlib.Omega.{arith}
-use lib.ListN.{getD}
-use borrow.Author.Needs.{needs}
+use Rattle.codec.proofs.Prelude.{_≡_, _∙_, _+_, _-_, now, arith, getD, needs}
 use Rattle.path_relative.proofs.path_decode.same_component.Statement.{statement}
 use Rattle.path_relative.proofs.path_decode.same_component.Tie as tie
 

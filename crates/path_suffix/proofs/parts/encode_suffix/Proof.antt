@@ -1,11 +1,4 @@
-use Prim.Native.Nat.{_≤_}
-use mathlib.Core.Path.{_≡_, _∙_, sym}
-use mathlib.Core.Bool.{true}
-use denote.Ref.{now}
-use native.Mathlib.Omega.{arith}
-use borrow.Author.Tests.{not-true, not-false}
-use lib.ListN.{length, take}
-use lib.Seq.{length-take-le}
+use Rattle.codec.proofs.Prelude.{_≤_, _≡_, _∙_, sym, true, now, arith, not-true, not-false, length, take, length-take-le, needs}
 use Rattle.codec.proofs.Lending.{put-barred, put-full, put-fits, to-end}
 use Rattle.path.specs.declared.Path.{Path}
 use Rattle.path.specs.Record.{pathOf, sumOf, wellFormed}
@@ -13,7 +6,6 @@ use Rattle.path.proofs.Components.{Formed, parts-formed}
 use Rattle.path_suffix.specs.Suffix.{suffixFrom}
 use Rattle.path_suffix.proofs.Writing.{suffix-malformed, suffix-outside, suffix-allowed}
 use Rattle.path_suffix.proofs.Lengths.{suffix-cut, suffix-sum, suffix-lengths, suffix-there, suffix-is-long}
-use borrow.Author.Needs.{needs}
 use Rattle.path_suffix.proofs.parts.encode_suffix.Statement.{statement}
 use Rattle.path_suffix.proofs.parts.encode_suffix.Tie as tie
 

@@ -1,8 +1,4 @@
-use mathlib.Core.Path.{_≡_, _∙_, sym}
-use mathlib.Core.Bool.{true}
-use denote.Ref.{now}
-use native.Mathlib.Omega.{arith}
-use borrow.Author.Tests.{not-true, not-false}
+use Rattle.codec.proofs.Prelude.{_≡_, _∙_, sym, true, now, arith, not-true, not-false, needs}
 use Rattle.codec.proofs.Lending.{length-barred, length-allowed}
 use Rattle.path.specs.declared.Path.{Path}
 use Rattle.path.specs.Record.{pathOf, wellFormed}
@@ -10,7 +6,6 @@ use Rattle.path.proofs.Components.{Formed, parts-formed}
 use Rattle.path_suffix.specs.Suffix.{suffixFrom}
 use Rattle.path_suffix.proofs.Writing.{suffix-malformed, suffix-outside, suffix-allowed}
 use Rattle.path_suffix.proofs.Lengths.{suffix-lengths, suffix-is-long}
-use borrow.Author.Needs.{needs}
 use Rattle.path_suffix.proofs.parts.suffix_len.Statement.{statement}
 use Rattle.path_suffix.proofs.parts.suffix_len.Tie as tie
 

@@ -1,9 +1,6 @@
-use mathlib.Core.Path.{_≡_, sym, _∙_}
-use mathlib.Core.Bool.{true, false}
-use borrow.Author.Tests.{not-true, not-false}
+use Rattle.codec.proofs.Prelude.{_≡_, sym, _∙_, true, false, not-true, not-false, needs}
 use Rattle.range_3d.specs.Record.{wellFormedSubspaces}
 use Rattle.range3d_range3d.specs.Records.{measureIn}
-use borrow.Author.Needs.{needs}
 use Rattle.range3d_range3d.proofs.parts.measure.Statement.{statement}
 use Rattle.range3d_range3d.proofs.parts.measure.Tie as tie
 

@@ -1,9 +1,7 @@
-use mathlib.Core.Path.{refl, sym, _∙_}
-use borrow.Author.Tests.{not-true, not-false}
+use Rattle.codec.proofs.Prelude.{refl, sym, _∙_, not-true, not-false, needs}
 use Rattle.codec.proofs.Answers.{gives-refused}
 use Rattle.range3d_range3d.specs.Answers.{refusal}
 use Rattle.range3d_range3d.proofs.DecodeExits.{no-subspaces}
-use borrow.Author.Needs.{needs}
 use Rattle.range3d_range3d.proofs.parts.relative_decode.Statement.{statement}
 use Rattle.range3d_range3d.proofs.parts.relative_decode.Tie as tie
 

@@ -1,8 +1,4 @@
-use mathlib.Core.Path.{_≡_, sym, ap, _∙_}
-use Prim.Native.Nat.{_≤_}
-use native.Mathlib.Omega.{arith}
-use denote.Ref.{now}
-use lib.ListN.{length, drop, length-drop}
+use Rattle.codec.proofs.Prelude.{_≡_, sym, ap, _∙_, _≤_, arith, now, length, drop, length-drop, needs}
 use Rattle.codec.specs.Answers.{accepted, answerOf}
 use Rattle.codec.specs.Reader.{shift, mapped}
 use Rattle.codec.specs.declared.Decoded.{Decoded}
@@ -17,7 +13,6 @@ use Rattle.range3d_range3d.specs.Answers.{GivesRange}
 use Rattle.range3d_range3d.specs.Range.{sourcesIn}
 use Rattle.range3d_range3d.specs.Records.{rangeWith, readRestOf}
 use Rattle.range3d_range3d.proofs.DecodeExits.{gives-early, parts-malformed, parts-subspaces, subspaces-inside, parts-rest}
-use borrow.Author.Needs.{needs}
 use Rattle.range3d_range3d.proofs.range_decode.decode_parts.Statement.{statement}
 use Rattle.range3d_range3d.proofs.range_decode.decode_parts.Tie as tie
 

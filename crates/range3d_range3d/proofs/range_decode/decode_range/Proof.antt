@@ -1,9 +1,4 @@
-use mathlib.Core.Path.{refl, sym, _∙_}
-use Prim.Native.Nat.{_+_, _<_, _^_}
-use native.Mathlib.Omega.{arith}
-use denote.Ref.{now}
-use borrow.Author.Tests.{ltb-true, ltb-false, not-true, not-false}
-use lib.ListN.{length, drop, getD, length-drop}
+use Rattle.codec.proofs.Prelude.{refl, sym, _∙_, _+_, _<_, _^_, arith, now, ltb-true, ltb-false, not-true, not-false, length, drop, getD, length-drop, needs}
 use Rattle.codec.specs.Answers.{Answer}
 use Rattle.codec.specs.Reader.{shift}
 use Rattle.codec.proofs.Lending.{to-end}
@@ -14,7 +9,6 @@ use Rattle.range_header.specs.Header.{unpackHeader}
 use Rattle.range3d_range3d.specs.Answers.{GivesRange}
 use Rattle.range3d_range3d.specs.Records.{rangeWith, readPartsOf}
 use Rattle.range3d_range3d.proofs.DecodeExits.{gives-early, no-paths, range-short, range-parts}
-use borrow.Author.Needs.{needs}
 use Rattle.range3d_range3d.proofs.range_decode.decode_range.Statement.{statement}
 use Rattle.range3d_range3d.proofs.range_decode.decode_range.Tie as tie
 

@@ -1,8 +1,4 @@
-use mathlib.Core.Path.{_≡_, sym, ap, _∙_}
-use Prim.Native.Nat.{_+_, _≤_}
-use native.Mathlib.Omega.{arith}
-use denote.Ref.{now}
-use lib.ListN.{length, drop}
+use Rattle.codec.proofs.Prelude.{_≡_, sym, ap, _∙_, _+_, _≤_, arith, now, length, drop, needs}
 use Rattle.codec.specs.Answers.{accepted, answerOf}
 use Rattle.codec.specs.Reader.{shift}
 use Rattle.codec.specs.declared.Decoded.{Decoded}
@@ -16,7 +12,6 @@ use Rattle.range_times.specs.Times.{readTimes}
 use Rattle.range3d_range3d.specs.Answers.{refusal}
 use Rattle.range3d_range3d.specs.Range.{sidesIn}
 use Rattle.range3d_range3d.proofs.DecodeExits.{rest-paths, paths-inside, rest-times, rest-read, rest-inside}
-use borrow.Author.Needs.{needs}
 use Rattle.range3d_range3d.proofs.range_decode.decode_rest.Statement.{statement}
 use Rattle.range3d_range3d.proofs.range_decode.decode_rest.Tie as tie
 

@@ -1,7 +1,4 @@
-use Prim.Native.Nat.{_+_}
-use native.Mathlib.Omega.{arith}
-use borrow.Author.Tests.{le-ltb}
-use borrow.Author.Needs.{needs}
+use Rattle.codec.proofs.Prelude.{_+_, arith, le-ltb, needs}
 use Rattle.range3d_range3d.proofs.range_decode.has_header.Statement.{statement}
 use Rattle.range3d_range3d.proofs.range_decode.has_header.Tie as tie
 

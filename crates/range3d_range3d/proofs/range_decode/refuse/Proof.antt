@@ -1,6 +1,6 @@
 use Rattle.range_3d.specs.Record.{subspacesFrom, pathsFrom}
 use Rattle.range3d_range3d.specs.Answers.{refusal}
-use borrow.Author.Needs.{needs}
+use Rattle.codec.proofs.Prelude.{needs}
 use Rattle.range3d_range3d.proofs.range_decode.refuse.Statement.{statement}
 use Rattle.range3d_range3d.proofs.range_decode.refuse.Tie as tie
 

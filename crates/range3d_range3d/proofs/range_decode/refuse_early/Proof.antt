@@ -1,12 +1,8 @@
-use mathlib.Core.Path.{_≡_, sym, _∙_}
-use mathlib.Core.Bool.{true, false}
-use denote.Ref.{now}
-use borrow.Author.Tests.{not-true, not-false}
+use Rattle.codec.proofs.Prelude.{_≡_, sym, _∙_, true, false, now, not-true, not-false, needs}
 use Rattle.path.specs.Record.{pathOf}
 use Rattle.range_3d.specs.Record.{wellFormedPaths}
 use Rattle.range_paths.specs.Records.{pathsWith}
 use Rattle.range3d_range3d.specs.Answers.{earlyRefusal}
-use borrow.Author.Needs.{needs}
 use Rattle.range3d_range3d.proofs.range_decode.refuse_early.Statement.{statement}
 use Rattle.range3d_range3d.proofs.range_decode.refuse_early.Tie as tie
 

@@ -1,11 +1,7 @@
-use mathlib.Core.Path.{_≡_, ap, _∙_}
-use mathlib.Core.List.{List, [], _∷_}
-use Prim.Native.Nat.{ℕ}
-use denote.Ref.{now}
+use Rattle.codec.proofs.Prelude.{_≡_, ap, _∙_, List, [], _∷_, ℕ, now, needs}
 use Rattle.codec.specs.Format.{over}
 use Rattle.range3d_range3d.specs.Records.{headWith}
 use Rattle.range3d_range3d.proofs.Writing.{over-two}
-use borrow.Author.Needs.{needs}
 use Rattle.range3d_range3d.proofs.range_encode.put_head.Statement.{statement}
 use Rattle.range3d_range3d.proofs.range_encode.put_head.Tie as tie
 

@@ -1,10 +1,4 @@
-use mathlib.Core.Path.{_≡_, refl, sym, ap, _∙_}
-use mathlib.Core.List.{List}
-use mathlib.Core.Bool.{false}
-use Prim.Native.Nat.{ℕ, _+_, _≤_}
-use native.Mathlib.Omega.{arith}
-use denote.Ref.{now}
-use lib.ListN.{length, length-append}
+use Rattle.codec.proofs.Prelude.{_≡_, refl, sym, ap, _∙_, List, false, ℕ, _+_, _≤_, arith, now, length, length-append, needs}
 use Rattle.codec.specs.Answers.{outcomeOf, wrote}
 use Rattle.codec.specs.Format.{over, writeAnswer, writeBuffer}
 use Rattle.codec.proofs.Lending.{put-fits, no-length, written-is, wrote-not-denied}
@@ -13,7 +7,6 @@ use Rattle.path_relative.specs.Records.{sharedFrom}
 use Rattle.range_3d.specs.declared.PathRange.{PathRange}
 use Rattle.range_paths.specs.Records.{pathsWith}
 use Rattle.range3d_range3d.proofs.Writing.{start-within, both-open, both-closed, next-inside, put-next}
-use borrow.Author.Needs.{needs}
 use Rattle.range3d_range3d.proofs.range_encode.put_paths.Statement.{statement}
 use Rattle.range3d_range3d.proofs.range_encode.put_paths.Tie as tie
 

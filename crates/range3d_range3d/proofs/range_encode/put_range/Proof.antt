@@ -1,10 +1,4 @@
-use mathlib.Core.Path.{_≡_, refl, ap, _∙_}
-use mathlib.Core.List.{List, _++_}
-use Prim.Native.Nat.{ℕ, _+_, _-_, _≤_}
-use native.Mathlib.Omega.{arith}
-use borrow.Rule.Slice.PartMut.{putMid}
-use denote.Ref.{now}
-use lib.ListN.{length, length-append}
+use Rattle.codec.proofs.Prelude.{_≡_, refl, ap, _∙_, List, _++_, ℕ, _+_, _-_, _≤_, arith, putMid, now, length, length-append, needs}
 use Rattle.codec.specs.Format.{allowed, over}
 use Rattle.codec.proofs.Lending.{put-full, put-fits}
 use Rattle.path.specs.Record.{pathOf}
@@ -15,7 +9,6 @@ use Rattle.range_paths.specs.Records.{pathsWith, bothBytes}
 use Rattle.range_times.specs.Times.{timesBytes}
 use Rattle.range3d_range3d.specs.Records.{rangeWith, headWith, measuredBytes}
 use Rattle.range3d_range3d.proofs.Writing.{measured-long, measured-parts, next-room, over-next, put-next}
-use borrow.Author.Needs.{needs}
 use Rattle.range3d_range3d.proofs.range_encode.put_range.Statement.{statement}
 use Rattle.range3d_range3d.proofs.range_encode.put_range.Tie as tie
 

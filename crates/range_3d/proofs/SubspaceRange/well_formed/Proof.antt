@@ -1,5 +1,5 @@
 use Rattle.range_3d.specs.Record.{wellFormedSubspaces}
-use borrow.Author.Needs.{needs}
+use Rattle.codec.proofs.Prelude.{needs}
 use Rattle.range_3d.proofs.SubspaceRange.well_formed.Statement.{statement}
 use Rattle.range_3d.proofs.SubspaceRange.well_formed.Tie as tie
 

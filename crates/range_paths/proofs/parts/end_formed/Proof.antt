@@ -1,8 +1,5 @@
-use mathlib.Core.Path.{sym, _∙_}
-use mathlib.Core.Bool.{and-true}
-use denote.Ref.{now}
+use Rattle.codec.proofs.Prelude.{sym, _∙_, and-true, now, needs}
 use Rattle.path.specs.Record.{pathOf, wellFormed}
-use borrow.Author.Needs.{needs}
 use Rattle.range_paths.proofs.parts.end_formed.Statement.{statement}
 use Rattle.range_paths.proofs.parts.end_formed.Tie as tie
 

@@ -1,12 +1,8 @@
-use mathlib.Core.Path.{sym, _∙_}
-use native.Mathlib.Omega.{arith}
-use denote.Ref.{now}
-use borrow.Author.Tests.{not-true, not-false}
+use Rattle.codec.proofs.Prelude.{sym, _∙_, arith, now, not-true, not-false, needs}
 use Rattle.path.specs.Record.{pathOf}
 use Rattle.range_3d.specs.declared.PathRange.{PathRange}
 use Rattle.range_paths.specs.Records.{pathsWith}
 use Rattle.range_paths.proofs.Writing.{Nears, nears, near-allowed, no-start, not-empty, no-end, measured-open, measured-closed}
-use borrow.Author.Needs.{needs}
 use Rattle.range_paths.proofs.parts.measure.Statement.{statement}
 use Rattle.range_paths.proofs.parts.measure.Tie as tie
 

@@ -1,13 +1,10 @@
-use mathlib.Core.Path.{sym, _∙_}
-use denote.Ref.{now}
-use borrow.Author.Tests.{not-true, not-false}
+use Rattle.codec.proofs.Prelude.{sym, _∙_, now, not-true, not-false, needs}
 use Rattle.path.specs.declared.Path.{Path}
 use Rattle.path.specs.Record.{pathOf}
 use Rattle.path_relative.proofs.Writing.{Common, common, uncommon}
 use Rattle.range_3d.specs.declared.PathRange.{PathRange}
 use Rattle.range_paths.specs.Records.{pathsWith}
 use Rattle.range_paths.proofs.Writing.{near-no-start, near-not-empty, near-open, near-no-end, near-start, near-end}
-use borrow.Author.Needs.{needs}
 use Rattle.range_paths.proofs.parts.nearest.Statement.{statement}
 use Rattle.range_paths.proofs.parts.nearest.Tie as tie
 

@@ -1,8 +1,4 @@
-use mathlib.Core.Path.{sym, ap, _∙_}
-use Prim.Native.Nat.{_≤_}
-use native.Mathlib.Omega.{arith}
-use denote.Ref.{now}
-use lib.ListN.{length}
+use Rattle.codec.proofs.Prelude.{sym, ap, _∙_, _≤_, arith, now, length, needs}
 use Rattle.codec.specs.Answers.{outcomeOf}
 use Rattle.codec.proofs.Lawful.{verdict-allowed}
 use Rattle.codec.proofs.Lending.{length-wrote, length-not-denied, no-length}
@@ -10,7 +6,6 @@ use Rattle.path.specs.declared.Path.{Path}
 use Rattle.path.specs.Record.{pathOf}
 use Rattle.path_relative.specs.Records.{sharedFrom}
 use Rattle.range_paths.proofs.Writing.{shared-short}
-use borrow.Author.Needs.{needs}
 use Rattle.range_paths.proofs.parts.path_len.Statement.{statement}
 use Rattle.range_paths.proofs.parts.path_len.Tie as tie
 

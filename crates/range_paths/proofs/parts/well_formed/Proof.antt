@@ -1,10 +1,6 @@
-use mathlib.Core.Path.{_≡_, sym, _∙_}
-use mathlib.Core.Bool.{true, false}
-use denote.Ref.{now}
-use borrow.Author.Tests.{not-true, not-false}
+use Rattle.codec.proofs.Prelude.{_≡_, sym, _∙_, true, false, now, not-true, not-false, needs}
 use Rattle.path.specs.Record.{pathOf, wellFormed}
 use Rattle.range_3d.specs.Record.{wellFormedPaths}
-use borrow.Author.Needs.{needs}
 use Rattle.range_paths.proofs.parts.well_formed.Statement.{statement}
 use Rattle.range_paths.proofs.parts.well_formed.Tie as tie
 

@@ -1,8 +1,4 @@
-use mathlib.Core.Path.{_≡_, sym, ap, _∙_}
-use native.Mathlib.Omega.{arith}
-use Prim.Native.Nat.{_≤_}
-use denote.Ref.{now}
-use lib.ListN.{length, drop}
+use Rattle.codec.proofs.Prelude.{_≡_, sym, ap, _∙_, arith, _≤_, now, length, drop, needs}
 use Rattle.codec.specs.Answers.{accepted, answerOf}
 use Rattle.codec.specs.declared.Decoded.{Decoded}
 use Rattle.codec.proofs.Answers.{no-value, gives-refused, gives-accepted}
@@ -12,7 +8,6 @@ use Rattle.path_codec.specs.Answers.{GivesPath}
 use Rattle.range_3d.specs.declared.PathRange.{PathRange}
 use Rattle.range_paths.specs.Records.{pathsWith, readSideOf}
 use Rattle.range_paths.proofs.DecodeExits.{paths-start, start-inside, paths-open, paths-end, end-inside, paths-both}
-use borrow.Author.Needs.{needs}
 use Rattle.range_paths.proofs.paths_decode.decode_end.Statement.{statement}
 use Rattle.range_paths.proofs.paths_decode.decode_end.Tie as tie
 

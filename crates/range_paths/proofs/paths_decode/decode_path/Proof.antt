@@ -1,6 +1,5 @@
-use mathlib.Core.Path.{refl}
+use Rattle.codec.proofs.Prelude.{refl, needs}
 use Rattle.codec.proofs.Answers.{gives-refused}
-use borrow.Author.Needs.{needs}
 use Rattle.range_paths.proofs.paths_decode.decode_path.Statement.{statement}
 use Rattle.range_paths.proofs.paths_decode.decode_path.Tie as tie
 

@@ -1,6 +1,5 @@
-use mathlib.Core.Path.{refl}
+use Rattle.codec.proofs.Prelude.{refl, needs}
 use Rattle.range_3d.specs.Record.{pathsFrom}
-use borrow.Author.Needs.{needs}
 use Rattle.range_paths.proofs.paths_decode.refuse.Statement.{statement}
 use Rattle.range_paths.proofs.paths_decode.refuse.Tie as tie
 

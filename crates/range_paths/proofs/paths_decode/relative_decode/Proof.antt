@@ -1,12 +1,9 @@
-use mathlib.Core.Path.{refl, sym, _∙_}
-use denote.Ref.{now}
-use borrow.Author.Tests.{not-true, not-false}
+use Rattle.codec.proofs.Prelude.{refl, sym, _∙_, now, not-true, not-false, needs}
 use Rattle.codec.proofs.Answers.{gives-refused}
 use Rattle.path.specs.Record.{pathOf}
 use Rattle.range_3d.specs.declared.PathRange.{PathRange}
 use Rattle.range_paths.specs.Records.{pathsWith}
 use Rattle.range_paths.proofs.DecodeExits.{paths-malformed, other-fails}
-use borrow.Author.Needs.{needs}
 use Rattle.range_paths.proofs.paths_decode.relative_decode.Statement.{statement}
 use Rattle.range_paths.proofs.paths_decode.relative_decode.Tie as tie
 

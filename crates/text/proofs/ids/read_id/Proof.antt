@@ -1,7 +1,4 @@
-use mathlib.Core.Path.{_≡_, _∙_, sym}
-use denote.Ref.{now}
-use native.Mathlib.Omega.{arith}
-use borrow.Author.Needs.{needs}
+use Rattle.codec.proofs.Prelude.{_≡_, _∙_, sym, now, arith, needs}
 use Rattle.text.specs.declared.Hex.the-variants.{Bytes}
 use Rattle.text.specs.Fields.{readHex}
 use Rattle.text.proofs.HexAnswers.{hex-refused, some-bytes}

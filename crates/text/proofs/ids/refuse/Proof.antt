@@ -1,4 +1,4 @@
-use mathlib.Core.Path.{refl}
+use Rattle.codec.proofs.Prelude.{refl}
 use Rattle.text.specs.Ids.{noId}
 use Rattle.text.proofs.ids.refuse.Statement.{statement}
 use Rattle.text.proofs.ids.refuse.Tie as tie
