@@ -4,7 +4,7 @@ ghost use lib.ListN.{drop};
 ghost use Rattle.codec.specs.Format.{lengthAnswer};
 ghost use Rattle.area_area.specs.Records.{againstArea, readAgainstArea};
 ghost use Rattle.flat.specs.AreaRecord.{areaIn, areaFlat};
-ghost use Rattle.jakepuro.specs.Calls.{Encodes, Told, Stores};
+ghost use Rattle.calls.specs.Calls.{Encodes, Told, Stores};
 
 // Writes an area against a reference.
 #[no_mangle]
@@ -31,7 +31,7 @@ pub extern "C" fn jakepuro_area_area_encode<'a>(
         &of.lengths,
         of.count,
     );
-    crate::answers::tell_length(answer, written)
+    calls::tell_length(answer, written)
 }
 
 // How many bytes that takes.
@@ -57,7 +57,7 @@ pub extern "C" fn jakepuro_area_area_len_of_encoding<'a>(
         &of.lengths,
         of.count,
     );
-    crate::answers::tell_length(answer, length)
+    calls::tell_length(answer, length)
 }
 
 // Reads an area against a reference.
@@ -85,5 +85,5 @@ pub extern "C" fn jakepuro_area_area_decode<'a>(
     );
     let answer = read.answer;
     let value = read.area;
-    crate::answers::give_area(answer, value, area, consumed)
+    calls::give_area(answer, value, area, consumed)
 }

@@ -6,7 +6,7 @@ ghost use Rattle.entry_area.specs.Records.{againstNamespaceArea, readAgainstNam
 ghost use Rattle.entry_entry.specs.Records.{againstEntry, readAgainstEntry};
 ghost use Rattle.flat.specs.AreaRecord.{areaIn};
 ghost use Rattle.flat.specs.EntryRecord.{entryIn, entryFlat};
-ghost use Rattle.jakepuro.specs.Calls.{Encodes, Told, Stores};
+ghost use Rattle.calls.specs.Calls.{Encodes, Told, Stores};
 
 // Writes an entry against a namespace and an area.
 #[no_mangle]
@@ -36,7 +36,7 @@ pub extern "C" fn jakepuro_entry_area_encode<'a>(
         &of.lengths,
         of.count,
     );
-    crate::answers::tell_length(answer, written)
+    calls::tell_length(answer, written)
 }
 
 // How many bytes that takes.
@@ -65,7 +65,7 @@ pub extern "C" fn jakepuro_entry_area_len_of_encoding<'a>(
         &of.lengths,
         of.count,
     );
-    crate::answers::tell_length(answer, length)
+    calls::tell_length(answer, length)
 }
 
 // Reads an entry against a namespace and an area.
@@ -96,7 +96,7 @@ pub extern "C" fn jakepuro_entry_area_decode<'a>(
     );
     let answer = read.answer;
     let value = read.entry;
-    crate::answers::give_entry(answer, value, entry, consumed)
+    calls::give_entry(answer, value, entry, consumed)
 }
 
 // Writes an entry against an entry.
@@ -124,7 +124,7 @@ pub extern "C" fn jakepuro_entry_entry_encode<'a>(
         &of_sizes.lengths,
         of_sizes.count,
     );
-    crate::answers::tell_length(answer, written)
+    calls::tell_length(answer, written)
 }
 
 // How many bytes that takes.
@@ -150,7 +150,7 @@ pub extern "C" fn jakepuro_entry_entry_len_of_encoding<'a>(
         &of_sizes.lengths,
         of_sizes.count,
     );
-    crate::answers::tell_length(answer, length)
+    calls::tell_length(answer, length)
 }
 
 // Reads an entry against an entry.
@@ -176,5 +176,5 @@ pub extern "C" fn jakepuro_entry_entry_decode<'a>(
     );
     let answer = read.answer;
     let value = read.entry;
-    crate::answers::give_entry(answer, value, entry, consumed)
+    calls::give_entry(answer, value, entry, consumed)
 }

@@ -1,6 +1,5 @@
 // The library for C and Rust: docs/ABI.md, include/jakepuro.h. A function answers 0, or the number of docs/FORMAT.md's refusal; the count
 // beside a refusal is 0, and what was lent is left as it was.
-mod answers;
 pub mod areas;
 pub mod entries;
 pub mod numbers;

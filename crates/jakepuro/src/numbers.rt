@@ -4,7 +4,7 @@ ghost use lib.ListN.{length, drop};
 ghost use Rattle.codec.specs.Format.{writeAnswer, lengthAnswer};
 ghost use Rattle.compact_u64.specs.Number.{minTag, standalone, readStandalone};
 ghost use Rattle.compact_u64.specs.Answers.{numberAnswer};
-ghost use Rattle.jakepuro.specs.Calls.{Encodes, Told, readCode, Stores};
+ghost use Rattle.calls.specs.Calls.{Encodes, Told, readCode, Stores};
 ghost use Rattle.jakepuro.specs.Tagged.{tagged, readTagged, tagOr, HasBits};
 use codec::Encoded;
 use compact_u64::DecodedU64;
@@ -64,14 +64,14 @@ pub extern "C" fn jakepuro_number_encode(
 {
     let known = width_of(width);
     let NumberWidth::Bits(w) = known else {
-        return crate::answers::tell_length(Encoded::Malformed, written);
+        return calls::tell_length(Encoded::Malformed, written);
     };
     let answer = compact_u64::relative_encode(buffer, w, value);
     let Encoded::Length(_) = answer else {
-        return crate::answers::tell_length(answer, written);
+        return calls::tell_length(answer, written);
     };
     *tag = compact_u64::min_tag(w, value);
-    crate::answers::tell_length(answer, written)
+    calls::tell_length(answer, written)
 }
 
 // How many bytes that takes.
@@ -81,10 +81,10 @@ pub extern "C" fn jakepuro_number_len_of_encoding(width: u8, value: u64, length:
 {
     let known = width_of(width);
     let NumberWidth::Bits(w) = known else {
-        return crate::answers::tell_length(Encoded::Malformed, length);
+        return calls::tell_length(Encoded::Malformed, length);
     };
     let n = compact_u64::relative_len_of_encoding(w, value);
-    crate::answers::tell_length(Encoded::Length(n), length)
+    calls::tell_length(Encoded::Length(n), length)
 }
 
 // Reads the bytes after a tag of 2, 3, 4 or 8 bits.
@@ -119,7 +119,7 @@ pub extern "C" fn jakepuro_standalone_encode(
     ensures { λ r. ⌜ Encodes standalone value (now (buffer .entry)) (now (buffer .exit)) r (now (written .exit)) ⌝ }
 {
     let answer = compact_u64::encode(buffer, value);
-    crate::answers::tell_length(answer, written)
+    calls::tell_length(answer, written)
 }
 
 // How many bytes that takes.
@@ -128,7 +128,7 @@ pub extern "C" fn jakepuro_standalone_len_of_encoding(value: u64, length: &mut u
     ensures { λ r. ⌜ Told (lengthAnswer standalone value) r (now (length .exit)) ⌝ }
 {
     let n = compact_u64::len_of_encoding(value);
-    crate::answers::tell_length(Encoded::Length(n), length)
+    calls::tell_length(Encoded::Length(n), length)
 }
 
 // Reads a standalone number.

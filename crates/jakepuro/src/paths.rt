@@ -5,7 +5,7 @@ ghost use Rattle.codec.specs.Format.{lengthAnswer};
 ghost use Rattle.path_codec.specs.Plain.{plainPath, readPath};
 ghost use Rattle.path_relative.specs.Records.{againstPath, extendsPath, readAgainstPath, readExtendsPath};
 ghost use Rattle.flat.specs.PathRecord.{pathIn, pathFlat};
-ghost use Rattle.jakepuro.specs.Calls.{Encodes, Told, Stores};
+ghost use Rattle.calls.specs.Calls.{Encodes, Told, Stores};
 
 // Writes a plain path.
 #[no_mangle]
@@ -19,7 +19,7 @@ pub extern "C" fn jakepuro_path_encode(
     let sizes = flat::path_record::sizes(path);
     let bytes = flat::path_record::bytes(path);
     let answer = path_codec::parts::encode(buffer, bytes, &sizes.lengths, sizes.count);
-    crate::answers::tell_length(answer, written)
+    calls::tell_length(answer, written)
 }
 
 // How many bytes that takes.
@@ -30,7 +30,7 @@ pub extern "C" fn jakepuro_path_len_of_encoding(path: &[u8; 641], length: &mut u
     let sizes = flat::path_record::sizes(path);
     let bytes = flat::path_record::bytes(path);
     let answer = path_codec::parts::len_of_encoding(bytes, &sizes.lengths, sizes.count);
-    crate::answers::tell_length(answer, length)
+    calls::tell_length(answer, length)
 }
 
 // Reads a plain path.
@@ -47,7 +47,7 @@ pub extern "C" fn jakepuro_path_decode(
     let read = path_codec::decode(message, start, canonic);
     let answer = read.answer;
     let value = read.path;
-    crate::answers::give_path(answer, value, path, consumed)
+    calls::give_path(answer, value, path, consumed)
 }
 
 // Writes a path against a reference.
@@ -71,7 +71,7 @@ pub extern "C" fn jakepuro_path_path_encode<'a>(
         &of.lengths,
         of.count,
     );
-    crate::answers::tell_length(answer, written)
+    calls::tell_length(answer, written)
 }
 
 // How many bytes that takes.
@@ -93,7 +93,7 @@ pub extern "C" fn jakepuro_path_path_len_of_encoding<'a>(
         &of.lengths,
         of.count,
     );
-    crate::answers::tell_length(answer, length)
+    calls::tell_length(answer, length)
 }
 
 // Reads a path against a reference.
@@ -120,7 +120,7 @@ pub extern "C" fn jakepuro_path_path_decode<'a>(
     );
     let answer = read.answer;
     let value = read.path;
-    crate::answers::give_path(answer, value, path, consumed)
+    calls::give_path(answer, value, path, consumed)
 }
 
 // Writes a path as an extension of another.
@@ -144,7 +144,7 @@ pub extern "C" fn jakepuro_path_extends_encode<'a>(
         &of.lengths,
         of.count,
     );
-    crate::answers::tell_length(answer, written)
+    calls::tell_length(answer, written)
 }
 
 // How many bytes that takes.
@@ -166,7 +166,7 @@ pub extern "C" fn jakepuro_path_extends_len_of_encoding<'a>(
         &of.lengths,
         of.count,
     );
-    crate::answers::tell_length(answer, length)
+    calls::tell_length(answer, length)
 }
 
 // Reads a path as an extension of another.
@@ -193,5 +193,5 @@ pub extern "C" fn jakepuro_path_extends_decode<'a>(
     );
     let answer = read.answer;
     let value = read.path;
-    crate::answers::give_path(answer, value, path, consumed)
+    calls::give_path(answer, value, path, consumed)
 }

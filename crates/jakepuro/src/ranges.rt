@@ -4,7 +4,7 @@ ghost use lib.ListN.{drop};
 ghost use Rattle.codec.specs.Format.{lengthAnswer};
 ghost use Rattle.range3d_range3d.specs.Records.{againstRange, readAgainstRange};
 ghost use Rattle.flat.specs.RangeRecord.{rangeIn, rangeFlat};
-ghost use Rattle.jakepuro.specs.Calls.{Encodes, Told, Stores};
+ghost use Rattle.calls.specs.Calls.{Encodes, Told, Stores};
 
 // Writes a 3d range against a 3d range.
 #[no_mangle]
@@ -41,7 +41,7 @@ pub extern "C" fn jakepuro_range3d_range3d_encode<'a>(
         of_end.count,
         flat::range_record::times(reference),
     );
-    crate::answers::tell_length(answer, written)
+    calls::tell_length(answer, written)
 }
 
 // How many bytes that takes.
@@ -77,7 +77,7 @@ pub extern "C" fn jakepuro_range3d_range3d_len_of_encoding<'a>(
         of_end.count,
         flat::range_record::times(reference),
     );
-    crate::answers::tell_length(answer, length)
+    calls::tell_length(answer, length)
 }
 
 // Reads a 3d range against a 3d range.
@@ -108,5 +108,5 @@ pub extern "C" fn jakepuro_range3d_range3d_decode<'a>(
     );
     let answer = read.answer;
     let value = read.range;
-    crate::answers::give_range(answer, value, range, consumed)
+    calls::give_range(answer, value, range, consumed)
 }

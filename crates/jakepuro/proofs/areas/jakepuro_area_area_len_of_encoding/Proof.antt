@@ -1,4 +1,4 @@
-use Rattle.jakepuro.proofs.Calls.{told-as}
+use Rattle.calls.proofs.Calls.{told-as}
 use Rattle.codec.proofs.Prelude.{needs}
 use Rattle.jakepuro.proofs.areas.jakepuro_area_area_len_of_encoding.Statement.{statement}
 use Rattle.jakepuro.proofs.areas.jakepuro_area_area_len_of_encoding.Tie as tie

@@ -1,5 +1,5 @@
 use Rattle.codec.proofs.Prelude.{refl, _∙_, now, drop, needs}
-use Rattle.jakepuro.proofs.Calls.{stores-as}
+use Rattle.calls.proofs.Calls.{stores-as}
 use Rattle.jakepuro.proofs.Tagged.{has-no-bits, has-bits, tagged-refused, tagged-reads}
 use Rattle.jakepuro.proofs.numbers.jakepuro_number_decode.Statement.{statement}
 use Rattle.jakepuro.proofs.numbers.jakepuro_number_decode.Tie as tie

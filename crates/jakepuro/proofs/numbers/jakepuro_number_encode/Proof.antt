@@ -1,5 +1,5 @@
 use Rattle.codec.proofs.Prelude.{ap, now, needs}
-use Rattle.jakepuro.proofs.Calls.{encodes}
+use Rattle.calls.proofs.Calls.{encodes}
 use Rattle.jakepuro.proofs.Tagged.{has-no-bits, has-bits, tagged-barred, tagged-writes}
 use Rattle.jakepuro.specs.Tagged.{tagged}
 use Rattle.compact_u64.specs.Number.{numberBytes}

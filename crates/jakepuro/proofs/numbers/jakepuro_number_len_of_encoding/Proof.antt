@@ -1,4 +1,4 @@
-use Rattle.jakepuro.proofs.Calls.{told-as}
+use Rattle.calls.proofs.Calls.{told-as}
 use Rattle.jakepuro.proofs.Tagged.{has-no-bits, has-bits, tagged-barred, tagged-allowed}
 use Rattle.jakepuro.specs.Tagged.{tagged}
 use Rattle.codec.proofs.Lending.{length-barred, length-allowed}

@@ -1,5 +1,5 @@
 use Rattle.codec.proofs.Prelude.{ap, needs}
-use Rattle.jakepuro.proofs.Calls.{told-as}
+use Rattle.calls.proofs.Calls.{told-as}
 use Rattle.codec.specs.Format.{lengthAnswer}
 use Rattle.codec.specs.Answers.{wrote}
 use Rattle.jakepuro.proofs.numbers.jakepuro_standalone_len_of_encoding.Statement.{

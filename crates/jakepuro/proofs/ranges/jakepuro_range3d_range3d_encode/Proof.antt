@@ -3,7 +3,7 @@ use Rattle.path.specs.Record.{pathOf}
 use Rattle.range_paths.specs.Records.{pathsWith}
 use Rattle.range3d_range3d.specs.Records.{rangeWith, againstRange}
 use Rattle.flat.specs.RangeRecord.{rangeIn}
-use Rattle.jakepuro.proofs.Calls.{encodes-of}
+use Rattle.calls.proofs.Calls.{encodes-of}
 use Rattle.jakepuro.proofs.ranges.jakepuro_range3d_range3d_encode.Statement.{statement}
 use Rattle.jakepuro.proofs.ranges.jakepuro_range3d_range3d_encode.Tie as tie
 

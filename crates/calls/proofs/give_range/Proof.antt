@@ -1,8 +1,8 @@
-use Rattle.jakepuro.proofs.Calls.{stores-refused, stores-accepted}
+use Rattle.calls.proofs.Calls.{stores-refused, stores-accepted}
 use Rattle.flat.specs.RangeRecord.{rangeFlat}
 use Rattle.codec.proofs.Prelude.{needs}
-use Rattle.jakepuro.proofs.answers.give_range.Statement.{statement}
-use Rattle.jakepuro.proofs.answers.give_range.Tie as tie
+use Rattle.calls.proofs.give_range.Statement.{statement}
+use Rattle.calls.proofs.give_range.Tie as tie
 
 returns : tie.Need-returns
 returns c = stores-refused rangeFlat (c .before .before .args .range) (c .before .before .args .answer) (c .before .match .keys2) (c .refusal .ensures)

@@ -1,7 +1,7 @@
-use Rattle.jakepuro.proofs.Calls.{told-denied}
+use Rattle.calls.proofs.Calls.{told-denied}
 use Rattle.codec.proofs.Prelude.{needs}
-use Rattle.jakepuro.proofs.answers.tell_length.Statement.{statement}
-use Rattle.jakepuro.proofs.answers.tell_length.Tie as tie
+use Rattle.calls.proofs.tell_length.Statement.{statement}
+use Rattle.calls.proofs.tell_length.Tie as tie
 
 returns : tie.Need-returns
 returns c = told-denied (c .before .before .args .answer) (c .before .match .keys2) (c .denial .ensures)

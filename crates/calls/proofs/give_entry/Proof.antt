@@ -1,8 +1,8 @@
-use Rattle.jakepuro.proofs.Calls.{stores-refused, stores-accepted}
+use Rattle.calls.proofs.Calls.{stores-refused, stores-accepted}
 use Rattle.flat.specs.EntryRecord.{entryFlat}
 use Rattle.codec.proofs.Prelude.{needs}
-use Rattle.jakepuro.proofs.answers.give_entry.Statement.{statement}
-use Rattle.jakepuro.proofs.answers.give_entry.Tie as tie
+use Rattle.calls.proofs.give_entry.Statement.{statement}
+use Rattle.calls.proofs.give_entry.Tie as tie
 
 returns : tie.Need-returns
 returns c = stores-refused entryFlat (c .before .before .args .entry) (c .before .before .args .answer) (c .before .match .keys2) (c .refusal .ensures)

@@ -8,7 +8,7 @@ use Rattle.codec.specs.declared.Decoded.the-variants as decoded
 use Rattle.codec.specs.declared.Encoded.{Encoded}
 use Rattle.codec.proofs.Answers.{no-value}
 use Rattle.codec.proofs.Lending.{no-length}
-use Rattle.jakepuro.specs.Calls.{codeOf, Told, Encodes, readCode, Stores}
+use Rattle.calls.specs.Calls.{codeOf, Told, Encodes, readCode, Stores}
 
 -- ---- writing
 pub told-denied : (x : Encoded) → OneOf (1 ∷ 2 ∷ 3 ∷ []) (declared.tagOf Rattle.codec.proofs.Encoded.the-type x) → {r : ℕ} → r ≡ codeOf (outcomeOf x) → Told (outcomeOf x) r 0

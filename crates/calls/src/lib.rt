@@ -6,7 +6,7 @@ ghost use Rattle.flat.specs.PathRecord.{pathFlat};
 ghost use Rattle.flat.specs.AreaRecord.{areaFlat};
 ghost use Rattle.flat.specs.EntryRecord.{entryFlat};
 ghost use Rattle.flat.specs.RangeRecord.{rangeFlat};
-ghost use Rattle.jakepuro.specs.Calls.{codeOf, Told, readCode, Stores};
+ghost use Rattle.calls.specs.Calls.{codeOf, Told, readCode, Stores};
 use codec::Decoded;
 use codec::Encoded;
 use entry::Entry;
@@ -15,7 +15,7 @@ use path::Path;
 use range_3d::Range3d;
 
 // A writer's answer.
-pub(crate) fn tell_length(answer: Encoded, length: &mut usize) -> u8
+pub fn tell_length(answer: Encoded, length: &mut usize) -> u8
     ensures { λ r. ⌜ Told (outcomeOf answer) r (now (length .exit)) ⌝ }
 {
     let Encoded::Length(n) = answer else {
@@ -49,7 +49,7 @@ fn refusal(answer: Decoded) -> u8
 }
 
 // A path that was read is stored.
-pub(crate) fn give_path(
+pub fn give_path(
     answer: Decoded,
     path: Path,
     flat: &mut [u8; 641],
@@ -67,7 +67,7 @@ pub(crate) fn give_path(
 }
 
 // An area that was read is stored.
-pub(crate) fn give_area(
+pub fn give_area(
     answer: Decoded,
     area: Area,
     flat: &mut [u8; 691],
@@ -85,7 +85,7 @@ pub(crate) fn give_area(
 }
 
 // An entry that was read is stored.
-pub(crate) fn give_entry(
+pub fn give_entry(
     answer: Decoded,
     entry: Entry,
     flat: &mut [u8; 753],
@@ -103,7 +103,7 @@ pub(crate) fn give_entry(
 }
 
 // A 3d range that was read is stored.
-pub(crate) fn give_range(
+pub fn give_range(
     answer: Decoded,
     range: Range3d,
     flat: &mut [u8; 1365],

@@ -1,8 +1,8 @@
-use Rattle.jakepuro.proofs.Calls.{stores-refused, stores-accepted}
+use Rattle.calls.proofs.Calls.{stores-refused, stores-accepted}
 use Rattle.flat.specs.PathRecord.{pathFlat}
 use Rattle.codec.proofs.Prelude.{needs}
-use Rattle.jakepuro.proofs.answers.give_path.Statement.{statement}
-use Rattle.jakepuro.proofs.answers.give_path.Tie as tie
+use Rattle.calls.proofs.give_path.Statement.{statement}
+use Rattle.calls.proofs.give_path.Tie as tie
 
 returns : tie.Need-returns
 returns c = stores-refused pathFlat (c .before .before .args .path) (c .before .before .args .answer) (c .before .match .keys2) (c .refusal .ensures)

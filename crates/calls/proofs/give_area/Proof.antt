@@ -1,8 +1,8 @@
-use Rattle.jakepuro.proofs.Calls.{stores-refused, stores-accepted}
+use Rattle.calls.proofs.Calls.{stores-refused, stores-accepted}
 use Rattle.flat.specs.AreaRecord.{areaFlat}
 use Rattle.codec.proofs.Prelude.{needs}
-use Rattle.jakepuro.proofs.answers.give_area.Statement.{statement}
-use Rattle.jakepuro.proofs.answers.give_area.Tie as tie
+use Rattle.calls.proofs.give_area.Statement.{statement}
+use Rattle.calls.proofs.give_area.Tie as tie
 
 returns : tie.Need-returns
 returns c = stores-refused areaFlat (c .before .before .args .area) (c .before .before .args .answer) (c .before .match .keys2) (c .refusal .ensures)
