@@ -49,12 +49,7 @@ fn refusal(answer: Decoded) -> u8
 }
 
 // A path that was read is stored.
-pub fn give_path(
-    answer: Decoded,
-    path: Path,
-    flat: &mut [u8; 641],
-    consumed: &mut usize,
-) -> u8
+pub fn give_path(answer: Decoded, path: Path, flat: &mut [u8; 641], consumed: &mut usize) -> u8
     ensures { λ r. ⌜ Stores pathFlat (answerOf answer path) (now (flat .entry)) (now (flat .exit)) r (now (consumed .exit)) ⌝ }
 {
     let Decoded::Consumed(n) = answer else {
@@ -67,12 +62,7 @@ pub fn give_path(
 }
 
 // An area that was read is stored.
-pub fn give_area(
-    answer: Decoded,
-    area: Area,
-    flat: &mut [u8; 691],
-    consumed: &mut usize,
-) -> u8
+pub fn give_area(answer: Decoded, area: Area, flat: &mut [u8; 691], consumed: &mut usize) -> u8
     ensures { λ r. ⌜ Stores areaFlat (answerOf answer area) (now (flat .entry)) (now (flat .exit)) r (now (consumed .exit)) ⌝ }
 {
     let Decoded::Consumed(n) = answer else {
@@ -85,12 +75,7 @@ pub fn give_area(
 }
 
 // An entry that was read is stored.
-pub fn give_entry(
-    answer: Decoded,
-    entry: Entry,
-    flat: &mut [u8; 753],
-    consumed: &mut usize,
-) -> u8
+pub fn give_entry(answer: Decoded, entry: Entry, flat: &mut [u8; 753], consumed: &mut usize) -> u8
     ensures { λ r. ⌜ Stores entryFlat (answerOf answer entry) (now (flat .entry)) (now (flat .exit)) r (now (consumed .exit)) ⌝ }
 {
     let Decoded::Consumed(n) = answer else {

@@ -5,15 +5,22 @@ use Rattle.codec.proofs.Readers.{bytes-short, bytes-there}
 use Rattle.codec.proofs.decode_id.Statement.{statement}
 use Rattle.codec.proofs.decode_id.Tie as tie
 
-enough : (c : tie.Else1) → 32 ≤ length (drop (c .before .before .before .args .start) (now (c .before .before .before .args .message)))
+-- earlier places
+abbrev else1-start : tie.Else1 → tie.Start
+else1-start c = c .before .before .before
+
+abbrev put-bytes-start : tie.After-put-bytes → tie.Start
+put-bytes-start c = else1-start (c .before .before .before)
+
+enough : (c : tie.Else1) → 32 ≤ length (drop (else1-start c .args .start) (now (else1-start c .args .message)))
 enough c = omega (arith, c .if1 .left, c .before .bytes-from .ensures)
 
-inside : (c : tie.Else1) → c .before .before .before .args .start + 32 ≤ length (now (c .before .before .before .args .message))
+inside : (c : tie.Else1) → else1-start c .args .start + 32 ≤ length (now (else1-start c .args .message))
 inside c =
     let start : tie.Start = search in
     omega (arith, enough c, length-drop (start .args .start) (now (start .args .message)))
 
-id-is : (c : tie.After-put-bytes) → c .put-bytes .last .0 ≡ take 32 (drop (c .before .before .before .before .before .before .args .start) (now (c .before .before .before .before .before .before .args .message)))
+id-is : (c : tie.After-put-bytes) → c .put-bytes .last .0 ≡ take 32 (drop (put-bytes-start c .args .start) (now (put-bytes-start c .args .message)))
 id-is c =
     let else1 : tie.Else1 = search in
     let start : tie.Start = search in

@@ -24,12 +24,22 @@ size-is c =
     let after-relative-decode : tie.After-relative-decode = search in
     sym (after-relative-decode .relative-decode .ensures) ∙ ap numberAnswer (c .before .second .given .1)
 
-digest-is : (c : tie.After-known-told3) → someBytes 32 (drop (c .before .before .before .before .before .before .before .before .before .first .given .0 .1 .0 + c .before .before .before .before .before .second .given .0 .1 .0) (now (c .before .before .before .before .before .before .before .before .before .before .before .before .before .args .message))) ≡ accepted (c .before .before .before .decode-id .result .id) (c .before .answer .given .0 .0)
+-- earlier places
+abbrev known-told3-second : tie.After-known-told3 → tie.After-second
+known-told3-second c = c .before .before .before .before .before
+
+abbrev known-told3-first : tie.After-known-told3 → tie.After-first
+known-told3-first c = c .before .before .before .before .before .before .before .before .before
+
+abbrev known-told3-start : tie.After-known-told3 → tie.Start
+known-told3-start c = c .before .before .before .before .before .before .before .before .before .before .before .before .before
+
+digest-is : (c : tie.After-known-told3) → someBytes 32 (drop (known-told3-first c .first .given .0 .1 .0 + known-told3-second c .second .given .0 .1 .0) (now (known-told3-start c .args .message))) ≡ accepted (c .before .before .before .decode-id .result .id) (c .before .answer .given .0 .0)
 digest-is c =
     let after-decode-id : tie.After-decode-id = search in
     sym (after-decode-id .decode-id .ensures .answer) ∙ ap (λ (d : Decoded). answerOf d (after-decode-id .decode-id .result .id)) (c .before .answer .given .1)
 
-inside : (c : tie.After-known-told3) → c .before .before .before .before .before .before .before .before .before .first .given .0 .1 .0 + (c .before .before .before .before .before .second .given .0 .1 .0 + c .before .answer .given .0 .0) ≤ length (now (c .before .before .before .before .before .before .before .before .before .before .before .before .before .args .message))
+inside : (c : tie.After-known-told3) → known-told3-first c .first .given .0 .1 .0 + (known-told3-second c .second .given .0 .1 .0 + c .before .answer .given .0 .0) ≤ length (now (known-told3-start c .args .message))
 inside c =
     let after-known-told2 : tie.After-known-told2 = search in
     let after-known-told : tie.After-known-told = search in

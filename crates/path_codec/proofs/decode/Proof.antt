@@ -11,14 +11,18 @@ use Rattle.path_codec.proofs.Exits.{no-sizes, sizes-inside, path-refuse
 use Rattle.path_codec.proofs.decode.Statement.{statement}
 use Rattle.path_codec.proofs.decode.Tie as tie
 
+-- earlier places
+abbrev known-told-start : tie.After-known-told → tie.Start
+known-told-start c = c .before .before .before .before .before
+
 -- the sizes, and where the components begin
-sizes-are : (c : tie.After-known-told) → let a = c .before .before .before .before .before .args in let h = c .before .sizes .given .0 in
+sizes-are : (c : tie.After-known-told) → let a = known-told-start c .args in let h = c .before .sizes .given .0 in
     readSizes (a .canonic) (drop (a .start) (now (a .message))) ≡ accepted (sizesFrom (h .0) (h .1 .0)) (h .1 .1 .0)
 sizes-are c =
     let after-decode-sizes : tie.After-decode-sizes = search in
     sym (after-decode-sizes .decode-sizes .ensures) ∙ ap sizesAnswer (c .before .sizes .given .1)
 
-begins : (c : tie.After-known-told) → c .before .before .before .before .before .args .start + c .before .sizes .given .0 .1 .1 .0 ≤ length (now (c .before .before .before .before .before .args .message))
+begins : (c : tie.After-known-told) → known-told-start c .args .start + c .before .sizes .given .0 .1 .1 .0 ≤ length (now (known-told-start c .args .message))
 begins c =
     let start : tie.Start = search in
     let a = start .args in

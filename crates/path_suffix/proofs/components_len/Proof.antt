@@ -21,7 +21,11 @@ turn c =
     let start : tie.Start Inv-loop μ-loop = search in
     length-turn (now (start .args .lengths)) (c .before .loop .i) (omega arith) (c .loop-test .taken)
 
-last : (c : tie.After-loop Inv-loop μ-loop) → componentsLength (drop (c .before .loop .i) (now (c .before .before .before .before .args .lengths))) ≡ getD (now (c .before .before .before .before .args .lengths)) (c .before .loop .i) 0
+-- earlier places
+abbrev loop-start : tie.After-loop Inv-loop μ-loop → tie.Start Inv-loop μ-loop
+loop-start c = c .before .before .before .before
+
+last : (c : tie.After-loop Inv-loop μ-loop) → componentsLength (drop (c .before .loop .i) (now (loop-start c .args .lengths))) ≡ getD (now (loop-start c .args .lengths)) (c .before .loop .i) 0
 last c =
     let start : tie.Start Inv-loop μ-loop = search in
     length-last (now (start .args .lengths)) (c .before .loop .i) (omega arith) (c .loop-test .left)

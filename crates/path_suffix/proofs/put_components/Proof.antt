@@ -19,28 +19,38 @@ Inv-loop buffer₀ bytes lengths n from₀ at₀ i₀ buffer from at i =
 abbrev μ-loop : tie.MeasureT-loop
 μ-loop buffer₀ bytes lengths n from₀ at₀ i₀ buffer from at i = n - i
 
+-- earlier places
+abbrev at-loop-start : tie.At-loop Inv-loop μ-loop → tie.Start Inv-loop μ-loop
+at-loop-start c = c .before .before .before .before .before
+
+abbrev in-loop-start : tie.In-loop Inv-loop μ-loop → tie.Start Inv-loop μ-loop
+in-loop-start c = at-loop-start (c .before)
+
+abbrev loop-start : tie.After-loop Inv-loop μ-loop → tie.Start Inv-loop μ-loop
+loop-start c = at-loop-start (c .before)
+
 -- what is left fits, and the next component stands in the bytes
-fits : (c : tie.At-loop Inv-loop μ-loop) → c .loop .at + length (bytesFrom (now (c .before .before .before .before .before .args .lengths)) (now (c .before .before .before .before .before .args .bytes)) (c .loop .i) (c .loop .from)) ≤ length (c .loop .buffer)
+fits : (c : tie.At-loop Inv-loop μ-loop) → c .loop .at + length (bytesFrom (now (at-loop-start c .args .lengths)) (now (at-loop-start c .args .bytes)) (c .loop .i) (c .loop .from)) ≤ length (c .loop .buffer)
 fits c =
     let start : tie.Start Inv-loop μ-loop = search in
     omega (arith, c .loop .inv .2, c .loop .inv .3, start .pre .1)
 
-ends : (c : tie.At-loop Inv-loop μ-loop) → c .loop .from + getD (now (c .before .before .before .before .before .args .lengths)) (c .loop .i) 0 ≤ length (now (c .before .before .before .before .before .args .bytes))
+ends : (c : tie.At-loop Inv-loop μ-loop) → c .loop .from + getD (now (at-loop-start c .args .lengths)) (c .loop .i) 0 ≤ length (now (at-loop-start c .args .bytes))
 ends c =
     let start : tie.Start Inv-loop μ-loop = search in
     omega (arith, sum-next (now (start .args .lengths)) (c .loop .i) (omega arith), c .loop .inv .1, start .pre .0 .there)
 
-part : (c : tie.At-loop Inv-loop μ-loop) → let n = getD (now (c .before .before .before .before .before .args .lengths)) (c .loop .i) 0 in c .loop .from + n - c .loop .from ≡ n
+part : (c : tie.At-loop Inv-loop μ-loop) → let n = getD (now (at-loop-start c .args .lengths)) (c .loop .i) 0 in c .loop .from + n - c .loop .from ≡ n
 part c = omega arith
 
 -- one component of more, and the last
-room : (c : tie.In-loop Inv-loop μ-loop) → let ls = now (c .before .before .before .before .before .before .args .lengths) in let bs = now (c .before .before .before .before .before .before .args .bytes) in let l = c .before .loop in
+room : (c : tie.In-loop Inv-loop μ-loop) → let ls = now (in-loop-start c .args .lengths) in let bs = now (in-loop-start c .args .bytes) in let l = c .before .loop in
     length (bytesFrom ls bs (l .i) (l .from)) ≡ length (sizedBytes (take (getD ls (l .i) 0) (drop (l .from) bs))) + length (bytesFrom ls bs (l .i + 1) (l .from + getD ls (l .i) 0))
 room c =
     let start : tie.Start Inv-loop μ-loop = search in
     room-turn (now (start .args .lengths)) (now (start .args .bytes)) (c .before .loop .i) (c .before .loop .from) (omega arith) (c .loop-test .taken)
 
-last : (c : tie.After-loop Inv-loop μ-loop) → let ls = now (c .before .before .before .before .before .before .args .lengths) in let bs = now (c .before .before .before .before .before .before .args .bytes) in let l = c .before .loop in
+last : (c : tie.After-loop Inv-loop μ-loop) → let ls = now (loop-start c .args .lengths) in let bs = now (loop-start c .args .bytes) in let l = c .before .loop in
     bytesFrom ls bs (l .i) (l .from) ≡ take (getD ls (l .i) 0) (drop (l .from) bs)
 last c =
     let start : tie.Start Inv-loop μ-loop = search in

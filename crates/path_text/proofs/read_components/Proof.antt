@@ -37,13 +37,17 @@ loop-holds c =
 slice-aggregate-push-text : tie.Need-slice-aggregate-push-text Inv-loop μ-loop
 slice-aggregate-push-text c = sym (length-take-le (c .before .find .result) _ (c .before .find .ensures .1))
 
+-- earlier places
+abbrev refuse-find : tie.After-refuse Inv-loop μ-loop → tie.After-find Inv-loop μ-loop
+refuse-find c = c .before .before .before .before
+
 returns : tie.Need-returns Inv-loop μ-loop
 returns c =
     let s = now (c .before .before .before .before .before .before .before .before .before .args .s) in
     let l = c .before .before .before .before .before .before .loop in
     let r = drop (l .at) s in
-    let k = rw (to-end (l .at) s) at (c .before .before .before .before .find .ensures .0) in
-    let t = take (c .before .before .before .before .find .result) r in
+    let k = rw (to-end (l .at) s) at (refuse-find c .find .ensures .0) in
+    let t = take (refuse-find c .find .result) r in
     let g : c .before .before .push-text .result ≡ pushText (l .builder) t = rw (to-end (l .at) s) at (c .before .before .push-text .ensures) in
     let no = not-took (l .builder) (componentsOf (l .builder .path)) (l .inv .1) t (c .before .before .push-text .result) g (c .before .match .keys2) in
     c .refuse .ensures ∙ sym (l .inv .3 ∙ texts-stop-at (componentsOf (l .builder .path)) t no r (rw k refl))

@@ -22,13 +22,35 @@ use Rattle.area_area.proofs.area_decode.decode_parts.Tie as tie
 abbrev reference : tie.Start → Area
 reference s = areaWith (s .args .of-subspace) (pathOf (now (s .args .of-bytes)) (now (s .args .of-lengths)) (s .args .of-count)) (s .args .of-times)
 
-subspace-is : (c : tie.After-known-told) → let a = c .before .before .before .before .before .before .before .args in
+-- earlier places
+abbrev times-third-answer : tie.After-times → tie.After-third-answer
+times-third-answer c = c .before .before .before .before
+
+abbrev known-told2-first-answer : tie.After-known-told2 → tie.After-first-answer
+known-told2-first-answer c = c .before .before .before .before .before .before
+
+abbrev known-told-start : tie.After-known-told → tie.Start
+known-told-start c = c .before .before .before .before .before .before .before
+
+abbrev times-second-answer : tie.After-times → tie.After-second-answer
+times-second-answer c = c .before .before .before .before .before .before .before .before .before
+
+abbrev known-told2-start : tie.After-known-told2 → tie.Start
+known-told2-start c = known-told-start (c .before .before .before .before .before)
+
+abbrev times-first-answer : tie.After-times → tie.After-first-answer
+times-first-answer c = known-told2-first-answer (c .before .before .before .before .before .before .before .before)
+
+abbrev times-start : tie.After-times → tie.Start
+times-start c = known-told2-start (c .before .before .before .before .before .before .before .before)
+
+subspace-is : (c : tie.After-known-told) → let a = known-told-start c .args in
     mapped subspaceFrom (readSubspace (a .canonic) (subspaceOf (a .of-subspace)) (a .header .«id_written»)) (now (a .message)) ≡ accepted (c .before .before .before .decode-subspace .result .subspace) (c .before .first-answer .given .0 .0)
 subspace-is c =
     let after-decode-subspace : tie.After-decode-subspace = search in
     sym (after-decode-subspace .decode-subspace .ensures) ∙ ap (λ (d : Decoded). answerOf d (after-decode-subspace .decode-subspace .result .subspace)) (c .before .first-answer .given .1)
 
-subspace-inside : (c : tie.After-known-told) → c .before .first-answer .given .0 .0 ≤ length (now (c .before .before .before .before .before .before .before .args .message))
+subspace-inside : (c : tie.After-known-told) → c .before .first-answer .given .0 .0 ≤ length (now (known-told-start c .args .message))
 subspace-inside c =
     let start : tie.Start = search in
     let a = start .args in
@@ -41,13 +63,13 @@ times-told c =
     let start : tie.Start = search in
     rw (to-end (after-first-answer .first-answer .given .0 .0) (now (start .args .message))) at (c .relative-decode .ensures .answer)
 
-times-are : (c : tie.After-known-told2) → let a = c .before .before .before .before .before .before .before .before .before .before .before .before .args in
-    readTimes (a .canonic) (a .of-times) (a .header) (drop (c .before .before .before .before .before .before .first-answer .given .0 .0) (now (a .message))) ≡ accepted (c .before .before .before .relative-decode .result .times) (c .before .second-answer .given .0 .0)
+times-are : (c : tie.After-known-told2) → let a = known-told2-start c .args in
+    readTimes (a .canonic) (a .of-times) (a .header) (drop (known-told2-first-answer c .first-answer .given .0 .0) (now (a .message))) ≡ accepted (c .before .before .before .relative-decode .result .times) (c .before .second-answer .given .0 .0)
 times-are c =
     let after-relative-decode : tie.After-relative-decode = search in
     sym (times-told after-relative-decode) ∙ ap (λ (d : Decoded). answerOf d (after-relative-decode .relative-decode .result .times)) (c .before .second-answer .given .1)
 
-times-inside : (c : tie.After-known-told2) → c .before .before .before .before .before .before .first-answer .given .0 .0 + c .before .second-answer .given .0 .0 ≤ length (now (c .before .before .before .before .before .before .before .before .before .before .before .before .args .message))
+times-inside : (c : tie.After-known-told2) → known-told2-first-answer c .first-answer .given .0 .0 + c .before .second-answer .given .0 .0 ≤ length (now (known-told2-start c .args .message))
 times-inside c =
     let after-known-told : tie.After-known-told = search in
     let after-first-answer : tie.After-first-answer = search in
@@ -67,9 +89,9 @@ path-told c =
 abbrev read-area : tie.After-times → Area
 read-area c = areaWith (c .before .before .before .before .before .before .before .before .before .before .before .before .before .before .before .before .decode-subspace .result .subspace) (c .before .before .before .before .before .before .decode-path-extends-path .result .path) (c .before .before .before .before .before .before .before .before .before .before .before .relative-decode .result .times)
 
-area-is : (c : tie.After-times) → let s = c .before .before .before .before .before .before .before .before .before .before .before .before .before .before .before .before .before .before .before .before in
+area-is : (c : tie.After-times) → let s = times-start c in
     readPartsOf (s .args .canonic) (reference s) (s .args .header) (now (s .args .message))
-    ≡ accepted (read-area c) (c .before .before .before .before .before .before .before .before .before .before .before .before .before .before .first-answer .given .0 .0 + (c .before .before .before .before .before .before .before .before .before .second-answer .given .0 .0 + c .before .before .before .before .third-answer .given .0 .0))
+    ≡ accepted (read-area c) (times-first-answer c .first-answer .given .0 .0 + (times-second-answer c .second-answer .given .0 .0 + times-third-answer c .third-answer .given .0 .0))
 area-is c =
     let after-third-answer : tie.After-third-answer = search in
     let after-decode-path-extends-path : tie.After-decode-path-extends-path = search in
@@ -78,7 +100,7 @@ area-is c =
     let s : tie.Start = search in
     parts-read (s .args .canonic) (reference s) (s .args .header) (now (s .args .message)) _ _ (subspace-is after-known-told) _ _ (times-are after-known-told2) _ _ (sym (path-told after-decode-path-extends-path) ∙ ap (λ (d : Decoded). answerOf d (after-decode-path-extends-path .decode-path-extends-path .result .path)) (after-third-answer .third-answer .given .1))
 
-inside : (c : tie.After-times) → c .before .before .before .before .before .before .before .before .before .before .before .before .before .before .first-answer .given .0 .0 + (c .before .before .before .before .before .before .before .before .before .second-answer .given .0 .0 + c .before .before .before .before .third-answer .given .0 .0) ≤ length (now (c .before .before .before .before .before .before .before .before .before .before .before .before .before .before .before .before .before .before .before .before .args .message))
+inside : (c : tie.After-times) → times-first-answer c .first-answer .given .0 .0 + (times-second-answer c .second-answer .given .0 .0 + times-third-answer c .third-answer .given .0 .0) ≤ length (now (times-start c .args .message))
 inside c =
     let s : tie.Start = search in
     parts-inside (s .args .canonic) (reference s) (s .args .header) (now (s .args .message)) _ _ (area-is c)

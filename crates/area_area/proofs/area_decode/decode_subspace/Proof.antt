@@ -7,12 +7,16 @@ use Rattle.area_area.proofs.DecodeExits.{subspace-kept, subspace-refuse
 use Rattle.area_area.proofs.area_decode.decode_subspace.Statement.{statement}
 use Rattle.area_area.proofs.area_decode.decode_subspace.Tie as tie
 
-written : (c : tie.After-enum-told) → c .before .before .before .before .before .args .written ≡ true
+-- earlier places
+abbrev enum-told-start : tie.After-enum-told → tie.Start
+enum-told-start c = c .before .before .before .before .before
+
+written : (c : tie.After-enum-told) → enum-told-start c .args .written ≡ true
 written c =
     let else1 : tie.Else1 = search in
     not-false _ (else1 .if1 .left)
 
-id-is : (c : tie.After-enum-told) → someBytes 32 (now (c .before .before .before .before .before .args .message)) ≡ accepted (c .before .before .decode-id .result .id) (c .enum-told .given .0 .0)
+id-is : (c : tie.After-enum-told) → someBytes 32 (now (enum-told-start c .args .message)) ≡ accepted (c .before .before .decode-id .result .id) (c .enum-told .given .0 .0)
 id-is c = sym (c .before .before .decode-id .ensures .answer) ∙ ap (λ (d : Decoded). answerOf d (c .before .before .decode-id .result .id)) (c .enum-told .given .1)
 
 returns : tie.Need-returns

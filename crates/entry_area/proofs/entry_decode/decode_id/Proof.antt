@@ -3,7 +3,11 @@ use Rattle.entry_area.proofs.DecodeExits.{id-fault, id-kept, id-there, 
 use Rattle.entry_area.proofs.entry_decode.decode_id.Statement.{statement}
 use Rattle.entry_area.proofs.entry_decode.decode_id.Tie as tie
 
-same : (c : tie.Else1) → c .before .before .before .before .args .subspace .any ≡ c .before .before .before .before .args .written
+-- earlier places
+abbrev else1-start : tie.Else1 → tie.Start
+else1-start c = c .before .before .before .before
+
+same : (c : tie.Else1) → else1-start c .args .subspace .any ≡ else1-start c .args .written
 same c =
     let start : tie.Start = search in
     same-flags (start .args .subspace .any) (start .args .written) (not-false _ (c .if1 .left))

@@ -30,24 +30,43 @@ path-told c =
     let start : tie.Start = search in
     rw (to-end (start .args .start) (now (start .args .message))) at (c .relative-decode .ensures .answer)
 
+-- earlier places
+abbrev known-told-relative-decode : tie.After-known-told → tie.After-relative-decode
+known-told-relative-decode c = c .before .before .before
+
+abbrev digest-known-told2 : tie.After-digest → tie.After-known-told2
+digest-known-told2 c = c .before .before .before
+
+abbrev known-told-start : tie.After-known-told → tie.Start
+known-told-start c = c .before .before .before .before .before .before .before .before
+
+abbrev known-told2-answer : tie.After-known-told2 → tie.After-answer
+known-told2-answer c = c .before .before .before .before .before .before .before .before .before .before .before .before .before .before
+
+abbrev known-told2-start : tie.After-known-told2 → tie.Start
+known-told2-start c = known-told-start (c .before .before .before .before .before .before .before .before .before .before .before .before .before)
+
+abbrev digest-start : tie.After-digest → tie.Start
+digest-start c = known-told2-start (digest-known-told2 c)
+
 -- a path was read, and it is well formed
-path-is : (c : tie.After-known-told) → let a = c .before .before .before .before .before .before .before .before .args in
-    readAgainstPath (a .canonic) (reference (c .before .before .before .before .before .before .before .before)) (drop (a .start) (now (a .message))) ≡ accepted (c .before .before .before .relative-decode .result .path) (c .before .answer .given .0 .0)
+path-is : (c : tie.After-known-told) → let a = known-told-start c .args in
+    readAgainstPath (a .canonic) (reference (known-told-start c)) (drop (a .start) (now (a .message))) ≡ accepted (known-told-relative-decode c .relative-decode .result .path) (c .before .answer .given .0 .0)
 path-is c =
     let after-relative-decode : tie.After-relative-decode = search in
     sym (path-told after-relative-decode) ∙ ap (λ (d : Decoded). answerOf d (after-relative-decode .relative-decode .result .path)) (c .before .answer .given .1)
 
-path-in : (c : tie.After-known-told) → c .before .before .before .before .before .before .before .before .args .start + c .before .answer .given .0 .0 ≤ length (now (c .before .before .before .before .before .before .before .before .args .message))
+path-in : (c : tie.After-known-told) → known-told-start c .args .start + c .before .answer .given .0 .0 ≤ length (now (known-told-start c .args .message))
 path-in c =
     let s : tie.Start = search in
     omega (arith, path-inside (s .args .canonic) (s .args .namespace) (s .args .id) (reference s) (s .args .times) (s .args .header) (drop (s .args .start) (now (s .args .message))) _ _ (path-is c), length-drop (s .args .start) (now (s .args .message)), s .pre .0)
 
-reference-well : (c : tie.After-known-told) → wellFormed (reference (c .before .before .before .before .before .before .before .before)) ≡ true
+reference-well : (c : tie.After-known-told) → wellFormed (reference (known-told-start c)) ≡ true
 reference-well c =
     let s : tie.Start = search in
     formed (s .args .canonic) (s .args .namespace) (s .args .id) (reference s) (s .args .times) (s .args .header) (drop (s .args .start) (now (s .args .message))) _ _ (path-is c) .0
 
-path-well : (c : tie.After-known-told) → wellFormed (c .before .before .before .relative-decode .result .path) ≡ true
+path-well : (c : tie.After-known-told) → wellFormed (known-told-relative-decode c .relative-decode .result .path) ≡ true
 path-well c =
     let after-shared-slice-known2 : tie.After-shared-slice-known2 = search in
     let after-shared-slice-known : tie.After-shared-slice-known = search in
@@ -65,7 +84,7 @@ prefixed : (c : tie.After-is-prefix) → c .is-prefix .result ≡ verdict (isPre
 unfolding prefixOf
 prefixed c =
     let k : tie.After-known-told = search in
-    let s = k .before .before .before .before .before .before .before .before in
+    let s = known-told-start k in
     told _ _ _ (shared-prefix (s .args .canonic) (s .args .namespace) (s .args .id) (reference s) (s .args .times) (s .args .header) (drop (s .args .start) (now (s .args .message))) _ _ (path-is k)) (rw (reference-well k, path-well k) at (c .is-prefix .ensures))
 
 yes : (b : Bool) → compared.Yes ≡ verdict b → b ≡ true
@@ -90,13 +109,13 @@ end-told c =
     let a = start .args in
     rw (drop-drop) (rw (to-end (a .start + after-answer .answer .given .0 .0) (now (a .message))) at (c .relative-decode2 .ensures .answer))
 
-end-is : (c : tie.After-known-told2) → let a = c .before .before .before .before .before .before .before .before .before .before .before .before .before .before .before .before .before .before .before .before .before .args in
-    readEnd (a .canonic) (a .times) (a .header) (drop (c .before .before .before .before .before .before .before .before .before .before .before .before .before .before .answer .given .0 .0) (drop (a .start) (now (a .message)))) ≡ accepted (c .before .before .before .relative-decode2 .result .end) (c .before .last-answer .given .0 .0)
+end-is : (c : tie.After-known-told2) → let a = known-told2-start c .args in
+    readEnd (a .canonic) (a .times) (a .header) (drop (known-told2-answer c .answer .given .0 .0) (drop (a .start) (now (a .message)))) ≡ accepted (c .before .before .before .relative-decode2 .result .end) (c .before .last-answer .given .0 .0)
 end-is c =
     let after-relative-decode2 : tie.After-relative-decode2 = search in
     sym (end-told after-relative-decode2) ∙ ap (λ (d : Decoded). answerOf d (after-relative-decode2 .relative-decode2 .result .end)) (c .before .last-answer .given .1)
 
-inside : (c : tie.After-known-told2) → c .before .before .before .before .before .before .before .before .before .before .before .before .before .before .before .before .before .before .before .before .before .args .start + (c .before .before .before .before .before .before .before .before .before .before .before .before .before .before .answer .given .0 .0 + c .before .last-answer .given .0 .0) ≤ length (now (c .before .before .before .before .before .before .before .before .before .before .before .before .before .before .before .before .before .before .before .before .before .args .message))
+inside : (c : tie.After-known-told2) → known-told2-start c .args .start + (known-told2-answer c .answer .given .0 .0 + c .before .last-answer .given .0 .0) ≤ length (now (known-told2-start c .args .message))
 inside c =
     let after-enum-told : tie.After-enum-told = search in
     let after-known-told : tie.After-known-told = search in
@@ -153,13 +172,13 @@ returns-3 c =
     rw (c .refuse3 .ensures) (gives-refused (x .why) (x .beside _) (rw (rest-end (s .args .canonic) (s .args .namespace) (s .args .id) (reference s) (s .args .times) (s .args .header) (drop (s .args .start) (now (s .args .message))) _ _ (path-is after-known-told) (is-prefix after-enum-told) (x .why) (sym (end-told (c .before .before)) ∙ x .beside _))))
 
 add-t24 : tie.Need-add-t24
-add-t24 c = omega (arith, inside (c .before .before .before), c .before .before .before .before .before .before .before .before .before .before .before .before .before .before .before .before .before .before .before .before .before .before .before .before .pre .1)
+add-t24 c = omega (arith, inside (digest-known-told2 c), digest-start c .pre .1)
 
 add-t35 : tie.Need-add-t35
-add-t35 c = omega (arith, inside (c .before .before .before), c .before .before .before .before .before .before .before .before .before .before .before .before .before .before .before .before .before .before .before .before .before .before .before .before .pre .1)
+add-t35 c = omega (arith, inside (digest-known-told2 c), digest-start c .pre .1)
 
 add-t36 : tie.Need-add-t36
-add-t36 c = omega (arith, inside (c .before .before .before), c .before .before .before .before .before .before .before .before .before .before .before .before .before .before .before .before .before .before .before .before .before .before .before .before .pre .1)
+add-t36 c = omega (arith, inside (digest-known-told2 c), digest-start c .pre .1)
 
 returns-4 : tie.Need-returns-4
 returns-4 c =

@@ -27,14 +27,21 @@ kept c =
     let start : tie.Start = search in
     let l = now (start .args .tail) in length-front l (c .encode-suffix .last .0) (length l - after-end-len .end-len .result) (c .encode-suffix .kept .0)
 
+-- earlier places
+abbrev known-told-end-len : tie.After-known-told → tie.After-end-len
+known-told-end-len c = c .before .before .before .before .before .before .before .before
+
+abbrev known-told-start : tie.After-known-told → tie.Start
+known-told-start c = c .before .before .before .before .before .before .before .before .before .before .before .before
+
 -- what the suffix was answered
-answered : (c : tie.After-known-told) → let l = now (c .before .before .before .before .before .before .before .before .before .before .before .before .args .tail) in putAnswer allowed (suffix (c .before .before .before .before .before .before .before .before .before .before .before .before)) (length (take (length l - c .before .before .before .before .before .before .before .before .end-len .result) l)) ≡ wrote (c .before .suffix .given .0 .0)
+answered : (c : tie.After-known-told) → let l = now (known-told-start c .args .tail) in putAnswer allowed (suffix (known-told-start c)) (length (take (length l - known-told-end-len c .end-len .result) l)) ≡ wrote (c .before .suffix .given .0 .0)
 answered c =
     let after-encode-suffix : tie.After-encode-suffix = search in
     let start : tie.Start = search in
     sym (rw (start .pre) at (after-encode-suffix .encode-suffix .ensures .0)) ∙ ap outcomeOf (c .before .suffix .given .1)
 
-fits : (c : tie.After-known-told) → let n = c .before .suffix .given .0 .0 in (n ≡ length (suffix (c .before .before .before .before .before .before .before .before .before .before .before .before))) × (n + c .before .before .before .before .before .before .before .before .end-len .result ≤ length (now (c .before .before .before .before .before .before .before .before .before .before .before .before .args .tail)))
+fits : (c : tie.After-known-told) → let n = c .before .suffix .given .0 .0 in (n ≡ length (suffix (known-told-start c))) × (n + known-told-end-len c .end-len .result ≤ length (now (known-told-start c .args .tail)))
 fits c =
     let after-encode-suffix : tie.After-encode-suffix = search in
     let else1 : tie.Else1 = search in

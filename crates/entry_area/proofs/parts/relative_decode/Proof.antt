@@ -16,7 +16,11 @@ area s = areaWith (s .args .of-subspace) (pathOf (now (s .args .of-bytes)) (now 
 well : (c : tie.Else1) → wellFormedSubspace (c .before .before .before .before .before .args .of-subspace) ≡ true
 well c = sym (c .before .well-formed .ensures) ∙ not-false _ (c .if1 .left)
 
-unspared : (c : tie.Else3) → unpackHeader (getD (now (c .before .before .before .before .before .before .before .before .before .before .args .message)) (c .before .before .before .before .before .before .before .before .before .before .args .start) 0) .spare ≡ 0
+-- earlier places
+abbrev else3-start : tie.Else3 → tie.Start
+else3-start c = c .before .before .before .before .before .before .before .before .before .before
+
+unspared : (c : tie.Else3) → unpackHeader (getD (now (else3-start c .args .message)) (else3-start c .args .start) 0) .spare ≡ 0
 unspared c = rw (c .before .before .unpack .ensures) at (c .if3 .left)
 
 returns : tie.Need-returns

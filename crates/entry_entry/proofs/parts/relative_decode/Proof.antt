@@ -17,13 +17,32 @@ use Rattle.entry_entry.proofs.parts.relative_decode.Tie as tie
 abbrev reference : tie.Start → Entry
 reference c = entryWith (c .args .of) (pathOf (now (c .args .of-bytes)) (now (c .args .of-lengths)) (c .args .of-count))
 
-head-is : (c : tie.After-known-told) → let a = c .before .before .before .before .before .before .before .args in
+-- earlier places
+abbrev known-told3-second-answer : tie.After-known-told3 → tie.After-second-answer
+known-told3-second-answer c = c .before .before .before .before .before
+
+abbrev known-told2-first-answer : tie.After-known-told2 → tie.After-first-answer
+known-told2-first-answer c = c .before .before .before .before .before .before
+
+abbrev known-told-start : tie.After-known-told → tie.Start
+known-told-start c = c .before .before .before .before .before .before .before
+
+abbrev known-told3-first-answer : tie.After-known-told3 → tie.After-first-answer
+known-told3-first-answer c = known-told2-first-answer (c .before .before .before .before)
+
+abbrev known-told2-start : tie.After-known-told2 → tie.Start
+known-told2-start c = known-told-start (c .before .before .before .before .before)
+
+abbrev known-told3-start : tie.After-known-told3 → tie.Start
+known-told3-start c = known-told2-start (c .before .before .before .before)
+
+head-is : (c : tie.After-known-told) → let a = known-told-start c .args in
     readHead (a .of .«namespace_id») (a .of .«subspace_id») (a .of .timestamp) (drop (a .start) (now (a .message))) ≡ accepted (c .before .before .before .decode-head .result .head) (c .before .first-answer .given .0 .0)
 head-is c =
     let after-decode-head : tie.After-decode-head = search in
     sym (after-decode-head .decode-head .ensures) ∙ ap (λ (d : Decoded). answerOf d (after-decode-head .decode-head .result .head)) (c .before .first-answer .given .1)
 
-head-in : (c : tie.After-known-told) → c .before .before .before .before .before .before .before .args .start + c .before .first-answer .given .0 .0 ≤ length (now (c .before .before .before .before .before .before .before .args .message))
+head-in : (c : tie.After-known-told) → known-told-start c .args .start + c .before .first-answer .given .0 .0 ≤ length (now (known-told-start c .args .message))
 head-in c =
     let start : tie.Start = search in
     let a = start .args in head-inside (a .of .«namespace_id») (a .of .«subspace_id») (a .of .timestamp) (now (a .message)) (a .start) _ _ (head-is c)
@@ -35,25 +54,25 @@ path-told c =
     let start : tie.Start = search in
     rw (to-end (start .args .start + after-first-answer .first-answer .given .0 .0) (now (start .args .message))) at (c .relative-decode .ensures .answer)
 
-path-is : (c : tie.After-known-told2) → let s = c .before .before .before .before .before .before .before .before .before .before .before .before in
-    readAgainstPath false (reference s .path) (drop (s .args .start + c .before .before .before .before .before .before .first-answer .given .0 .0) (now (s .args .message))) ≡ accepted (c .before .before .before .relative-decode .result .path) (c .before .second-answer .given .0 .0)
+path-is : (c : tie.After-known-told2) → let s = known-told2-start c in
+    readAgainstPath false (reference s .path) (drop (s .args .start + known-told2-first-answer c .first-answer .given .0 .0) (now (s .args .message))) ≡ accepted (c .before .before .before .relative-decode .result .path) (c .before .second-answer .given .0 .0)
 path-is c =
     let after-relative-decode : tie.After-relative-decode = search in
     sym (path-told after-relative-decode) ∙ ap (λ (d : Decoded). answerOf d (after-relative-decode .relative-decode .result .path)) (c .before .second-answer .given .1)
 
-path-in : (c : tie.After-known-told2) → c .before .before .before .before .before .before .before .before .before .before .before .before .args .start + c .before .before .before .before .before .before .first-answer .given .0 .0 + c .before .second-answer .given .0 .0 ≤ length (now (c .before .before .before .before .before .before .before .before .before .before .before .before .args .message))
+path-in : (c : tie.After-known-told2) → known-told2-start c .args .start + known-told2-first-answer c .first-answer .given .0 .0 + c .before .second-answer .given .0 .0 ≤ length (now (known-told2-start c .args .message))
 path-in c =
     let after-known-told : tie.After-known-told = search in
     let s : tie.Start = search in
     path-inside (reference s) (now (s .args .message)) (s .args .start) _ _ (head-is after-known-told) _ _ (path-is c)
 
-digest-is : (c : tie.After-known-told3) → let s = c .before .before .before .before .before .before .before .before .before .before .before .before .before .before .before .before in
-    someBytes 32 (drop (s .args .start + c .before .before .before .before .before .before .before .before .before .before .first-answer .given .0 .0 + c .before .before .before .before .before .second-answer .given .0 .0) (now (s .args .message))) ≡ accepted (c .before .before .before .decode-id .result .id) (c .before .third-answer .given .0 .0)
+digest-is : (c : tie.After-known-told3) → let s = known-told3-start c in
+    someBytes 32 (drop (s .args .start + known-told3-first-answer c .first-answer .given .0 .0 + known-told3-second-answer c .second-answer .given .0 .0) (now (s .args .message))) ≡ accepted (c .before .before .before .decode-id .result .id) (c .before .third-answer .given .0 .0)
 digest-is c =
     let after-decode-id : tie.After-decode-id = search in
     sym (after-decode-id .decode-id .ensures .answer) ∙ ap (λ (d : Decoded). answerOf d (after-decode-id .decode-id .result .id)) (c .before .third-answer .given .1)
 
-digest-in : (c : tie.After-known-told3) → c .before .before .before .before .before .before .before .before .before .before .before .before .before .before .before .before .args .start + c .before .before .before .before .before .before .before .before .before .before .first-answer .given .0 .0 + c .before .before .before .before .before .second-answer .given .0 .0 + c .before .third-answer .given .0 .0 ≤ length (now (c .before .before .before .before .before .before .before .before .before .before .before .before .before .before .before .before .args .message))
+digest-in : (c : tie.After-known-told3) → known-told3-start c .args .start + known-told3-first-answer c .first-answer .given .0 .0 + known-told3-second-answer c .second-answer .given .0 .0 + c .before .third-answer .given .0 .0 ≤ length (now (known-told3-start c .args .message))
 digest-in c =
     let after-known-told2 : tie.After-known-told2 = search in
     let after-known-told : tie.After-known-told = search in
@@ -61,7 +80,7 @@ digest-in c =
     digest-inside (reference s) (now (s .args .message)) (s .args .start) _ _ (head-is after-known-told) _ _ (path-is after-known-told2) _ _ (digest-is c)
 
 -- the sums fit
-fit : (c : tie.After-known-told3) → Fits w64 (c .before .before .before .before .before .second-answer .given .0 .0 + c .before .third-answer .given .0 .0) × Fits w64 (c .before .before .before .before .before .before .before .before .before .before .first-answer .given .0 .0 + (c .before .before .before .before .before .second-answer .given .0 .0 + c .before .third-answer .given .0 .0))
+fit : (c : tie.After-known-told3) → Fits w64 (known-told3-second-answer c .second-answer .given .0 .0 + c .before .third-answer .given .0 .0) × Fits w64 (known-told3-first-answer c .first-answer .given .0 .0 + (known-told3-second-answer c .second-answer .given .0 .0 + c .before .third-answer .given .0 .0))
 fit c = (omega (arith, digest-in c), omega (arith, digest-in c))
 
 returns : tie.Need-returns

@@ -20,14 +20,18 @@ entry c = entryWith (c .args .fields) (pathOf (now (c .args .bytes)) (now (c .ar
 abbrev reference : tie.Start → Entry
 reference c = entryWith (c .args .of) (pathOf (now (c .args .of-bytes)) (now (c .args .of-lengths)) (c .args .of-count))
 
+-- earlier places
+abbrev known-told-start : tie.After-known-told → tie.Start
+known-told-start c = c .before .before .before .before .before .before .before .before .before
+
 -- how many components are shared; so writing is allowed
-shared-of : (c : tie.After-known-told) → let s = c .before .before .before .before .before .before .before .before .before in Common (reference s .path) (entry s .path) (c .before .common .given .0 .0)
+shared-of : (c : tie.After-known-told) → let s = known-told-start c in Common (reference s .path) (entry s .path) (c .before .common .given .0 .0)
 shared-of c =
     let after-longest-common-prefix : tie.After-longest-common-prefix = search in
     let s : tie.Start = search in
     common (reference s .path) (entry s .path) _ (sym (after-longest-common-prefix .longest-common-prefix .ensures) ∙ c .before .common .given .1)
 
-valid : (c : tie.After-known-told) → let s = c .before .before .before .before .before .before .before .before .before in againstEntry (reference s) .check (entry s) ≡ allowed
+valid : (c : tie.After-known-told) → let s = known-told-start c in againstEntry (reference s) .check (entry s) ≡ allowed
 valid c =
     let s : tie.Start = search in
     let k = shared-of c in

@@ -14,7 +14,11 @@ left c = areaWith (c .args .subspace) (pathOf (now (c .args .bytes)) (now (c .ar
 abbrev right : tie.Start → Area
 right c = areaWith (c .args .other-subspace) (pathOf (now (c .args .other-bytes)) (now (c .args .other-lengths)) (c .args .other-count)) (c .args .other-times)
 
-told : (c : tie.After-enum-told) → let l = left (c .before .before .before .before .before .before .before) in let r = right (c .before .before .before .before .before .before .before) in areaInside l r ≡ verdict (bounds (l .times) (r .times .start) && bounds (l .times) (endValue (r .times .end)))
+-- earlier places
+abbrev enum-told-start : tie.After-enum-told → tie.Start
+enum-told-start c = c .before .before .before .before .before .before .before
+
+told : (c : tie.After-enum-told) → let l = left (enum-told-start c) in let r = right (enum-told-start c) in areaInside l r ≡ verdict (bounds (l .times) (r .times .start) && bounds (l .times) (endValue (r .times .end)))
 told c =
     let start : tie.Start = search in
     included-told (left start) (right start) (sym (c .before .before .includes .ensures) ∙ c .enum-told .given .1)

@@ -21,7 +21,11 @@ left-well c = sym (c .before .well-formed .ensures) ∙ not-false _ (c .if1 .lef
 right-well : (c : tie.Else2) → wellFormedSubspace (c .before .before .before .before .before .before .before .before .args .other-subspace) ≡ true
 right-well c = sym (c .before .well-formed2 .ensures) ∙ not-false _ (c .if2 .left)
 
-told : (c : tie.After-enum-told) → let l = left (c .before .before .before .before .before .before .before .before .before .before .before) in let r = right (c .before .before .before .before .before .before .before .before .before .before .before) in areaIncludes l r ≡ verdict (includesSubspace (subspaceOf (l .subspace)) (subspaceOf (r .subspace)) && includesRange (l .times) (r .times))
+-- earlier places
+abbrev enum-told-start : tie.After-enum-told → tie.Start
+enum-told-start c = c .before .before .before .before .before .before .before .before .before .before .before
+
+told : (c : tie.After-enum-told) → let l = left (enum-told-start c) in let r = right (enum-told-start c) in areaIncludes l r ≡ verdict (includesSubspace (subspaceOf (l .subspace)) (subspaceOf (r .subspace)) && includesRange (l .times) (r .times))
 told c =
     let else2 : tie.Else2 = search in
     let else1 : tie.Else1 = search in

@@ -8,14 +8,30 @@ use Rattle.path.proofs.Builder.{built-components, built-total, extendab
 use Rattle.path.proofs.PathBuilder.new_from_joined.Statement.{statement}
 use Rattle.path.proofs.PathBuilder.new_from_joined.Tie as tie
 
+-- earlier places
+abbrev else1-start : tie.Else1 → tie.Start
+else1-start c = c .before .before .before
+
+abbrev else2-start : tie.Else2 → tie.Start
+else2-start c = else1-start (c .before .before)
+
+abbrev extended-start : tie.After-extended → tie.Start
+extended-start c = else2-start (c .before)
+
+abbrev else3-start : tie.Else3 → tie.Start
+else3-start c = extended-start (c .before .before .before .before .before)
+
+abbrev else4-start : tie.Else4 → tie.Start
+else4-start c = else3-start (c .before)
+
 -- the paths are well formed where the tests did not turn them away, and what owning them tells of their arrays
-prefix-well : (c : tie.Else1) → wellFormed (c .before .before .before .args .prefix) ≡ true
+prefix-well : (c : tie.Else1) → wellFormed (else1-start c .args .prefix) ≡ true
 prefix-well c = sym (c .before .well-formed .ensures) ∙ not-false (c .before .well-formed .result) (c .if1 .left)
 
-suffix-well : (c : tie.Else2) → wellFormed (c .before .before .before .before .before .args .suffix) ≡ true
+suffix-well : (c : tie.Else2) → wellFormed (else2-start c .args .suffix) ≡ true
 suffix-well c = sym (c .before .well-formed2 .ensures) ∙ not-false (c .before .well-formed2 .result) (c .if2 .left)
 
-prefix-formed : (c : tie.Else1) → Formed (c .before .before .before .args .prefix)
+prefix-formed : (c : tie.Else1) → Formed (else1-start c .args .prefix)
 prefix-formed c =
     let s : tie.Start = search in
     record {
@@ -24,7 +40,7 @@ prefix-formed c =
       well = well-formed _ (prefix-well c);
     }
 
-suffix-formed : (c : tie.Else2) → Formed (c .before .before .before .before .before .args .suffix)
+suffix-formed : (c : tie.Else2) → Formed (else2-start c .args .suffix)
 suffix-formed c =
     let s : tie.Start = search in
     record {
@@ -34,14 +50,14 @@ suffix-formed c =
     }
 
 -- the builder of the whole prefix, its total, and the suffix's
-first-is : (c : tie.After-extended) → c .extended .result ≡ builderFrom (componentsOf (c .before .before .before .before .before .before .args .prefix))
+first-is : (c : tie.After-extended) → c .extended .result ≡ builderFrom (componentsOf (extended-start c .args .prefix))
 first-is c =
     let else1 : tie.Else1 = search in
     let after-new : tie.After-new = search in
     let n = after-new .new in
     rw (built-components (n .result) [] (n .ensures), whole _ (prefix-formed else1)) at (c .extended .ensures)
 
-first-total : (c : tie.After-extended) → c .extended .result .total ≡ totalOf (componentsOf (c .before .before .before .before .before .before .args .prefix))
+first-total : (c : tie.After-extended) → c .extended .result .total ≡ totalOf (componentsOf (extended-start c .args .prefix))
 first-total c = built-total _ _ (first-is c)
 
 more-is : (c : tie.After-sum) → c .sum .result ≡ totalOf (componentsOf (c .before .before .before .before .before .before .before .before .before .args .suffix))
@@ -50,13 +66,13 @@ more-is c =
     c .sum .ensures ∙ sym (total-is _ (suffix-formed else2))
 
 -- the paths fit together where the tests did not turn them away
-fits : (c : tie.Else3) → totalOf (componentsOf (c .before .before .before .before .before .before .before .before .before .before .before .args .prefix)) + totalOf (componentsOf (c .before .before .before .before .before .before .before .before .before .before .before .args .suffix)) ≤ 600
+fits : (c : tie.Else3) → totalOf (componentsOf (else3-start c .args .prefix)) + totalOf (componentsOf (else3-start c .args .suffix)) ≤ 600
 fits c =
     let after-extended : tie.After-extended = search in
     let else1 : tie.Else1 = search in
     omega (arith, c .if3 .left, first-total after-extended, more-is (c .before .before), total-small _ (prefix-formed else1))
 
-few : (c : tie.Else4) → c .before .before .before .before .before .before .before .before .before .before .before .before .args .prefix .count + c .before .before .before .before .before .before .before .before .before .before .before .before .args .suffix .count ≤ 20
+few : (c : tie.Else4) → else4-start c .args .prefix .count + else4-start c .args .suffix .count ≤ 20
 few c =
     let else1 : tie.Else1 = search in
     omega (arith, prefix-formed else1 .well .count)

@@ -7,12 +7,16 @@ use Rattle.path.proofs.Builder.{built-components, extendable-empty}
 use Rattle.path.proofs.PathBuilder.new_from_prefix.Statement.{statement}
 use Rattle.path.proofs.PathBuilder.new_from_prefix.Tie as tie
 
+-- earlier places
+abbrev else1-start : tie.Else1 → tie.Start
+else1-start c = c .before .before .before
+
 -- the path is well formed where the test did not turn it away
-well : (c : tie.Else1) → wellFormed (c .before .before .before .args .path) ≡ true
+well : (c : tie.Else1) → wellFormed (else1-start c .args .path) ≡ true
 well c = sym (c .before .well-formed .ensures) ∙ not-false (c .before .well-formed .result) (c .if1 .left)
 
 -- and what owning it tells of its arrays
-formed : (c : tie.Else1) → Formed (c .before .before .before .args .path)
+formed : (c : tie.Else1) → Formed (else1-start c .args .path)
 formed c =
     let s : tie.Start = search in
     record {

@@ -15,8 +15,12 @@ abbrev μ-loop : tie.MeasureT-loop
 bytes-long : (c : tie.Start Inv-loop μ-loop) → length (c .args .self .path .bytes) ≡ 600
 bytes-long c = length-unmapped ℕ (c .args .self .path .bytes) 600 (c .good .0 .1 .1 .0 .1 .1 .0 .1 .0 .1)
 
+-- earlier places
+abbrev else1-start : tie.Else1 Inv-loop μ-loop → tie.Start Inv-loop μ-loop
+else1-start c = c .before .before .before .before
+
 -- the component fits where the test did not turn it away
-room : (c : tie.Else1 Inv-loop μ-loop) → Fitting (c .before .before .before .before .args .self .total) (c .before .before .before .before .args .self .path .count) (length (now (c .before .before .before .before .args .component)))
+room : (c : tie.Else1 Inv-loop μ-loop) → Fitting (else1-start c .args .self .total) (else1-start c .args .self .path .count) (length (now (else1-start c .args .component)))
 room c = fitting _ _ _ (sym (c .before .fits-after .ensures) ∙ not-false (c .before .fits-after .result) (c .if1 .left))
 
 returns : tie.Need-returns Inv-loop μ-loop

@@ -12,7 +12,11 @@ left c = pathOf (now (c .args .bytes)) (now (c .args .lengths)) (c .args .count)
 abbrev right : tie.Start → Path
 right c = pathOf (now (c .args .other-bytes)) (now (c .args .other-lengths)) (c .args .other-count)
 
-told : (c : tie.After-common) → prefixOf (left (c .before .before .before .before .before .before .before)) (right (c .before .before .before .before .before .before .before)) ≡ verdict (eqb (c .common .given .0 .0) (c .before .before .before .before .before .before .before .args .count))
+-- earlier places
+abbrev common-start : tie.After-common → tie.Start
+common-start c = c .before .before .before .before .before .before .before
+
+told : (c : tie.After-common) → prefixOf (left (common-start c)) (right (common-start c)) ≡ verdict (eqb (c .common .given .0 .0) (common-start c .args .count))
 told c =
     let start : tie.Start = search in
     prefix-verdict (left start) (right start) _ (sym (c .before .before .longest-common-prefix .ensures) ∙ c .common .given .1)

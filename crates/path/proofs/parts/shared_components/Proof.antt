@@ -17,9 +17,13 @@ Inv-components bytes lengths count other-bytes other-lengths other-count k₀ at
 abbrev μ-components : tie.MeasureT-components
 μ-components bytes lengths count other-bytes other-lengths other-count k₀ at₀ k at = count - k
 
+-- earlier places
+abbrev else1-start : tie.Else1 Inv-loop μ-loop Inv-components μ-components → tie.Start Inv-loop μ-loop Inv-components μ-components
+else1-start c = c .before .before .before
+
 -- the component that is compared lies within the bytes
 inside : (c : tie.Else1 Inv-loop μ-loop Inv-components μ-components)
-    → c .before .before .components .at + getD (now (c .before .before .before .args .lengths)) (c .before .before .components .k) 0 ≤ 600
+    → c .before .before .components .at + getD (now (else1-start c .args .lengths)) (c .before .before .components .k) 0 ≤ 600
 inside c = left-inside (c .before .before .components .inv) (c .before .components-test .taken) (c .if1 .left)
 
 components-holds : tie.Need-components-holds Inv-loop μ-loop Inv-components μ-components
@@ -63,7 +67,7 @@ loop-again c =
     let at-loop : tie.At-loop Inv-loop μ-loop Inv-components μ-components = search in
     let e : tie.Else1 Inv-loop μ-loop Inv-components μ-components = search in
     let l = at-loop .loop in
-    let a = e .before .before .before .args in
+    let a = else1-start e .args in
     let t = e .before .before .components .inv in
     (omega arith, agree-next (now (a .bytes)) (now (a .other-bytes)) (e .before .before .components .at) (l .i) (omega (arith, inside e, t .left .bytes)) (omega (arith, inside e, t .right .bytes)) (l .inv .1) (c .if3 .left))
 
@@ -76,7 +80,7 @@ components-again : tie.Need-components-again Inv-loop μ-loop Inv-components μ-
 components-again c =
     let e = c .before .before .before .before .before in
     let t = e .before .before .components .inv in
-    let len = getD (now (e .before .before .before .args .lengths)) (e .before .before .components .k) 0 in
+    let len = getD (now (else1-start e .args .lengths)) (e .before .before .components .k) 0 in
     let all : c .before .loop .i ≡ len = omega arith in
     together-next t (e .before .components-test .taken) (e .if1 .left) (c .before .before .if2 .left) (rw all at (c .before .loop .inv .1))
 

@@ -10,17 +10,27 @@ use Rattle.path_codec.proofs.After.{Parts, parts, after-malformed, afte
 use Rattle.path_codec.proofs.suffix_decode.decode_after.Statement.{statement}
 use Rattle.path_codec.proofs.suffix_decode.decode_after.Tie as tie
 
+-- earlier places
+abbrev else1-start : tie.Else1 → tie.Start
+else1-start c = c .before .before .before .before .before
+
+abbrev else2-start : tie.Else2 → tie.Start
+else2-start c = else1-start (c .before)
+
+abbrev else3-start : tie.Else3 → tie.Start
+else3-start c = else2-start (c .before)
+
 -- past each test: the parts are a path's, the total fits, the count fits
-formed : (c : tie.Else1) → partsOk (now (c .before .before .before .before .before .args .lengths)) (now (c .before .before .before .before .before .args .bytes)) ≡ true
+formed : (c : tie.Else1) → partsOk (now (else1-start c .args .lengths)) (now (else1-start c .args .bytes)) ≡ true
 formed c = sym (c .before .parts-ok .ensures) ∙ not-false _ (c .if1 .left)
 
-known : (c : tie.Else1) → Parts (now (c .before .before .before .before .before .args .lengths)) (now (c .before .before .before .before .before .args .bytes))
+known : (c : tie.Else1) → Parts (now (else1-start c .args .lengths)) (now (else1-start c .args .bytes))
 known c = parts _ _ (formed c)
 
-fits : (c : tie.Else2) → sumOf (now (c .before .before .before .before .before .before .args .lengths)) + c .before .before .before .before .before .before .args .total ≤ 600
+fits : (c : tie.Else2) → sumOf (now (else2-start c .args .lengths)) + else2-start c .args .total ≤ 600
 fits c = omega (arith, c .if2 .left, known (c .before) .total, known (c .before) .long)
 
-few : (c : tie.Else3) → length (now (c .before .before .before .before .before .before .before .args .lengths)) + c .before .before .before .before .before .before .before .args .count ≤ 20
+few : (c : tie.Else3) → length (now (else3-start c .args .lengths)) + else3-start c .args .count ≤ 20
 few c = omega (arith, c .if3 .left, known (c .before .before) .count)
 
 returns : tie.Need-returns

@@ -5,8 +5,12 @@ use Rattle.path_codec.proofs.Ahead.{put-placed, last-over, last-long, l
 use Rattle.path_codec.proofs.suffix_decode.decode_last.Statement.{statement}
 use Rattle.path_codec.proofs.suffix_decode.decode_last.Tie as tie
 
+-- earlier places
+abbrev else3-start : tie.Else3 → tie.Start
+else3-start c = c .before .before .before .before .before .before
+
 -- past each test there is room
-room : (c : tie.Else3) → Room (c .before .before .before .before .before .before .args .n + 1) (c .before .before .before .before .before .before .args .total) (now (c .before .before .before .before .before .before .args .bytes)) (now (c .before .before .before .before .before .before .args .lengths))
+room : (c : tie.Else3) → Room (else3-start c .args .n + 1) (else3-start c .args .total) (now (else3-start c .args .bytes)) (now (else3-start c .args .lengths))
 room c =
     let start : tie.Start = search in
     start .pre .1 (c .before .before .if1 .left)

@@ -6,13 +6,17 @@ use Rattle.path_codec.proofs.Exits.{sized-refused, sized-long, length-i
 use Rattle.path_codec.proofs.suffix_decode.decode_sized.Statement.{statement}
 use Rattle.path_codec.proofs.suffix_decode.decode_sized.Tie as tie
 
+-- earlier places
+abbrev known-told-start : tie.After-known-told → tie.Start
+known-told-start c = c .before .before .before .before .before
+
 -- the length that was read, and where its bytes begin
-length-is : (c : tie.After-known-told) → let a = c .before .before .before .before .before .args in readStandalone (a .canonic) (drop (a .at) (now (a .message))) ≡ accepted (c .before .number .given .0 .0) (c .before .number .given .0 .1 .0)
+length-is : (c : tie.After-known-told) → let a = known-told-start c .args in readStandalone (a .canonic) (drop (a .at) (now (a .message))) ≡ accepted (c .before .number .given .0 .0) (c .before .number .given .0 .1 .0)
 length-is c =
     let after-decode : tie.After-decode = search in
     sym (after-decode .decode .ensures) ∙ ap numberAnswer (c .before .number .given .1)
 
-begins : (c : tie.After-known-told) → c .before .before .before .before .before .args .at + c .before .number .given .0 .1 .0 ≤ length (now (c .before .before .before .before .before .args .message))
+begins : (c : tie.After-known-told) → known-told-start c .args .at + c .before .number .given .0 .1 .0 ≤ length (now (known-told-start c .args .message))
 begins c =
     let start : tie.Start = search in
     let a = start .args in

@@ -12,12 +12,22 @@ use Rattle.path_codec.proofs.suffix_decode.decode_sizes.Tie as tie
 first-is : (c : tie.After-relative-decode) → let a = c .before .before .before .before .before .args in readNumber (a .canonic) 4 (unpackTags (getD (now (a .message)) (a .start) 0) .total) (drop (a .start + 1) (now (a .message))) ≡ numberAnswer (c .relative-decode .result)
 first-is c = sym (rw (c .before .unpack-tags .ensures) at (c .relative-decode .ensures))
 
-first-value : (c : tie.After-known-told) → let a = c .before .before .before .before .before .before .before .before .args in readNumber (a .canonic) 4 (unpackTags (getD (now (a .message)) (a .start) 0) .total) (drop (a .start + 1) (now (a .message))) ≡ accepted (c .before .number .given .0 .0) (c .before .number .given .0 .1 .0)
+-- earlier places
+abbrev known-told2-number : tie.After-known-told2 → tie.After-number
+known-told2-number c = c .before .before .before .before .before
+
+abbrev known-told-start : tie.After-known-told → tie.Start
+known-told-start c = c .before .before .before .before .before .before .before .before
+
+abbrev known-told2-start : tie.After-known-told2 → tie.Start
+known-told2-start c = known-told-start (c .before .before .before .before)
+
+first-value : (c : tie.After-known-told) → let a = known-told-start c .args in readNumber (a .canonic) 4 (unpackTags (getD (now (a .message)) (a .start) 0) .total) (drop (a .start + 1) (now (a .message))) ≡ accepted (c .before .number .given .0 .0) (c .before .number .given .0 .1 .0)
 first-value c =
     let after-relative-decode : tie.After-relative-decode = search in
     first-is after-relative-decode ∙ ap numberAnswer (c .before .number .given .1)
 
-first-inside : (c : tie.After-known-told) → c .before .before .before .before .before .before .before .before .args .start + 1 + c .before .number .given .0 .1 .0 ≤ length (now (c .before .before .before .before .before .before .before .before .args .message))
+first-inside : (c : tie.After-known-told) → known-told-start c .args .start + 1 + c .before .number .given .0 .1 .0 ≤ length (now (known-told-start c .args .message))
 first-inside c =
     let else1 : tie.Else1 = search in
     let start : tie.Start = search in
@@ -30,12 +40,12 @@ second-is c =
     let after-unpack-tags : tie.After-unpack-tags = search in
     sym (rw (after-unpack-tags .unpack-tags .ensures) at (c .relative-decode2 .ensures))
 
-second-value : (c : tie.After-known-told2) → let a = c .before .before .before .before .before .before .before .before .before .before .before .before .args in readNumber (a .canonic) 4 (unpackTags (getD (now (a .message)) (a .start) 0) .count) (drop (a .start + 1 + c .before .before .before .before .before .number .given .0 .1 .0) (now (a .message))) ≡ accepted (c .before .number2 .given .0 .0) (c .before .number2 .given .0 .1 .0)
+second-value : (c : tie.After-known-told2) → let a = known-told2-start c .args in readNumber (a .canonic) 4 (unpackTags (getD (now (a .message)) (a .start) 0) .count) (drop (a .start + 1 + known-told2-number c .number .given .0 .1 .0) (now (a .message))) ≡ accepted (c .before .number2 .given .0 .0) (c .before .number2 .given .0 .1 .0)
 second-value c =
     let after-relative-decode2 : tie.After-relative-decode2 = search in
     second-is after-relative-decode2 ∙ ap numberAnswer (c .before .number2 .given .1)
 
-second-inside : (c : tie.After-known-told2) → c .before .before .before .before .before .before .before .before .before .before .before .before .args .start + 1 + c .before .before .before .before .before .number .given .0 .1 .0 + c .before .number2 .given .0 .1 .0 ≤ length (now (c .before .before .before .before .before .before .before .before .before .before .before .before .args .message))
+second-inside : (c : tie.After-known-told2) → known-told2-start c .args .start + 1 + known-told2-number c .number .given .0 .1 .0 + c .before .number2 .given .0 .1 .0 ≤ length (now (known-told2-start c .args .message))
 second-inside c =
     let after-known-told : tie.After-known-told = search in
     let after-number : tie.After-number = search in

@@ -11,13 +11,17 @@ Inv-loop bytes lengths total₀ i₀ total i = (i ≤ length lengths) × (total 
 abbrev μ-loop : tie.MeasureT-loop
 μ-loop bytes lengths total₀ i₀ total i = length lengths - i
 
+-- earlier places
+abbrev loop-start : tie.After-loop Inv-loop μ-loop → tie.Start Inv-loop μ-loop
+loop-start c = c .before .before .before
+
 -- what the loop found
-sums : (c : tie.After-loop Inv-loop μ-loop) → c .before .loop .total ≡ sumOf (now (c .before .before .before .args .lengths))
+sums : (c : tie.After-loop Inv-loop μ-loop) → c .before .loop .total ≡ sumOf (now (loop-start c .args .lengths))
 sums c =
     let start : tie.Start Inv-loop μ-loop = search in
     omega (arith, c .before .loop .inv .2, sum-end (now (start .args .lengths)) (c .before .loop .i) (omega arith))
 
-short : (c : tie.After-loop Inv-loop μ-loop) → allAtMost 300 (now (c .before .before .before .args .lengths)) ≡ true
+short : (c : tie.After-loop Inv-loop μ-loop) → allAtMost 300 (now (loop-start c .args .lengths)) ≡ true
 short c =
     let start : tie.Start Inv-loop μ-loop = search in
     c .before .loop .inv .3 ∙ at-most-end 300 (now (start .args .lengths)) (c .before .loop .i) (omega arith)

@@ -14,9 +14,13 @@ use Rattle.path_relative.proofs.parts.encode_shared.Tie as tie
 abbrev path : tie.Start → Path
 path c = pathOf (now (c .args .bytes)) (now (c .args .lengths)) (c .args .count)
 
+-- earlier places
+abbrev known-told-start : tie.After-known-told → tie.Start
+known-told-start c = c .before .before .before .before .before .before .before .before .before .before .before .before
+
 -- what the suffix was answered
 answer-of : (c : tie.After-known-told)
-    → writeAnswer (suffixFrom (c .before .before .before .before .before .before .before .before .before .before .before .before .args .k)) (path (c .before .before .before .before .before .before .before .before .before .before .before .before)) (length (drop (c .before .before .before .before .before .before .before .before .len-of-encoding .result) (now (c .before .before .before .before .before .before .before .before .before .before .before .before .args .buffer)))) ≡ wrote (c .before .suffix .given .0 .0)
+    → writeAnswer (suffixFrom (known-told-start c .args .k)) (path (known-told-start c)) (length (drop (c .before .before .before .before .before .before .before .before .len-of-encoding .result) (now (known-told-start c .args .buffer)))) ≡ wrote (c .before .suffix .given .0 .0)
 answer-of c =
     let after-encode-suffix : tie.After-encode-suffix = search in
     let after-len-of-encoding : tie.After-len-of-encoding = search in

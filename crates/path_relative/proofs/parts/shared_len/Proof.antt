@@ -13,9 +13,13 @@ use Rattle.path_relative.proofs.parts.shared_len.Tie as tie
 abbrev path : tie.Start → Path
 path c = pathOf (now (c .args .bytes)) (now (c .args .lengths)) (c .args .count)
 
+-- earlier places
+abbrev known-told-start : tie.After-known-told → tie.Start
+known-told-start c = c .before .before .before .before .before .before
+
 -- the suffix's length
 suffix-is : (c : tie.After-known-told)
-    → (suffixFrom (c .before .before .before .before .before .before .args .k) .check (path (c .before .before .before .before .before .before)) ≡ allowed) × (c .before .suffix .given .0 .0 ≡ length (suffixFrom (c .before .before .before .before .before .before .args .k) .encode (path (c .before .before .before .before .before .before))))
+    → (suffixFrom (known-told-start c .args .k) .check (path (known-told-start c)) ≡ allowed) × (c .before .suffix .given .0 .0 ≡ length (suffixFrom (known-told-start c .args .k) .encode (path (known-told-start c))))
 suffix-is c =
     let after-suffix-len : tie.After-suffix-len = search in
     let start : tie.Start = search in

@@ -22,14 +22,24 @@ use Rattle.path_relative.proofs.path_decode.decode_extension.Tie as tie
 abbrev prefix : tie.Start → Path
 prefix s = pathOf (now (s .args .bytes)) (now (s .args .lengths)) (s .args .count)
 
+-- earlier places
+abbrev known-told-start : tie.After-known-told → tie.Start
+known-told-start c = c .before .before .before .before .before .before .before
+
+abbrev decode-after-sizes : tie.After-decode-after → tie.After-sizes
+decode-after-sizes c = c .before .before .before .before .before .before .before .before .before
+
+abbrev decode-after-start : tie.After-decode-after → tie.Start
+decode-after-start c = known-told-start (c .before .before .before .before .before .before .before .before)
+
 -- the sizes, and where the components begin
-sizes-are : (c : tie.After-known-told) → let a = c .before .before .before .before .before .before .before .args in let h = c .before .sizes .given .0 in
+sizes-are : (c : tie.After-known-told) → let a = known-told-start c .args in let h = c .before .sizes .given .0 in
     readSizes (a .canonic) (drop (a .start) (now (a .message))) ≡ accepted (sizesFrom (h .0) (h .1 .0)) (h .1 .1 .0)
 sizes-are c =
     let after-decode-sizes : tie.After-decode-sizes = search in
     sym (after-decode-sizes .decode-sizes .ensures) ∙ ap sizesAnswer (c .before .sizes .given .1)
 
-begins : (c : tie.After-known-told) → c .before .before .before .before .before .before .before .args .start + c .before .sizes .given .0 .1 .1 .0 ≤ length (now (c .before .before .before .before .before .before .before .args .message))
+begins : (c : tie.After-known-told) → known-told-start c .args .start + c .before .sizes .given .0 .1 .1 .0 ≤ length (now (known-told-start c .args .message))
 begins c =
     let start : tie.Start = search in
     let a = start .args in sizes-inside (a .canonic) (now (a .message)) (a .start) _ _ (sizes-are c)
@@ -49,7 +59,7 @@ total-fits : (c : tie.Else1) → totalOf (componentsOf (prefix (c .before .befor
 total-fits c = omega (arith, c .if1 .left, total-small (c .before), total-sum (c .before))
 
 -- what follows the sizes
-after : (c : tie.After-decode-after) → let s = c .before .before .before .before .before .before .before .before .before .before .before .before .before .before .before in let h = c .before .before .before .before .before .before .before .before .before .sizes .given .0 in
+after : (c : tie.After-decode-after) → let s = decode-after-start c in let h = decode-after-sizes c .sizes .given .0 in
     GivesPath (c .decode-after .result) (readAfter (s .args .canonic) (used (prefix s)) (take (sumOf (used (prefix s))) (now (s .args .bytes))) (h .0) (h .1 .0) (drop (s .args .start + h .1 .1 .0) (now (s .args .message))))
 after c =
     let after-sum : tie.After-sum = search in
@@ -58,7 +68,7 @@ after c =
     let a = start .args in
     rw (after-sum .sum .ensures, to-end (a .start + after-sizes .sizes .given .0 .1 .1 .0) (now (a .message))) at (c .decode-after .ensures)
 
-extends-at : (c : tie.After-decode-after) → let s = c .before .before .before .before .before .before .before .before .before .before .before .before .before .before .before in let h = c .before .before .before .before .before .before .before .before .before .sizes .given .0 in
+extends-at : (c : tie.After-decode-after) → let s = decode-after-start c in let h = decode-after-sizes c .sizes .given .0 in
     readExtendsPath (s .args .canonic) (prefix s) (drop (s .args .start) (now (s .args .message)))
     ≡ shift (h .1 .1 .0) (readAfter (s .args .canonic) (used (prefix s)) (take (sumOf (used (prefix s))) (now (s .args .bytes))) (h .0) (h .1 .0) (drop (s .args .start + h .1 .1 .0) (now (s .args .message))))
 extends-at c =

@@ -31,14 +31,21 @@ after c =
     let after-sum : tie.After-sum = search in
     rw (after-sum .sum .ensures) at (c .decode-after .ensures)
 
-taken : (c : tie.After-enum-told) → let a = c .before .before .before .before .before .before .before .before .before .before .before .args in
+-- earlier places
+abbrev enum-told-decode-after : tie.After-enum-told → tie.After-decode-after
+enum-told-decode-after c = c .before .before .before
+
+abbrev enum-told-start : tie.After-enum-told → tie.Start
+enum-told-start c = c .before .before .before .before .before .before .before .before .before .before .before
+
+taken : (c : tie.After-enum-told) → let a = enum-told-start c .args in
     readAfter (a .canonic) (take (a .k) (now (a .lengths))) (take (sumOf (take (a .k) (now (a .lengths)))) (now (a .bytes))) (a .total) (a .more) (now (a .message))
-    ≡ accepted (c .before .before .before .decode-after .result .path) (c .enum-told .given .0 .0)
+    ≡ accepted (enum-told-decode-after c .decode-after .result .path) (c .enum-told .given .0 .0)
 taken c =
     let after-decode-after : tie.After-decode-after = search in
     sym (after after-decode-after .answer) ∙ ap (λ (d : Decoded). answerOf d (after-decode-after .decode-after .result .path)) (c .enum-told .given .1)
 
-read : (c : tie.After-enum-told) → let s = c .before .before .before .before .before .before .before .before .before .before .before in After (take (s .args .k) (componentsOf (reference s))) (c .before .before .before .decode-after .result .path)
+read : (c : tie.After-enum-told) → let s = enum-told-start c in After (take (s .args .k) (componentsOf (reference s))) (enum-told-decode-after c .decode-after .result .path)
 read c =
     let after-shared-slice-known2 : tie.After-shared-slice-known2 = search in
     let after-shared-slice-known : tie.After-shared-slice-known = search in
@@ -46,16 +53,16 @@ read c =
     lead-read (reference s) (s .pre .formed) (s .args .k) (s .pre .there) _ _ _ _ _ _ (λ i. omega (arith, after-shared-slice-known2 .shared-slice-known2 .given i)) (λ i. omega (arith, after-shared-slice-known .shared-slice-known .given i)) (taken c)
 
 -- strictly, the shared count decides
-judged : (c : tie.After-enum-told) → let s = c .before .before .before .before .before .before .before .before .before .before .before in let p = c .before .before .before .decode-after .result .path in
+judged : (c : tie.After-enum-told) → let s = enum-told-start c in let p = enum-told-decode-after c .decode-after .result .path in
     readJoined (s .args .canonic) (reference s) (s .args .k) (s .args .total) (s .args .more) (now (s .args .message))
     ≡ passed (eqb (shared (componentsOf (reference s)) (componentsOf p)) (s .args .k)) (accepted p (c .enum-told .given .0 .0))
 judged c =
     let s : tie.Start = search in
     joined-strict _ (reference s) (s .pre .formed) _ (s .pre .there) _ _ _ _ _ (not-false _ (c .before .before .if1 .left)) (taken c)
 
-accepts : (c : tie.After-enum-told) → let s = c .before .before .before .before .before .before .before .before .before .before .before in let p = c .before .before .before .decode-after .result .path in
+accepts : (c : tie.After-enum-told) → let s = enum-told-start c in let p = enum-told-decode-after c .decode-after .result .path in
     eqb (shared (componentsOf (reference s)) (componentsOf p)) (s .args .k) ≡ true
-    → GivesPath (c .before .before .before .decode-after .result) (readJoined (s .args .canonic) (reference s) (s .args .k) (s .args .total) (s .args .more) (now (s .args .message)))
+    → GivesPath (enum-told-decode-after c .decode-after .result) (readJoined (s .args .canonic) (reference s) (s .args .k) (s .args .total) (s .args .more) (now (s .args .message)))
 accepts c ok =
     let after-decode-after : tie.After-decode-after = search in
     let e = rw ok at (judged c) in

@@ -28,33 +28,64 @@ short s = omega arith
 well : (c : tie.Else1) → wellFormed (reference (c .before .before .before .before .before)) ≡ true
 well c = sym (c .before .well-formed .ensures) ∙ not-false _ (c .if1 .left)
 
+-- earlier places
+abbrev decode-joined-sizes : tie.After-decode-joined → tie.After-sizes
+decode-joined-sizes c = c .before .before .before .before
+
+abbrev path-decode-joined : tie.After-path → tie.After-decode-joined
+path-decode-joined c = c .before .before .before .before
+
+abbrev known-told2-number : tie.After-known-told2 → tie.After-number
+known-told2-number c = c .before .before .before .before .before
+
+abbrev decode-joined-number : tie.After-decode-joined → tie.After-number
+decode-joined-number c = known-told2-number (c .before .before .before)
+
+abbrev path-sizes : tie.After-path → tie.After-sizes
+path-sizes c = decode-joined-sizes (path-decode-joined c)
+
+abbrev known-told-start : tie.After-known-told → tie.Start
+known-told-start c = c .before .before .before .before .before .before .before .before .before
+
+abbrev path-number : tie.After-path → tie.After-number
+path-number c = decode-joined-number (path-decode-joined c)
+
+abbrev known-told2-start : tie.After-known-told2 → tie.Start
+known-told2-start c = known-told-start (c .before .before .before .before)
+
+abbrev decode-joined-start : tie.After-decode-joined → tie.Start
+decode-joined-start c = known-told2-start (c .before .before .before)
+
+abbrev path-start : tie.After-path → tie.Start
+path-start c = decode-joined-start (path-decode-joined c)
+
 -- the shared count
-shared-are : (c : tie.After-known-told) → let a = c .before .before .before .before .before .before .before .before .before .args in let h = c .before .number .given .0 in
+shared-are : (c : tie.After-known-told) → let a = known-told-start c .args in let h = c .before .number .given .0 in
     readStandalone (a .canonic) (drop (a .start) (now (a .message))) ≡ accepted (h .0) (h .1 .0)
 shared-are c =
     let after-decode : tie.After-decode = search in
     sym (after-decode .decode .ensures) ∙ ap numberAnswer (c .before .number .given .1)
 
-first-inside : (c : tie.After-known-told) → c .before .before .before .before .before .before .before .before .before .args .start + c .before .number .given .0 .1 .0 ≤ length (now (c .before .before .before .before .before .before .before .before .before .args .message))
+first-inside : (c : tie.After-known-told) → known-told-start c .args .start + c .before .number .given .0 .1 .0 ≤ length (now (known-told-start c .args .message))
 first-inside c =
     let start : tie.Start = search in
     let a = start .args in standalone-inside (a .canonic) (now (a .message)) (a .start) _ _ (shared-are c)
 
 -- the sizes, and where the components begin
-sizes-are : (c : tie.After-known-told2) → let a = c .before .before .before .before .before .before .before .before .before .before .before .before .before .args in let h = c .before .sizes .given .0 in
-    readSizes (a .canonic) (drop (a .start + c .before .before .before .before .before .number .given .0 .1 .0) (now (a .message))) ≡ accepted (sizesFrom (h .0) (h .1 .0)) (h .1 .1 .0)
+sizes-are : (c : tie.After-known-told2) → let a = known-told2-start c .args in let h = c .before .sizes .given .0 in
+    readSizes (a .canonic) (drop (a .start + known-told2-number c .number .given .0 .1 .0) (now (a .message))) ≡ accepted (sizesFrom (h .0) (h .1 .0)) (h .1 .1 .0)
 sizes-are c =
     let after-decode-sizes : tie.After-decode-sizes = search in
     sym (after-decode-sizes .decode-sizes .ensures) ∙ ap sizesAnswer (c .before .sizes .given .1)
 
-begins : (c : tie.After-known-told2) → c .before .before .before .before .before .before .before .before .before .before .before .before .before .args .start + c .before .before .before .before .before .number .given .0 .1 .0 + c .before .sizes .given .0 .1 .1 .0 ≤ length (now (c .before .before .before .before .before .before .before .before .before .before .before .before .before .args .message))
+begins : (c : tie.After-known-told2) → known-told2-start c .args .start + known-told2-number c .number .given .0 .1 .0 + c .before .sizes .given .0 .1 .1 .0 ≤ length (now (known-told2-start c .args .message))
 begins c =
     let after-number : tie.After-number = search in
     let start : tie.Start = search in
     let a = start .args in sizes-inside (a .canonic) (now (a .message)) (a .start + after-number .number .given .0 .1 .0) _ _ (sizes-are c)
 
 -- what follows them
-joined-are : (c : tie.After-decode-joined) → let s = c .before .before .before .before .before .before .before .before .before .before .before .before .before .before .before .before in let h = c .before .before .before .before .sizes .given .0 in let n = c .before .before .before .before .before .before .before .before .number .given .0 in
+joined-are : (c : tie.After-decode-joined) → let s = decode-joined-start c in let h = decode-joined-sizes c .sizes .given .0 in let n = decode-joined-number c .number .given .0 in
     GivesPath (c .decode-joined .result) (readJoined (s .args .canonic) (reference s) (n .0) (h .0) (h .1 .0) (drop (s .args .start + n .1 .0 + h .1 .1 .0) (now (s .args .message))))
 joined-are c =
     let after-sizes : tie.After-sizes = search in
@@ -63,7 +94,7 @@ joined-are c =
     let a = start .args in
     rw (to-end (a .start + after-number .number .given .0 .1 .0 + after-sizes .sizes .given .0 .1 .1 .0) (now (a .message))) at (c .decode-joined .ensures)
 
-joined-at : (c : tie.After-decode-joined) → let s = c .before .before .before .before .before .before .before .before .before .before .before .before .before .before .before .before in let h = c .before .before .before .before .sizes .given .0 in let n = c .before .before .before .before .before .before .before .before .number .given .0 in
+joined-at : (c : tie.After-decode-joined) → let s = decode-joined-start c in let h = decode-joined-sizes c .sizes .given .0 in let n = decode-joined-number c .number .given .0 in
     readAgainstPath (s .args .canonic) (reference s) (drop (s .args .start) (now (s .args .message)))
     ≡ shift (n .1 .0) (shift (h .1 .1 .0) (readJoined (s .args .canonic) (reference s) (n .0) (h .0) (h .1 .0) (drop (s .args .start + n .1 .0 + h .1 .1 .0) (now (s .args .message)))))
 joined-at c =
@@ -73,11 +104,11 @@ joined-at c =
     let s : tie.Start = search in
     against-joined _ (reference s) (well else1) (now (s .args .message)) (s .args .start) _ _ (shared-are after-known-told) _ _ _ (sizes-are after-known-told2)
 
-inside : (c : tie.After-path) → c .before .before .before .before .before .before .before .before .before .before .before .before .before .before .before .before .before .before .before .before .args .start + c .before .before .before .before .before .before .before .before .before .before .before .before .number .given .0 .1 .0 + c .before .before .before .before .before .before .before .before .sizes .given .0 .1 .1 .0 + c .before .before .answer .given .0 .0 ≤ length (now (c .before .before .before .before .before .before .before .before .before .before .before .before .before .before .before .before .before .before .before .before .args .message))
+inside : (c : tie.After-path) → path-start c .args .start + path-number c .number .given .0 .1 .0 + path-sizes c .sizes .given .0 .1 .1 .0 + c .before .before .answer .given .0 .0 ≤ length (now (path-start c .args .message))
 inside c =
-    let s = c .before .before .before .before .before .before .before .before .before .before .before .before .before .before .before .before .before .before .before .before in
-    let at = s .args .start + c .before .before .before .before .before .before .before .before .before .before .before .before .number .given .0 .1 .0 + c .before .before .before .before .before .before .before .before .sizes .given .0 .1 .1 .0 in
-    let e = sym (joined-are (c .before .before .before .before) .answer) ∙ ap (λ (d : Decoded). answerOf d (c .before .before .before .before .decode-joined .result .path)) (c .before .before .answer .given .1) in
+    let s = path-start c in
+    let at = s .args .start + path-number c .number .given .0 .1 .0 + path-sizes c .sizes .given .0 .1 .1 .0 in
+    let e = sym (joined-are (path-decode-joined c) .answer) ∙ ap (λ (d : Decoded). answerOf d (path-decode-joined c .decode-joined .result .path)) (c .before .before .answer .given .1) in
     omega (arith, begins (c .before .before .before .before .before .before .before), joined-bounded (s .args .canonic) (reference s) _ _ _ .bound (drop at (now (s .args .message))) _ _ e, length-drop at (now (s .args .message)))
 
 returns : tie.Need-returns

@@ -12,19 +12,29 @@ use Rattle.path_suffix.proofs.parts.encode_suffix.Tie as tie
 abbrev path : tie.Start → Path
 path c = pathOf (now (c .args .bytes)) (now (c .args .lengths)) (c .args .count)
 
-well : (c : tie.Else1) → wellFormed (path (c .before .before .before .before .before)) ≡ true
+-- earlier places
+abbrev else1-start : tie.Else1 → tie.Start
+else1-start c = c .before .before .before .before .before
+
+abbrev else2-start : tie.Else2 → tie.Start
+else2-start c = else1-start (c .before)
+
+abbrev len-of-start : tie.After-len-of → tie.Start
+len-of-start c = else2-start (c .before .before)
+
+well : (c : tie.Else1) → wellFormed (path (else1-start c)) ≡ true
 well c = sym (c .before .well-formed .ensures) ∙ not-false _ (c .if1 .left)
 
-here : (c : tie.Else1) → Formed (path (c .before .before .before .before .before))
+here : (c : tie.Else1) → Formed (path (else1-start c))
 here c = parts-formed (well c)
 
 -- past both tests
-sums : (c : tie.Else2) → sumOf (take (c .before .before .before .before .before .before .args .k) (now (c .before .before .before .before .before .before .args .lengths))) ≤ 600
+sums : (c : tie.Else2) → sumOf (take (else2-start c .args .k) (now (else2-start c .args .lengths))) ≤ 600
 sums c =
     let start : tie.Start = search in
     omega (arith, suffix-sum (path start) (here (c .before)) (start .args .k) (c .if2 .left))
 
-long : (c : tie.After-len-of) → c .len-of .result ≡ length (suffixFrom (c .before .before .before .before .before .before .before .before .args .k) .encode (path (c .before .before .before .before .before .before .before .before)))
+long : (c : tie.After-len-of) → c .len-of .result ≡ length (suffixFrom (len-of-start c .args .k) .encode (path (len-of-start c)))
 long c =
     let else1 : tie.Else1 = search in
     let start : tie.Start = search in

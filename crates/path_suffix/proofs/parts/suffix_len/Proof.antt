@@ -12,10 +12,14 @@ use Rattle.path_suffix.proofs.parts.suffix_len.Tie as tie
 abbrev path : tie.Start → Path
 path c = pathOf (now (c .args .bytes)) (now (c .args .lengths)) (c .args .count)
 
-well : (c : tie.Else1) → wellFormed (path (c .before .before .before .before)) ≡ true
+-- earlier places
+abbrev else1-start : tie.Else1 → tie.Start
+else1-start c = c .before .before .before .before
+
+well : (c : tie.Else1) → wellFormed (path (else1-start c)) ≡ true
 well c = sym (c .before .well-formed .ensures) ∙ not-false _ (c .if1 .left)
 
-here : (c : tie.Else1) → Formed (path (c .before .before .before .before))
+here : (c : tie.Else1) → Formed (path (else1-start c))
 here c = parts-formed (well c)
 
 returns : tie.Need-returns

@@ -19,13 +19,17 @@ use Rattle.range3d_range3d.proofs.range_decode.decode_parts.Tie as tie
 abbrev known : tie.Start → Range3d
 known s = let a = s .args in rangeWith (a .of-subspaces) (pathsWith (pathOf (now (a .of-start-bytes)) (now (a .of-start-lengths)) (a .of-start-count)) (a .of-end-open) (pathOf (now (a .of-end-bytes)) (now (a .of-end-lengths)) (a .of-end-count))) (a .of-times)
 
-ids-are : (c : tie.After-known-told) → let s = c .before .before .before .before .before .before .before .before .before in
+-- earlier places
+abbrev known-told-start : tie.After-known-told → tie.Start
+known-told-start c = c .before .before .before .before .before .before .before .before .before
+
+ids-are : (c : tie.After-known-told) → let s = known-told-start c in
     mapped subspacesFrom (readSubspaces (subspacesOf (s .args .of-subspaces)) (sourcesIn (s .args .header))) (now (s .args .message)) ≡ accepted (c .before .before .before .relative-decode .result .subspaces) (c .before .first-answer .given .0 .0)
 ids-are c =
     let after-relative-decode : tie.After-relative-decode = search in
     sym (after-relative-decode .relative-decode .ensures .answer) ∙ ap (λ (d : Decoded). answerOf d (after-relative-decode .relative-decode .result .subspaces)) (c .before .first-answer .given .1)
 
-ids-in : (c : tie.After-known-told) → c .before .first-answer .given .0 .0 ≤ length (now (c .before .before .before .before .before .before .before .before .before .args .message))
+ids-in : (c : tie.After-known-told) → c .before .first-answer .given .0 .0 ≤ length (now (known-told-start c .args .message))
 ids-in c =
     let s : tie.Start = search in
     subspaces-inside (known s) (s .args .header) (s .args .times) (now (s .args .message)) _ _ (ids-are c)

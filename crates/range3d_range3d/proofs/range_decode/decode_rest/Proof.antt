@@ -18,13 +18,23 @@ use Rattle.range3d_range3d.proofs.range_decode.decode_rest.Tie as tie
 abbrev known : tie.Start → PathRange
 known s = let a = s .args in pathsWith (pathOf (now (a .of-start-bytes)) (now (a .of-start-lengths)) (a .of-start-count)) (a .of-end-open) (pathOf (now (a .of-end-bytes)) (now (a .of-end-lengths)) (a .of-end-count))
 
-paths-are : (c : tie.After-known-told) → let s = c .before .before .before .before .before .before .before .before .before in
+-- earlier places
+abbrev known-told2-first-answer : tie.After-known-told2 → tie.After-first-answer
+known-told2-first-answer c = c .before .before .before .before .before .before
+
+abbrev known-told-start : tie.After-known-told → tie.Start
+known-told-start c = c .before .before .before .before .before .before .before .before .before
+
+abbrev known-told2-start : tie.After-known-told2 → tie.Start
+known-told2-start c = known-told-start (c .before .before .before .before .before)
+
+paths-are : (c : tie.After-known-told) → let s = known-told-start c in
     readAgainstPaths (s .args .header .«path_end_open») (sidesIn (s .args .header)) (known s) (now (s .args .message)) ≡ accepted (c .before .before .before .relative-decode .result .paths) (c .before .first-answer .given .0 .0)
 paths-are c =
     let after-relative-decode : tie.After-relative-decode = search in
     sym (after-relative-decode .relative-decode .ensures .answer) ∙ ap (λ (d : Decoded). answerOf d (after-relative-decode .relative-decode .result .paths)) (c .before .first-answer .given .1)
 
-paths-in : (c : tie.After-known-told) → c .before .first-answer .given .0 .0 ≤ length (now (c .before .before .before .before .before .before .before .before .before .args .message))
+paths-in : (c : tie.After-known-told) → c .before .first-answer .given .0 .0 ≤ length (now (known-told-start c .args .message))
 paths-in c =
     let s : tie.Start = search in
     paths-inside (s .args .subspaces) (known s) (s .args .of-times) (s .args .header) (s .args .times) (now (s .args .message)) _ _ (paths-are c)
@@ -37,13 +47,13 @@ times-told c =
     let start : tie.Start = search in
     rw (to-end (after-first-answer .first-answer .given .0 .0) (now (start .args .message))) at (c .relative-decode2 .ensures .answer)
 
-times-are : (c : tie.After-known-told2) → let s = c .before .before .before .before .before .before .before .before .before .before .before .before .before .before in
-    readTimes (s .args .of-times) (s .args .header .«times_end_open») (unpackTimes (s .args .times)) (drop (c .before .before .before .before .before .before .first-answer .given .0 .0) (now (s .args .message))) ≡ accepted (c .before .before .before .relative-decode2 .result .times) (c .before .second-answer .given .0 .0)
+times-are : (c : tie.After-known-told2) → let s = known-told2-start c in
+    readTimes (s .args .of-times) (s .args .header .«times_end_open») (unpackTimes (s .args .times)) (drop (known-told2-first-answer c .first-answer .given .0 .0) (now (s .args .message))) ≡ accepted (c .before .before .before .relative-decode2 .result .times) (c .before .second-answer .given .0 .0)
 times-are c =
     let after-relative-decode2 : tie.After-relative-decode2 = search in
     sym (times-told after-relative-decode2) ∙ ap (λ (d : Decoded). answerOf d (after-relative-decode2 .relative-decode2 .result .times)) (c .before .second-answer .given .1)
 
-inside : (c : tie.After-known-told2) → c .before .before .before .before .before .before .first-answer .given .0 .0 + c .before .second-answer .given .0 .0 ≤ length (now (c .before .before .before .before .before .before .before .before .before .before .before .before .before .before .args .message))
+inside : (c : tie.After-known-told2) → known-told2-first-answer c .first-answer .given .0 .0 + c .before .second-answer .given .0 .0 ≤ length (now (known-told2-start c .args .message))
 inside c =
     let after-known-told : tie.After-known-told = search in
     let s : tie.Start = search in

@@ -23,13 +23,17 @@ fits c =
 room : (c : tie.Start) → c .args .end-open ≡ false → length (sharedFrom (c .args .start-shared) .encode (paths c .start)) + length (sharedFrom (c .args .end-shared) .encode (paths c .end)) ≤ length (now (c .args .buffer))
 room c o = omega (arith, c .pre .1, ap length (both-closed (paths c) (c .args .start-shared) (c .args .end-shared) o), length-append (sharedFrom (c .args .start-shared) .encode (paths c .start)) (sharedFrom (c .args .end-shared) .encode (paths c .end)))
 
+-- earlier places
+abbrev encode-shared-start : tie.After-encode-shared → tie.Start
+encode-shared-start c = c .before .before .before .before .before .before .before
+
 -- the start is written
-answer : (c : tie.After-encode-shared) → let s = c .before .before .before .before .before .before .before in outcomeOf (c .encode-shared .result) ≡ wrote (length (sharedFrom (s .args .start-shared) .encode (paths s .start)))
+answer : (c : tie.After-encode-shared) → let s = encode-shared-start c in outcomeOf (c .encode-shared .result) ≡ wrote (length (sharedFrom (s .args .start-shared) .encode (paths s .start)))
 answer c =
     let start : tie.Start = search in
     c .encode-shared .ensures .0 ∙ sym (fits start .0)
 
-there : (c : tie.After-encode-shared) → let s = c .before .before .before .before .before .before .before in c .encode-shared .last .0 ≡ over (sharedFrom (s .args .start-shared) .encode (paths s .start)) (now (s .args .buffer))
+there : (c : tie.After-encode-shared) → let s = encode-shared-start c in c .encode-shared .last .0 ≡ over (sharedFrom (s .args .start-shared) .encode (paths s .start)) (now (s .args .buffer))
 there c =
     let start : tie.Start = search in
     c .encode-shared .ensures .1 ∙ sym (fits start .1)

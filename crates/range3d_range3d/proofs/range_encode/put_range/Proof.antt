@@ -35,28 +35,32 @@ long c =
     let s : tie.Start = search in
     omega (arith, measured-long (s .args .of-subspaces) (s .args .of-times) (value s) (s .args .start-from-start) (s .args .start-shared) (s .args .end-from-start) (s .args .end-shared) _ _ _ (c .before .relative-len-of-encoding .ensures .0) (s .pre .1) (c .relative-len-of-encoding2 .ensures .0))
 
+-- earlier places
+abbrev else1-start : tie.Else1 → tie.Start
+else1-start c = c .before .before .before .before .before .before .before .before
+
 -- where the parts start, and that each has room
-room : (c : tie.Else1) → let s = c .before .before .before .before .before .before .before .before in 2 + length (subspaces s) + length (paths s) + length (times s) ≤ length (now (s .args .buffer))
+room : (c : tie.Else1) → let s = else1-start c in 2 + length (subspaces s) + length (paths s) + length (times s) ≤ length (now (s .args .buffer))
 room c =
     let start : tie.Start = search in
     omega (arith, c .if1 .left, c .before .before .relative-len-of-encoding .ensures .0, start .pre .1, c .before .relative-len-of-encoding2 .ensures .0)
 
-at-paths : (c : tie.Else1) → let s = c .before .before .before .before .before .before .before .before in 2 + c .before .before .relative-len-of-encoding .result ≡ length (head s ++ subspaces s)
+at-paths : (c : tie.Else1) → let s = else1-start c in 2 + c .before .before .relative-len-of-encoding .result ≡ length (head s ++ subspaces s)
 at-paths c =
     let s : tie.Start = search in
     omega (arith, length-append (head s) (subspaces s), c .before .before .relative-len-of-encoding .ensures .0)
 
-room-paths : (c : tie.Else1) → let s = c .before .before .before .before .before .before .before .before in length (head s ++ subspaces s) + length (paths s) ≤ length (now (s .args .buffer))
+room-paths : (c : tie.Else1) → let s = else1-start c in length (head s ++ subspaces s) + length (paths s) ≤ length (now (s .args .buffer))
 room-paths c =
     let s : tie.Start = search in
     omega (arith, length-append (head s) (subspaces s), room c)
 
-at-times : (c : tie.Else1) → let s = c .before .before .before .before .before .before .before .before in 2 + c .before .before .relative-len-of-encoding .result + s .args .paths-len ≡ length ((head s ++ subspaces s) ++ paths s)
+at-times : (c : tie.Else1) → let s = else1-start c in 2 + c .before .before .relative-len-of-encoding .result + s .args .paths-len ≡ length ((head s ++ subspaces s) ++ paths s)
 at-times c =
     let s : tie.Start = search in
     omega (arith, length-append (head s ++ subspaces s) (paths s), at-paths c, s .pre .1)
 
-room-times : (c : tie.Else1) → let s = c .before .before .before .before .before .before .before .before in length ((head s ++ subspaces s) ++ paths s) + length (times s) ≤ length (now (s .args .buffer))
+room-times : (c : tie.Else1) → let s = else1-start c in length ((head s ++ subspaces s) ++ paths s) + length (times s) ≤ length (now (s .args .buffer))
 room-times c =
     let s : tie.Start = search in
     omega (arith, length-append (head s ++ subspaces s) (paths s), length-append (head s) (subspaces s), room c)

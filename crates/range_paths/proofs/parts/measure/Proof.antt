@@ -18,8 +18,12 @@ start-near c =
     let s : tie.Start = search in
     nears (known s) (paths s .start) _ _ (sym (after-nearest .nearest .ensures) ∙ c .before .first .given .1)
 
-end-near : (c : tie.After-known-told2) → let s = c .before .before .before .before .before .before .before .before .before .before .before .before .before .before .before .before .before .before in Nears (known s) (paths s .end) (c .before .last .given .0 .0) (c .before .last .given .0 .1 .0)
-end-near c = let s = c .before .before .before .before .before .before .before .before .before .before .before .before .before .before .before .before .before .before in nears (known s) (paths s .end) _ _ (sym (c .before .before .before .nearest2 .ensures) ∙ c .before .last .given .1)
+-- earlier places
+abbrev known-told2-start : tie.After-known-told2 → tie.Start
+known-told2-start c = c .before .before .before .before .before .before .before .before .before .before .before .before .before .before .before .before .before .before
+
+end-near : (c : tie.After-known-told2) → let s = known-told2-start c in Nears (known s) (paths s .end) (c .before .last .given .0 .0) (c .before .last .given .0 .1 .0)
+end-near c = let s = known-told2-start c in nears (known s) (paths s .end) _ _ (sym (c .before .before .before .nearest2 .ensures) ∙ c .before .last .given .1)
 
 returns : tie.Need-returns
 returns c =

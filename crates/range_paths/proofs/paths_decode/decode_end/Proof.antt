@@ -14,13 +14,17 @@ use Rattle.range_paths.proofs.paths_decode.decode_end.Tie as tie
 abbrev known : tie.Start → PathRange
 known s = let a = s .args in pathsWith (pathOf (now (a .of-start-bytes)) (now (a .of-start-lengths)) (a .of-start-count)) (a .of-end-open) (pathOf (now (a .of-end-bytes)) (now (a .of-end-lengths)) (a .of-end-count))
 
-start-is : (c : tie.After-known-told) → let s = c .before .before .before .before .before .before .before .before in
+-- earlier places
+abbrev known-told-start : tie.After-known-told → tie.Start
+known-told-start c = c .before .before .before .before .before .before .before .before
+
+start-is : (c : tie.After-known-told) → let s = known-told-start c in
     readSideOf (known s) (s .args .sides .«start_from_start») (now (s .args .message)) ≡ accepted (s .args .first .path) (c .before .first-answer .given .0 .0)
 start-is c =
     let s : tie.Start = search in
     sym (s .pre .1 .answer) ∙ ap (λ (d : Decoded). answerOf d (s .args .first .path)) (c .before .first-answer .given .1)
 
-start-in : (c : tie.After-known-told) → c .before .first-answer .given .0 .0 ≤ length (now (c .before .before .before .before .before .before .before .before .args .message))
+start-in : (c : tie.After-known-told) → c .before .first-answer .given .0 .0 ≤ length (now (known-told-start c .args .message))
 start-in c =
     let s : tie.Start = search in
     start-inside (s .args .end-open) (s .args .sides) (known s) (now (s .args .message)) (s .pre .0) _ _ (start-is c)
