@@ -127,7 +127,7 @@ pub(crate) fn decode_parts<'a>(
         return refuse_early(second_answer, of_bytes, of_lengths, of_count);
     };
     let at = a + b;
-    let third = path_relative::path_decode::decode_path_extends_path(
+    let third = path_relative_decode::path_decode::decode_path_extends_path(
         &message[at..],
         0,
         canonic,

@@ -85,7 +85,7 @@ pub fn relative_len_of_encoding<'a>(
     );
     match inside {
         Compared::Yes => {
-            let suffix = path_suffix::parts::suffix_len(bytes, lengths, count, of_count);
+            let suffix = path_suffix_encode::parts::suffix_len(bytes, lengths, count, of_count);
             let Encoded::Length(n) = suffix else {
                 return suffix;
             };
@@ -131,7 +131,7 @@ pub fn relative_encode<'a>(
             if buffer.len() < a {
                 return Encoded::NoRoom;
             }
-            let suffix = path_suffix::parts::encode_suffix(
+            let suffix = path_suffix_encode::parts::encode_suffix(
                 &mut buffer[a..],
                 bytes,
                 lengths,

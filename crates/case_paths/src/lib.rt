@@ -48,8 +48,13 @@ fn decode(
 {
     match encoding {
         Encoding::Plain => path_codec::decode(message, start, canonic),
-        Encoding::Against => path_relative::relative_decode(message, start, canonic, reference),
-        Encoding::Extends => path_relative::decode_path_extends_path(
+        Encoding::Against => path_relative_decode::relative_decode(
+            message,
+            start,
+            canonic,
+            reference,
+        ),
+        Encoding::Extends => path_relative_decode::decode_path_extends_path(
             message,
             start,
             canonic,
@@ -63,8 +68,12 @@ fn encode(encoding: Encoding, buffer: &mut [u8], path: Path, reference: Path) ->
 {
     match encoding {
         Encoding::Plain => path_codec::encode(buffer, path),
-        Encoding::Against => path_relative::relative_encode(buffer, path, reference),
-        Encoding::Extends => path_relative::encode_path_extends_path(buffer, path, reference),
+        Encoding::Against => path_relative_encode::relative_encode(buffer, path, reference),
+        Encoding::Extends => path_relative_encode::encode_path_extends_path(
+            buffer,
+            path,
+            reference,
+        ),
     }
 }
 
@@ -73,8 +82,8 @@ fn len_of_encoding(encoding: Encoding, path: Path, reference: Path) -> Encoded
 {
     match encoding {
         Encoding::Plain => path_codec::len_of_encoding(path),
-        Encoding::Against => path_relative::relative_len_of_encoding(path, reference),
-        Encoding::Extends => path_relative::path_extends_path_encoding_len(path, reference),
+        Encoding::Against => path_relative_encode::relative_len_of_encoding(path, reference),
+        Encoding::Extends => path_relative_encode::path_extends_path_encoding_len(path, reference),
     }
 }
 

@@ -23,7 +23,7 @@ use entry_end::Header;
 use grouping::AreaSubspace;
 use grouping::TimeRange;
 use path::Compared;
-use path_relative::path_decode;
+use path_relative_decode::path_decode;
 
 // A refusal before the path of the area is tested: 5 where it is not well formed.
 pub(crate) fn refuse_early<'a>(

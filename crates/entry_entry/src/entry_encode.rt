@@ -111,7 +111,7 @@ fn put_end<'a>(
     requires { ⌜ (sharedFrom k .check (pathOf (now bytes) (now lengths) count) ≡ allowed) × (length (sharedFrom k .encode (pathOf (now bytes) (now lengths) count) ++ digest) ≤ length (now buffer)) ⌝ }
     ensures { λ _. ⌜ now (buffer .exit) ≡ over (sharedFrom k .encode (pathOf (now (bytes .entry)) (now (lengths .entry)) count) ++ digest) (now (buffer .entry)) ⌝ }
 {
-    let whole = path_relative::parts::encode_shared(buffer, bytes, lengths, count, k);
+    let whole = path_relative_encode::parts::encode_shared(buffer, bytes, lengths, count, k);
     let Encoded::Length(n) = whole else {
         return;
     };

@@ -14,7 +14,7 @@ use entry::DecodedEntry;
 use entry::Entry;
 use entry::EntryFields;
 use path::ComponentCount;
-use path_relative::path_decode;
+use path_relative_decode::path_decode;
 
 // Reads an entry against a reference.
 pub fn relative_decode<'a>(
@@ -81,7 +81,7 @@ pub fn relative_len_of_encoding<'a>(
 ) -> Encoded
     ensures { λ r. ⌜ outcomeOf r ≡ lengthAnswer (againstEntry (entryWith of (pathOf (now («of_bytes» .entry)) (now («of_lengths» .entry)) «of_count»))) (entryWith fields (pathOf (now (bytes .entry)) (now (lengths .entry)) count)) ⌝ }
 {
-    let path = path_relative::parts::relative_len_of_encoding(
+    let path = path_relative_encode::parts::relative_len_of_encoding(
         bytes,
         lengths,
         count,
@@ -120,7 +120,7 @@ pub fn relative_encode<'a>(
     let ComponentCount::Components(k) = common else {
         return Encoded::Malformed;
     };
-    let path = path_relative::parts::shared_len(bytes, lengths, count, k);
+    let path = path_relative_encode::parts::shared_len(bytes, lengths, count, k);
     let Encoded::Length(n) = path else {
         return path;
     };

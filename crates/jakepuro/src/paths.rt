@@ -62,7 +62,7 @@ pub extern "C" fn jakepuro_path_path_encode<'a>(
 {
     let sizes = flat::path_record::sizes(path);
     let of = flat::path_record::sizes(reference);
-    let answer = path_relative::parts::relative_encode(
+    let answer = path_relative_encode::parts::relative_encode(
         buffer,
         flat::path_record::bytes(path),
         &sizes.lengths,
@@ -85,7 +85,7 @@ pub extern "C" fn jakepuro_path_path_len_of_encoding<'a>(
 {
     let sizes = flat::path_record::sizes(path);
     let of = flat::path_record::sizes(reference);
-    let answer = path_relative::parts::relative_len_of_encoding(
+    let answer = path_relative_encode::parts::relative_len_of_encoding(
         flat::path_record::bytes(path),
         &sizes.lengths,
         sizes.count,
@@ -110,7 +110,7 @@ pub extern "C" fn jakepuro_path_path_decode<'a>(
 {
     let of = flat::path_record::sizes(reference);
     let bytes = flat::path_record::bytes(reference);
-    let read = path_relative::path_decode::relative_decode(
+    let read = path_relative_decode::path_decode::relative_decode(
         message,
         start,
         canonic,
@@ -135,7 +135,7 @@ pub extern "C" fn jakepuro_path_extends_encode<'a>(
 {
     let sizes = flat::path_record::sizes(path);
     let of = flat::path_record::sizes(extends);
-    let answer = path_relative::parts::encode_path_extends_path(
+    let answer = path_relative_encode::parts::encode_path_extends_path(
         buffer,
         flat::path_record::bytes(path),
         &sizes.lengths,
@@ -158,7 +158,7 @@ pub extern "C" fn jakepuro_path_extends_len_of_encoding<'a>(
 {
     let sizes = flat::path_record::sizes(path);
     let of = flat::path_record::sizes(extends);
-    let answer = path_relative::parts::path_extends_path_encoding_len(
+    let answer = path_relative_encode::parts::path_extends_path_encoding_len(
         flat::path_record::bytes(path),
         &sizes.lengths,
         sizes.count,
@@ -183,7 +183,7 @@ pub extern "C" fn jakepuro_path_extends_decode<'a>(
 {
     let of = flat::path_record::sizes(extends);
     let bytes = flat::path_record::bytes(extends);
-    let read = path_relative::path_decode::decode_path_extends_path(
+    let read = path_relative_decode::path_decode::decode_path_extends_path(
         message,
         start,
         canonic,

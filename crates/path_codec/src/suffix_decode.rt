@@ -64,7 +64,7 @@ pub fn decode_sizes(message: &[u8], start: usize, canonic: bool) -> DecodedSizes
     if message.len() <= start {
         return DecodedSizes::EndOfInput;
     }
-    let tags = path_suffix::suffix_header::unpack_tags(message[start]);
+    let tags = path_suffix_encode::suffix_header::unpack_tags(message[start]);
     let first = start + 1;
     let number = compact_u64::relative_decode(message, first, TagWidth::Four, tags.total, canonic);
     let DecodedU64::Value(total, a) = number else {

@@ -3,5 +3,4 @@ pub mod Components
 pub mod Suffix
 pub mod Yields
 pub mod Writing
-pub mod Lengths
 pub mod Orders

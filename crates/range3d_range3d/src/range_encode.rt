@@ -58,7 +58,7 @@ fn put_paths<'a>(
     requires { ⌜ Shares (pathsWith (pathOf (now «start_bytes») (now «start_lengths») «start_count») «end_open» (pathOf (now «end_bytes») (now «end_lengths») «end_count»)) «start_shared» «end_shared» × (length (bothBytes (pathsWith (pathOf (now «start_bytes») (now «start_lengths») «start_count») «end_open» (pathOf (now «end_bytes») (now «end_lengths») «end_count»)) «start_shared» «end_shared») ≤ length (now buffer)) ⌝ }
     ensures { λ _. ⌜ now (buffer .exit) ≡ over (bothBytes (pathsWith (pathOf (now («start_bytes» .entry)) (now («start_lengths» .entry)) «start_count») «end_open» (pathOf (now («end_bytes» .entry)) (now («end_lengths» .entry)) «end_count»)) «start_shared» «end_shared») (now (buffer .entry)) ⌝ }
 {
-    let start = path_relative::parts::encode_shared(
+    let start = path_relative_encode::parts::encode_shared(
         buffer,
         start_bytes,
         start_lengths,
@@ -71,7 +71,7 @@ fn put_paths<'a>(
     if end_open {
         return;
     }
-    path_relative::parts::encode_shared(
+    path_relative_encode::parts::encode_shared(
         &mut buffer[at..],
         end_bytes,
         end_lengths,

@@ -115,7 +115,7 @@ fn path_len<'a>(bytes: &'a [u8], lengths: &'a [usize], count: usize, k: usize) -
     requires { ⌜ sharedFrom k .check (pathOf (now bytes) (now lengths) count) ≡ allowed ⌝ }
     ensures { λ r. ⌜ (r ≡ length (sharedFrom k .encode (pathOf (now (bytes .entry)) (now (lengths .entry)) count))) × (r ≤ 900) ⌝ }
 {
-    let whole = path_relative::parts::shared_len(bytes, lengths, count, k);
+    let whole = path_relative_encode::parts::shared_len(bytes, lengths, count, k);
     let Encoded::Length(n) = whole else {
         return 0;
     };

@@ -70,7 +70,7 @@ fn decode_path<'a>(
     ensures { λ r. ⌜ GivesPath r (readSideOf (pathsWith (pathOf (now («start_bytes» .entry)) (now («start_lengths» .entry)) «start_count») «end_open» (pathOf (now («end_bytes» .entry)) (now («end_lengths» .entry)) «end_count»)) «from_start» (now (message .entry))) ⌝ }
 {
     if from_start {
-        return path_relative::path_decode::relative_decode(
+        return path_relative_decode::path_decode::relative_decode(
             message,
             0,
             false,
@@ -82,7 +82,7 @@ fn decode_path<'a>(
     if end_open {
         return path_codec::refuse(Decoded::TheirFault);
     }
-    path_relative::path_decode::relative_decode(
+    path_relative_decode::path_decode::relative_decode(
         message,
         0,
         false,
