@@ -56,7 +56,7 @@ pub fn give_path(answer: Decoded, path: Path, flat: &mut [u8; 641], consumed: &m
         *consumed = 0;
         return refusal(answer);
     };
-    flat::path_record::store(flat, path);
+    flat_records::path_record::store(flat, path);
     *consumed = n;
     0
 }
@@ -69,7 +69,7 @@ pub fn give_area(answer: Decoded, area: Area, flat: &mut [u8; 691], consumed: &m
         *consumed = 0;
         return refusal(answer);
     };
-    flat::area_record::store(flat, area);
+    flat_records::area_record::store(flat, area);
     *consumed = n;
     0
 }
@@ -82,7 +82,7 @@ pub fn give_entry(answer: Decoded, entry: Entry, flat: &mut [u8; 753], consumed:
         *consumed = 0;
         return refusal(answer);
     };
-    flat::entry_record::store(flat, entry);
+    flat_records::entry_record::store(flat, entry);
     *consumed = n;
     0
 }
@@ -100,7 +100,7 @@ pub fn give_range(
         *consumed = 0;
         return refusal(answer);
     };
-    flat::range_record::store(flat, range);
+    flat_records::range_record::store(flat, range);
     *consumed = n;
     0
 }

@@ -16,18 +16,18 @@ pub extern "C" fn jakepuro_area_area_encode<'a>(
 ) -> u8
     ensures { λ r. ⌜ Encodes (againstArea (areaIn (now (reference .entry)))) (areaIn (now (area .entry))) (now (buffer .entry)) (now (buffer .exit)) r (now (written .exit)) ⌝ }
 {
-    let sizes = flat::area_record::path_sizes(area);
-    let of = flat::area_record::path_sizes(reference);
+    let sizes = flat_records::area_record::path_sizes(area);
+    let of = flat_records::area_record::path_sizes(reference);
     let answer = area_area::parts::relative_encode(
         buffer,
-        flat::area_record::subspace(area),
-        flat::area_record::times(area),
-        flat::area_record::path_bytes(area),
+        flat_records::area_record::subspace(area),
+        flat_records::area_record::times(area),
+        flat_records::area_record::path_bytes(area),
         &sizes.lengths,
         sizes.count,
-        flat::area_record::subspace(reference),
-        flat::area_record::times(reference),
-        flat::area_record::path_bytes(reference),
+        flat_records::area_record::subspace(reference),
+        flat_records::area_record::times(reference),
+        flat_records::area_record::path_bytes(reference),
         &of.lengths,
         of.count,
     );
@@ -43,17 +43,17 @@ pub extern "C" fn jakepuro_area_area_len_of_encoding<'a>(
 ) -> u8
     ensures { λ r. ⌜ Told (lengthAnswer (againstArea (areaIn (now (reference .entry)))) (areaIn (now (area .entry)))) r (now (length .exit)) ⌝ }
 {
-    let sizes = flat::area_record::path_sizes(area);
-    let of = flat::area_record::path_sizes(reference);
+    let sizes = flat_records::area_record::path_sizes(area);
+    let of = flat_records::area_record::path_sizes(reference);
     let answer = area_area::parts::relative_len_of_encoding(
-        flat::area_record::subspace(area),
-        flat::area_record::times(area),
-        flat::area_record::path_bytes(area),
+        flat_records::area_record::subspace(area),
+        flat_records::area_record::times(area),
+        flat_records::area_record::path_bytes(area),
         &sizes.lengths,
         sizes.count,
-        flat::area_record::subspace(reference),
-        flat::area_record::times(reference),
-        flat::area_record::path_bytes(reference),
+        flat_records::area_record::subspace(reference),
+        flat_records::area_record::times(reference),
+        flat_records::area_record::path_bytes(reference),
         &of.lengths,
         of.count,
     );
@@ -72,14 +72,14 @@ pub extern "C" fn jakepuro_area_area_decode<'a>(
 ) -> u8
     ensures { λ r. ⌜ Stores areaFlat (readAgainstArea canonic (areaIn (now (reference .entry))) (drop start (now (message .entry)))) (now (area .entry)) (now (area .exit)) r (now (consumed .exit)) ⌝ }
 {
-    let of = flat::area_record::path_sizes(reference);
+    let of = flat_records::area_record::path_sizes(reference);
     let read = area_area::parts::relative_decode(
         message,
         start,
         canonic,
-        flat::area_record::subspace(reference),
-        flat::area_record::times(reference),
-        flat::area_record::path_bytes(reference),
+        flat_records::area_record::subspace(reference),
+        flat_records::area_record::times(reference),
+        flat_records::area_record::path_bytes(reference),
         &of.lengths,
         of.count,
     );

@@ -19,20 +19,20 @@ pub extern "C" fn jakepuro_entry_area_encode<'a>(
 ) -> u8
     ensures { λ r. ⌜ Encodes (againstNamespaceArea (now (namespace .entry)) (areaIn (now (area .entry)))) (entryIn (now (entry .entry))) (now (buffer .entry)) (now (buffer .exit)) r (now (written .exit)) ⌝ }
 {
-    let fields = flat::entry_record::fields(entry);
-    let sizes = flat::entry_record::path_sizes(entry);
+    let fields = flat_records::entry_record::fields(entry);
+    let sizes = flat_records::entry_record::path_sizes(entry);
     let space = *namespace;
-    let of = flat::area_record::path_sizes(area);
+    let of = flat_records::area_record::path_sizes(area);
     let answer = entry_area::parts::relative_encode(
         buffer,
         fields,
-        flat::entry_record::path_bytes(entry),
+        flat_records::entry_record::path_bytes(entry),
         &sizes.lengths,
         sizes.count,
         space,
-        flat::area_record::subspace(area),
-        flat::area_record::times(area),
-        flat::area_record::path_bytes(area),
+        flat_records::area_record::subspace(area),
+        flat_records::area_record::times(area),
+        flat_records::area_record::path_bytes(area),
         &of.lengths,
         of.count,
     );
@@ -49,19 +49,19 @@ pub extern "C" fn jakepuro_entry_area_len_of_encoding<'a>(
 ) -> u8
     ensures { λ r. ⌜ Told (lengthAnswer (againstNamespaceArea (now (namespace .entry)) (areaIn (now (area .entry)))) (entryIn (now (entry .entry)))) r (now (length .exit)) ⌝ }
 {
-    let fields = flat::entry_record::fields(entry);
-    let sizes = flat::entry_record::path_sizes(entry);
+    let fields = flat_records::entry_record::fields(entry);
+    let sizes = flat_records::entry_record::path_sizes(entry);
     let space = *namespace;
-    let of = flat::area_record::path_sizes(area);
+    let of = flat_records::area_record::path_sizes(area);
     let answer = entry_area::parts::relative_len_of_encoding(
         fields,
-        flat::entry_record::path_bytes(entry),
+        flat_records::entry_record::path_bytes(entry),
         &sizes.lengths,
         sizes.count,
         space,
-        flat::area_record::subspace(area),
-        flat::area_record::times(area),
-        flat::area_record::path_bytes(area),
+        flat_records::area_record::subspace(area),
+        flat_records::area_record::times(area),
+        flat_records::area_record::path_bytes(area),
         &of.lengths,
         of.count,
     );
@@ -82,15 +82,15 @@ pub extern "C" fn jakepuro_entry_area_decode<'a>(
     ensures { λ r. ⌜ Stores entryFlat (readAgainstNamespaceArea canonic (now (namespace .entry)) (areaIn (now (area .entry))) (drop start (now (message .entry)))) (now (entry .entry)) (now (entry .exit)) r (now (consumed .exit)) ⌝ }
 {
     let space = *namespace;
-    let of = flat::area_record::path_sizes(area);
+    let of = flat_records::area_record::path_sizes(area);
     let read = entry_area::parts::relative_decode(
         message,
         start,
         canonic,
         space,
-        flat::area_record::subspace(area),
-        flat::area_record::times(area),
-        flat::area_record::path_bytes(area),
+        flat_records::area_record::subspace(area),
+        flat_records::area_record::times(area),
+        flat_records::area_record::path_bytes(area),
         &of.lengths,
         of.count,
     );
@@ -109,18 +109,18 @@ pub extern "C" fn jakepuro_entry_entry_encode<'a>(
 ) -> u8
     ensures { λ r. ⌜ Encodes (againstEntry (entryIn (now (reference .entry)))) (entryIn (now (entry .entry))) (now (buffer .entry)) (now (buffer .exit)) r (now (written .exit)) ⌝ }
 {
-    let fields = flat::entry_record::fields(entry);
-    let sizes = flat::entry_record::path_sizes(entry);
-    let of = flat::entry_record::fields(reference);
-    let of_sizes = flat::entry_record::path_sizes(reference);
+    let fields = flat_records::entry_record::fields(entry);
+    let sizes = flat_records::entry_record::path_sizes(entry);
+    let of = flat_records::entry_record::fields(reference);
+    let of_sizes = flat_records::entry_record::path_sizes(reference);
     let answer = entry_entry::parts::relative_encode(
         buffer,
         fields,
-        flat::entry_record::path_bytes(entry),
+        flat_records::entry_record::path_bytes(entry),
         &sizes.lengths,
         sizes.count,
         of,
-        flat::entry_record::path_bytes(reference),
+        flat_records::entry_record::path_bytes(reference),
         &of_sizes.lengths,
         of_sizes.count,
     );
@@ -136,17 +136,17 @@ pub extern "C" fn jakepuro_entry_entry_len_of_encoding<'a>(
 ) -> u8
     ensures { λ r. ⌜ Told (lengthAnswer (againstEntry (entryIn (now (reference .entry)))) (entryIn (now (entry .entry)))) r (now (length .exit)) ⌝ }
 {
-    let fields = flat::entry_record::fields(entry);
-    let sizes = flat::entry_record::path_sizes(entry);
-    let of = flat::entry_record::fields(reference);
-    let of_sizes = flat::entry_record::path_sizes(reference);
+    let fields = flat_records::entry_record::fields(entry);
+    let sizes = flat_records::entry_record::path_sizes(entry);
+    let of = flat_records::entry_record::fields(reference);
+    let of_sizes = flat_records::entry_record::path_sizes(reference);
     let answer = entry_entry::parts::relative_len_of_encoding(
         fields,
-        flat::entry_record::path_bytes(entry),
+        flat_records::entry_record::path_bytes(entry),
         &sizes.lengths,
         sizes.count,
         of,
-        flat::entry_record::path_bytes(reference),
+        flat_records::entry_record::path_bytes(reference),
         &of_sizes.lengths,
         of_sizes.count,
     );
@@ -164,13 +164,13 @@ pub extern "C" fn jakepuro_entry_entry_decode<'a>(
 ) -> u8
     ensures { λ r. ⌜ Stores entryFlat (readAgainstEntry (entryIn (now (reference .entry))) (drop start (now (message .entry)))) (now (entry .entry)) (now (entry .exit)) r (now (consumed .exit)) ⌝ }
 {
-    let of = flat::entry_record::fields(reference);
-    let of_sizes = flat::entry_record::path_sizes(reference);
+    let of = flat_records::entry_record::fields(reference);
+    let of_sizes = flat_records::entry_record::path_sizes(reference);
     let read = entry_entry::parts::relative_decode(
         message,
         start,
         of,
-        flat::entry_record::path_bytes(reference),
+        flat_records::entry_record::path_bytes(reference),
         &of_sizes.lengths,
         of_sizes.count,
     );

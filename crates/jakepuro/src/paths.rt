@@ -16,8 +16,8 @@ pub extern "C" fn jakepuro_path_encode(
 ) -> u8
     ensures { λ r. ⌜ Encodes (plainPath) (pathIn (now (path .entry))) (now (buffer .entry)) (now (buffer .exit)) r (now (written .exit)) ⌝ }
 {
-    let sizes = flat::path_record::sizes(path);
-    let bytes = flat::path_record::bytes(path);
+    let sizes = flat_records::path_record::sizes(path);
+    let bytes = flat_records::path_record::bytes(path);
     let answer = path_codec::parts::encode(buffer, bytes, &sizes.lengths, sizes.count);
     calls::tell_length(answer, written)
 }
@@ -27,8 +27,8 @@ pub extern "C" fn jakepuro_path_encode(
 pub extern "C" fn jakepuro_path_len_of_encoding(path: &[u8; 641], length: &mut usize) -> u8
     ensures { λ r. ⌜ Told (lengthAnswer (plainPath) (pathIn (now (path .entry)))) r (now (length .exit)) ⌝ }
 {
-    let sizes = flat::path_record::sizes(path);
-    let bytes = flat::path_record::bytes(path);
+    let sizes = flat_records::path_record::sizes(path);
+    let bytes = flat_records::path_record::bytes(path);
     let answer = path_codec::parts::len_of_encoding(bytes, &sizes.lengths, sizes.count);
     calls::tell_length(answer, length)
 }
@@ -60,14 +60,14 @@ pub extern "C" fn jakepuro_path_path_encode<'a>(
 ) -> u8
     ensures { λ r. ⌜ Encodes (againstPath (pathIn (now (reference .entry)))) (pathIn (now (path .entry))) (now (buffer .entry)) (now (buffer .exit)) r (now (written .exit)) ⌝ }
 {
-    let sizes = flat::path_record::sizes(path);
-    let of = flat::path_record::sizes(reference);
+    let sizes = flat_records::path_record::sizes(path);
+    let of = flat_records::path_record::sizes(reference);
     let answer = path_relative_encode::parts::relative_encode(
         buffer,
-        flat::path_record::bytes(path),
+        flat_records::path_record::bytes(path),
         &sizes.lengths,
         sizes.count,
-        flat::path_record::bytes(reference),
+        flat_records::path_record::bytes(reference),
         &of.lengths,
         of.count,
     );
@@ -83,13 +83,13 @@ pub extern "C" fn jakepuro_path_path_len_of_encoding<'a>(
 ) -> u8
     ensures { λ r. ⌜ Told (lengthAnswer (againstPath (pathIn (now (reference .entry)))) (pathIn (now (path .entry)))) r (now (length .exit)) ⌝ }
 {
-    let sizes = flat::path_record::sizes(path);
-    let of = flat::path_record::sizes(reference);
+    let sizes = flat_records::path_record::sizes(path);
+    let of = flat_records::path_record::sizes(reference);
     let answer = path_relative_encode::parts::relative_len_of_encoding(
-        flat::path_record::bytes(path),
+        flat_records::path_record::bytes(path),
         &sizes.lengths,
         sizes.count,
-        flat::path_record::bytes(reference),
+        flat_records::path_record::bytes(reference),
         &of.lengths,
         of.count,
     );
@@ -108,8 +108,8 @@ pub extern "C" fn jakepuro_path_path_decode<'a>(
 ) -> u8
     ensures { λ r. ⌜ Stores pathFlat (readAgainstPath canonic (pathIn (now (reference .entry))) (drop start (now (message .entry)))) (now (path .entry)) (now (path .exit)) r (now (consumed .exit)) ⌝ }
 {
-    let of = flat::path_record::sizes(reference);
-    let bytes = flat::path_record::bytes(reference);
+    let of = flat_records::path_record::sizes(reference);
+    let bytes = flat_records::path_record::bytes(reference);
     let read = path_relative_decode::path_decode::relative_decode(
         message,
         start,
@@ -133,14 +133,14 @@ pub extern "C" fn jakepuro_path_extends_encode<'a>(
 ) -> u8
     ensures { λ r. ⌜ Encodes (extendsPath (pathIn (now (extends .entry)))) (pathIn (now (path .entry))) (now (buffer .entry)) (now (buffer .exit)) r (now (written .exit)) ⌝ }
 {
-    let sizes = flat::path_record::sizes(path);
-    let of = flat::path_record::sizes(extends);
+    let sizes = flat_records::path_record::sizes(path);
+    let of = flat_records::path_record::sizes(extends);
     let answer = path_relative_encode::parts::encode_path_extends_path(
         buffer,
-        flat::path_record::bytes(path),
+        flat_records::path_record::bytes(path),
         &sizes.lengths,
         sizes.count,
-        flat::path_record::bytes(extends),
+        flat_records::path_record::bytes(extends),
         &of.lengths,
         of.count,
     );
@@ -156,13 +156,13 @@ pub extern "C" fn jakepuro_path_extends_len_of_encoding<'a>(
 ) -> u8
     ensures { λ r. ⌜ Told (lengthAnswer (extendsPath (pathIn (now (extends .entry)))) (pathIn (now (path .entry)))) r (now (length .exit)) ⌝ }
 {
-    let sizes = flat::path_record::sizes(path);
-    let of = flat::path_record::sizes(extends);
+    let sizes = flat_records::path_record::sizes(path);
+    let of = flat_records::path_record::sizes(extends);
     let answer = path_relative_encode::parts::path_extends_path_encoding_len(
-        flat::path_record::bytes(path),
+        flat_records::path_record::bytes(path),
         &sizes.lengths,
         sizes.count,
-        flat::path_record::bytes(extends),
+        flat_records::path_record::bytes(extends),
         &of.lengths,
         of.count,
     );
@@ -181,8 +181,8 @@ pub extern "C" fn jakepuro_path_extends_decode<'a>(
 ) -> u8
     ensures { λ r. ⌜ Stores pathFlat (readExtendsPath canonic (pathIn (now (extends .entry))) (drop start (now (message .entry)))) (now (path .entry)) (now (path .exit)) r (now (consumed .exit)) ⌝ }
 {
-    let of = flat::path_record::sizes(extends);
-    let bytes = flat::path_record::bytes(extends);
+    let of = flat_records::path_record::sizes(extends);
+    let bytes = flat_records::path_record::bytes(extends);
     let read = path_relative_decode::path_decode::decode_path_extends_path(
         message,
         start,

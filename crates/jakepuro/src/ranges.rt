@@ -16,30 +16,30 @@ pub extern "C" fn jakepuro_range3d_range3d_encode<'a>(
 ) -> u8
     ensures { λ r. ⌜ Encodes (againstRange (rangeIn (now (reference .entry)))) (rangeIn (now (range .entry))) (now (buffer .entry)) (now (buffer .exit)) r (now (written .exit)) ⌝ }
 {
-    let start = flat::range_record::start_sizes(range);
-    let end = flat::range_record::end_sizes(range);
-    let of_start = flat::range_record::start_sizes(reference);
-    let of_end = flat::range_record::end_sizes(reference);
+    let start = flat_records::range_record::start_sizes(range);
+    let end = flat_records::range_record::end_sizes(range);
+    let of_start = flat_records::range_record::start_sizes(reference);
+    let of_end = flat_records::range_record::end_sizes(reference);
     let answer = range3d_range3d::parts::relative_encode(
         buffer,
-        flat::range_record::subspaces(range),
-        flat::range_record::start_bytes(range),
+        flat_records::range_record::subspaces(range),
+        flat_records::range_record::start_bytes(range),
         &start.lengths,
         start.count,
-        flat::range_record::end_open(range),
-        flat::range_record::end_bytes(range),
+        flat_records::range_record::end_open(range),
+        flat_records::range_record::end_bytes(range),
         &end.lengths,
         end.count,
-        flat::range_record::times(range),
-        flat::range_record::subspaces(reference),
-        flat::range_record::start_bytes(reference),
+        flat_records::range_record::times(range),
+        flat_records::range_record::subspaces(reference),
+        flat_records::range_record::start_bytes(reference),
         &of_start.lengths,
         of_start.count,
-        flat::range_record::end_open(reference),
-        flat::range_record::end_bytes(reference),
+        flat_records::range_record::end_open(reference),
+        flat_records::range_record::end_bytes(reference),
         &of_end.lengths,
         of_end.count,
-        flat::range_record::times(reference),
+        flat_records::range_record::times(reference),
     );
     calls::tell_length(answer, written)
 }
@@ -53,29 +53,29 @@ pub extern "C" fn jakepuro_range3d_range3d_len_of_encoding<'a>(
 ) -> u8
     ensures { λ r. ⌜ Told (lengthAnswer (againstRange (rangeIn (now (reference .entry)))) (rangeIn (now (range .entry)))) r (now (length .exit)) ⌝ }
 {
-    let start = flat::range_record::start_sizes(range);
-    let end = flat::range_record::end_sizes(range);
-    let of_start = flat::range_record::start_sizes(reference);
-    let of_end = flat::range_record::end_sizes(reference);
+    let start = flat_records::range_record::start_sizes(range);
+    let end = flat_records::range_record::end_sizes(range);
+    let of_start = flat_records::range_record::start_sizes(reference);
+    let of_end = flat_records::range_record::end_sizes(reference);
     let answer = range3d_range3d::parts::relative_len_of_encoding(
-        flat::range_record::subspaces(range),
-        flat::range_record::start_bytes(range),
+        flat_records::range_record::subspaces(range),
+        flat_records::range_record::start_bytes(range),
         &start.lengths,
         start.count,
-        flat::range_record::end_open(range),
-        flat::range_record::end_bytes(range),
+        flat_records::range_record::end_open(range),
+        flat_records::range_record::end_bytes(range),
         &end.lengths,
         end.count,
-        flat::range_record::times(range),
-        flat::range_record::subspaces(reference),
-        flat::range_record::start_bytes(reference),
+        flat_records::range_record::times(range),
+        flat_records::range_record::subspaces(reference),
+        flat_records::range_record::start_bytes(reference),
         &of_start.lengths,
         of_start.count,
-        flat::range_record::end_open(reference),
-        flat::range_record::end_bytes(reference),
+        flat_records::range_record::end_open(reference),
+        flat_records::range_record::end_bytes(reference),
         &of_end.lengths,
         of_end.count,
-        flat::range_record::times(reference),
+        flat_records::range_record::times(reference),
     );
     calls::tell_length(answer, length)
 }
@@ -91,20 +91,20 @@ pub extern "C" fn jakepuro_range3d_range3d_decode<'a>(
 ) -> u8
     ensures { λ r. ⌜ Stores rangeFlat (readAgainstRange (rangeIn (now (reference .entry))) (drop start (now (message .entry)))) (now (range .entry)) (now (range .exit)) r (now (consumed .exit)) ⌝ }
 {
-    let of_start = flat::range_record::start_sizes(reference);
-    let of_end = flat::range_record::end_sizes(reference);
+    let of_start = flat_records::range_record::start_sizes(reference);
+    let of_end = flat_records::range_record::end_sizes(reference);
     let read = range3d_range3d::parts::relative_decode(
         message,
         start,
-        flat::range_record::subspaces(reference),
-        flat::range_record::start_bytes(reference),
+        flat_records::range_record::subspaces(reference),
+        flat_records::range_record::start_bytes(reference),
         &of_start.lengths,
         of_start.count,
-        flat::range_record::end_open(reference),
-        flat::range_record::end_bytes(reference),
+        flat_records::range_record::end_open(reference),
+        flat_records::range_record::end_bytes(reference),
         &of_end.lengths,
         of_end.count,
-        flat::range_record::times(reference),
+        flat_records::range_record::times(reference),
     );
     let answer = read.answer;
     let value = read.range;

@@ -1,0 +1,13 @@
+use Rattle.codec.proofs.Lending.{to-end}
+use Rattle.flat.specs.RangeRecord.{rangeIn}
+use Rattle.flat.specs.PathRecord.{pathIn}
+use Rattle.codec.proofs.Prelude.{needs}
+use Rattle.flat_records.proofs.range_record.end_sizes_in.Statement.{statement}
+use Rattle.flat_records.proofs.range_record.end_sizes_in.Tie as tie
+
+returns : tie.Need-returns
+unfolding rangeIn pathIn
+returns c = rw to-end at (c .sizes-in .ensures)
+
+pub end-sizes-in-spec : {M : Type 1} → statement M
+end-sizes-in-spec = tie.close (tie.spec (λ c. search needs) (λ c. search needs) (λ c. search needs) (λ c κs. search needs) returns)

@@ -1,0 +1,41 @@
+use Rattle.codec.proofs.Prelude.{ap, _∙_, [], _∷_, _++_, append-assoc, ℕ, arith, now, length-set, needs}
+use Rattle.path.specs.Record.{pathOf}
+use Rattle.flat.specs.PathRecord.{pathFlat}
+use Rattle.flat.proofs.Puts.{puts-long, puts-tail, puts-byte, puts-as, room-after}
+use Rattle.flat_records.proofs.range_record.put_paths.Statement.{statement}
+use Rattle.flat_records.proofs.range_record.put_paths.Tie as tie
+
+sub-put-path : tie.Need-sub-put-path
+sub-put-path c = simp length-set (omega arith)
+
+part-put-path-start : tie.Need-part-put-path-start
+part-put-path-start c = simp length-set (omega arith)
+
+put-path-requires-2 : tie.Need-put-path-requires-2
+put-path-requires-2 c κs =
+    let after-put-path : tie.After-put-path = search in
+    let s : tie.Start = search in
+    (room-after (puts-byte (after-put-path .put-path .ensures) (c .before .bit .result) (omega (arith, s .pre))) 641 (s .pre .0), s .pre .2)
+
+returns : tie.Need-returns
+returns c =
+    let after-bit : tie.After-bit = search in
+    let after-put-path : tie.After-put-path = search in
+    let s : tie.Start = search in
+    let start = pathOf (now (s .args .start-bytes)) (now (s .args .start-lengths)) (s .args .start-count) in
+    let end = pathOf (now (s .args .end-bytes)) (now (s .args .end-lengths)) (s .args .end-count) in
+    let mark = puts-byte (after-put-path .put-path .ensures) (after-bit .bit .result) (omega (arith, s .pre)) in
+    puts-as (puts-tail mark (c .before .before .put-path2 .ensures))
+    (append-assoc (pathFlat start) (after-bit .bit .result ∷ []) (pathFlat end) ∙ ap (λ (b : ℕ). pathFlat start ++ (b ∷ pathFlat end)) (after-bit .bit .ensures .0))
+
+same-length : tie.Need-same-length
+same-length c =
+    let start : tie.Start = search in
+    puts-long (returns c) (start .pre .0)
+
+pub put-paths-spec : {M : Type 1} → statement M
+put-paths-spec =
+    tie.close
+    (tie.spec
+    (λ c. search needs) (λ c. search needs) (λ c κs. search needs) (λ c κs. search needs) (λ c. search needs) sub-put-path
+    part-put-path-start (λ c. search needs) put-path-requires-2 same-length returns)

@@ -1,0 +1,13 @@
+use Rattle.codec.proofs.Lending.{to-end}
+use Rattle.flat.specs.RangeRecord.{rangeIn}
+use Rattle.codec.proofs.Prelude.{needs}
+use Rattle.flat_records.proofs.range_record.start_sizes_in.Statement.{statement}
+use Rattle.flat_records.proofs.range_record.start_sizes_in.Tie as tie
+
+returns : tie.Need-returns
+unfolding rangeIn
+returns c = rw (to-end, c .before .before .marked .ensures) at (c .sizes-in .ensures)
+
+pub start-sizes-in-spec : {M : Type 1} → statement M
+start-sizes-in-spec =
+    tie.close (tie.spec (λ c κs. search needs) (λ c. search needs) (λ c. search needs) (λ c. search needs) (λ c κs. search needs) returns)

@@ -1,0 +1,132 @@
+// An area: the mark of any subspace, the id, the path, the times.
+ghost use mathlib.Core.Path.{_≡_};
+ghost use Prim.Native.Nat.{_≤_};
+ghost use lib.ListN.{length};
+ghost use Rattle.path.specs.Record.{pathOf};
+ghost use Rattle.grouping.specs.Record.{areaWith};
+ghost use Rattle.flat.specs.PathRecord.{sizesOf, PathLong};
+ghost use Rattle.flat.specs.AreaRecord.{subspaceFlat, areaMarked, areaIn, areaFlat};
+ghost use Rattle.flat.specs.Puts.{Puts};
+use flat::PathSizes;
+use grouping::Area;
+use grouping::AreaSubspace;
+use grouping::TimeRange;
+
+// How many bytes an area has, and where its parts start.
+pub const SIZE: usize = 691;
+
+const ANY: usize = 0;
+
+const ID: usize = 1;
+
+const PATH: usize = 33;
+
+const TIMES: usize = 674;
+
+fn marked(flat: &[u8]) -> bool
+    requires { ⌜ 691 ≤ length (now flat) ⌝ }
+    ensures { λ r. ⌜ r ≡ areaMarked (now (flat .entry)) ⌝ }
+{
+    if 1 < flat[ANY] {
+        return false;
+    }
+    crate::times::marked(&flat[TIMES..])
+}
+
+fn subspace_in(flat: &[u8]) -> AreaSubspace
+    requires { ⌜ 691 ≤ length (now flat) ⌝ }
+    ensures { λ r. ⌜ r ≡ areaIn (now (flat .entry)) .subspace ⌝ }
+{
+    let read = codec::decode_id(flat, ID);
+    let id = read.id;
+    AreaSubspace {
+        any: flat[ANY] == 1,
+        id: id,
+    }
+}
+
+fn times_in(flat: &[u8]) -> TimeRange
+    requires { ⌜ 691 ≤ length (now flat) ⌝ }
+    ensures { λ r. ⌜ r ≡ areaIn (now (flat .entry)) .times ⌝ }
+{
+    crate::times::times_in(&flat[TIMES..])
+}
+
+// A mark that is none shows as a count that no path has.
+fn path_sizes_in(flat: &[u8]) -> PathSizes
+    requires { ⌜ 691 ≤ length (now flat) ⌝ }
+    ensures { λ r. ⌜ r ≡ sizesOf (areaIn (now (flat .entry)) .path) ⌝ }
+{
+    let marked = marked(flat);
+    crate::path_record::sizes_in(&flat[PATH..], marked)
+}
+
+fn path_bytes_in<'a>(flat: &'a [u8]) -> &'a [u8]
+    requires { ⌜ 691 ≤ length (now flat) ⌝ }
+    ensures { λ r. ⌜ now r ≡ areaIn (now (flat .entry)) .path .bytes ⌝ }
+{
+    crate::path_record::bytes_in(&flat[PATH..])
+}
+
+fn put_subspace(flat: &mut [u8], subspace: AreaSubspace)
+    requires { ⌜ 33 ≤ length (now flat) ⌝ }
+    ensures { λ _. ⌜ Puts 33 (subspaceFlat subspace) (now (flat .entry)) (now (flat .exit)) ⌝ }
+{
+    let id = subspace.id;
+    flat[ANY] = codec::bit(subspace.any);
+    codec::put_bytes(&mut flat[ID..], &id);
+}
+
+// Writes an area from the first byte on.
+fn put_area<'a>(
+    flat: &mut [u8],
+    subspace: AreaSubspace,
+    times: TimeRange,
+    bytes: &'a [u8],
+    lengths: &'a [usize],
+    count: usize,
+)
+    requires { ⌜ (691 ≤ length (now flat)) × PathLong (now bytes) (now lengths) ⌝ }
+    ensures { λ _. ⌜ Puts 691 (areaFlat (areaWith subspace (pathOf (now (bytes .entry)) (now (lengths .entry)) count) times)) (now (flat .entry)) (now (flat .exit)) ⌝ }
+{
+    put_subspace(flat, subspace);
+    crate::path_record::put_path(&mut flat[PATH..], bytes, lengths, count);
+    crate::times::put_times(&mut flat[TIMES..], times);
+}
+
+pub fn subspace(flat: &[u8; SIZE]) -> AreaSubspace
+    ensures { λ r. ⌜ r ≡ areaIn (now (flat .entry)) .subspace ⌝ }
+{
+    subspace_in(flat)
+}
+
+pub fn times(flat: &[u8; SIZE]) -> TimeRange
+    ensures { λ r. ⌜ r ≡ areaIn (now (flat .entry)) .times ⌝ }
+{
+    times_in(flat)
+}
+
+pub fn path_sizes(flat: &[u8; SIZE]) -> PathSizes
+    ensures { λ r. ⌜ r ≡ sizesOf (areaIn (now (flat .entry)) .path) ⌝ }
+{
+    path_sizes_in(flat)
+}
+
+pub fn path_bytes<'a>(flat: &'a [u8; SIZE]) -> &'a [u8]
+    ensures { λ r. ⌜ now r ≡ areaIn (now (flat .entry)) .path .bytes ⌝ }
+{
+    path_bytes_in(flat)
+}
+
+pub fn store(flat: &mut [u8; SIZE], area: Area)
+    ensures { λ _. ⌜ now (flat .exit) ≡ areaFlat area ⌝ }
+{
+    put_area(
+        flat,
+        area.subspace,
+        area.times,
+        &area.path.bytes,
+        &area.path.lengths,
+        area.path.count,
+    );
+}

@@ -1,0 +1,126 @@
+// An entry: namespace id, subspace id, path, timestamp, payload length, payload digest.
+ghost use mathlib.Core.Path.{_≡_};
+ghost use Prim.Native.Nat.{_≤_};
+ghost use lib.ListN.{length};
+ghost use Rattle.path.specs.Record.{pathOf};
+ghost use Rattle.entry.specs.Record.{fieldsOf, entryWith};
+ghost use Rattle.flat.specs.PathRecord.{PathLong, sizesOf};
+ghost use Rattle.flat.specs.EntryRecord.{idsFlat, endFlat, entryIn, entryFlat};
+ghost use Rattle.flat.specs.Puts.{Puts};
+use entry::Entry;
+use entry::EntryFields;
+use flat::PathSizes;
+
+// How many bytes an entry has, and where its parts start.
+pub const SIZE: usize = 753;
+
+const NAMESPACE: usize = 0;
+
+const SUBSPACE: usize = 32;
+
+const PATH: usize = 64;
+
+const TIMESTAMP: usize = 705;
+
+const PAYLOAD_LENGTH: usize = 713;
+
+const DIGEST: usize = 721;
+
+// What the entry that starts with the first byte has beside its path.
+fn fields_in(flat: &[u8]) -> EntryFields
+    requires { ⌜ 753 ≤ length (now flat) ⌝ }
+    ensures { λ r. ⌜ r ≡ fieldsOf (entryIn (now (flat .entry))) ⌝ }
+{
+    let namespace = codec::decode_id(flat, NAMESPACE);
+    let subspace = codec::decode_id(flat, SUBSPACE);
+    let digest = codec::decode_id(flat, DIGEST);
+    let namespace_id = namespace.id;
+    let subspace_id = subspace.id;
+    let payload_digest = digest.id;
+    EntryFields {
+        namespace_id: namespace_id,
+        subspace_id: subspace_id,
+        timestamp: crate::number_at(flat, TIMESTAMP),
+        payload_length: crate::number_at(flat, PAYLOAD_LENGTH),
+        payload_digest: payload_digest,
+    }
+}
+
+fn path_sizes_in(flat: &[u8]) -> PathSizes
+    requires { ⌜ 753 ≤ length (now flat) ⌝ }
+    ensures { λ r. ⌜ r ≡ sizesOf (entryIn (now (flat .entry)) .path) ⌝ }
+{
+    crate::path_record::sizes_in(&flat[PATH..], true)
+}
+
+fn path_bytes_in<'a>(flat: &'a [u8]) -> &'a [u8]
+    requires { ⌜ 753 ≤ length (now flat) ⌝ }
+    ensures { λ r. ⌜ now r ≡ entryIn (now (flat .entry)) .path .bytes ⌝ }
+{
+    crate::path_record::bytes_in(&flat[PATH..])
+}
+
+fn put_ids(flat: &mut [u8], fields: EntryFields)
+    requires { ⌜ 64 ≤ length (now flat) ⌝ }
+    ensures { λ _. ⌜ Puts 64 (idsFlat fields) (now (flat .entry)) (now (flat .exit)) ⌝ }
+{
+    codec::put_bytes(flat, &fields.namespace_id);
+    codec::put_bytes(&mut flat[SUBSPACE..], &fields.subspace_id);
+}
+
+// What follows the path.
+fn put_end(flat: &mut [u8], fields: EntryFields)
+    requires { ⌜ 48 ≤ length (now flat) ⌝ }
+    ensures { λ _. ⌜ Puts 48 (endFlat fields) (now (flat .entry)) (now (flat .exit)) ⌝ }
+{
+    compact_u64::put_big_endian(flat, 8, fields.timestamp);
+    compact_u64::put_big_endian(&mut flat[8..], 8, fields.payload_length);
+    codec::put_bytes(&mut flat[16..], &fields.payload_digest);
+}
+
+// Writes an entry from the first byte on.
+fn put_entry<'a>(
+    flat: &mut [u8],
+    fields: EntryFields,
+    bytes: &'a [u8],
+    lengths: &'a [usize],
+    count: usize,
+)
+    requires { ⌜ (753 ≤ length (now flat)) × PathLong (now bytes) (now lengths) ⌝ }
+    ensures { λ _. ⌜ Puts 753 (entryFlat (entryWith fields (pathOf (now (bytes .entry)) (now (lengths .entry)) count))) (now (flat .entry)) (now (flat .exit)) ⌝ }
+{
+    put_ids(flat, fields);
+    crate::path_record::put_path(&mut flat[PATH..], bytes, lengths, count);
+    put_end(&mut flat[TIMESTAMP..], fields);
+}
+
+pub fn fields(flat: &[u8; SIZE]) -> EntryFields
+    ensures { λ r. ⌜ r ≡ fieldsOf (entryIn (now (flat .entry))) ⌝ }
+{
+    fields_in(flat)
+}
+
+pub fn path_sizes(flat: &[u8; SIZE]) -> PathSizes
+    ensures { λ r. ⌜ r ≡ sizesOf (entryIn (now (flat .entry)) .path) ⌝ }
+{
+    path_sizes_in(flat)
+}
+
+pub fn path_bytes<'a>(flat: &'a [u8; SIZE]) -> &'a [u8]
+    ensures { λ r. ⌜ now r ≡ entryIn (now (flat .entry)) .path .bytes ⌝ }
+{
+    path_bytes_in(flat)
+}
+
+pub fn store(flat: &mut [u8; SIZE], entry: Entry)
+    ensures { λ _. ⌜ now (flat .exit) ≡ entryFlat entry ⌝ }
+{
+    let fields = entry.fields();
+    put_entry(
+        flat,
+        fields,
+        &entry.path.bytes,
+        &entry.path.lengths,
+        entry.path.count,
+    );
+}

@@ -1,0 +1,64 @@
+// A range of times: its start, the mark of an open end, its end, which is zero beside the mark.
+ghost use mathlib.Core.Path.{_≡_};
+ghost use Prim.Native.Nat.{_≤_};
+ghost use lib.ListN.{length};
+ghost use Rattle.flat.specs.Times.{endTime, timesMarked, timesIn, timesFlat};
+ghost use Rattle.flat.specs.Puts.{Puts};
+use grouping::RangeEnd;
+use grouping::TimeRange;
+
+// Where the mark and the end start.
+const MARK: usize = 8;
+
+const END: usize = 9;
+
+// Whether the bytes from the first on are a range's: the mark is 0 or 1, and the end beside 1 is zero.
+pub(crate) fn marked(flat: &[u8]) -> bool
+    requires { ⌜ 17 ≤ length (now flat) ⌝ }
+    ensures { λ r. ⌜ r ≡ timesMarked (now (flat .entry)) ⌝ }
+{
+    if flat[MARK] == 0 {
+        return true;
+    }
+    if flat[MARK] != 1 {
+        return false;
+    }
+    crate::number_at(flat, END) == 0
+}
+
+pub(crate) fn times_in(flat: &[u8]) -> TimeRange
+    requires { ⌜ 17 ≤ length (now flat) ⌝ }
+    ensures { λ r. ⌜ r ≡ timesIn (now (flat .entry)) ⌝ }
+{
+    let start = crate::number_at(flat, 0);
+    if flat[MARK] == 1 {
+        return TimeRange {
+            start: start,
+            end: RangeEnd::Open,
+        };
+    }
+    TimeRange {
+        start: start,
+        end: RangeEnd::Closed(crate::number_at(flat, END)),
+    }
+}
+
+// An end's time; beside the mark it is zero.
+fn end_time(end: RangeEnd) -> u64
+    ensures { λ r. ⌜ r ≡ endTime end ⌝ }
+{
+    match end {
+        RangeEnd::Closed(time) => time,
+        RangeEnd::Open => 0,
+    }
+}
+
+pub(crate) fn put_times(flat: &mut [u8], times: TimeRange)
+    requires { ⌜ 17 ≤ length (now flat) ⌝ }
+    ensures { λ _. ⌜ Puts 17 (timesFlat times) (now (flat .entry)) (now (flat .exit)) ⌝ }
+{
+    let end = times.end;
+    compact_u64::put_big_endian(flat, 8, times.start);
+    flat[MARK] = codec::bit(end.is_open());
+    compact_u64::put_big_endian(&mut flat[END..], 8, end_time(end));
+}
