@@ -1,5 +1,5 @@
 -- Laws of writing into a lent buffer, for the proofs of writers: the exits of a writer, and one writing after another.
-use Rattle.codec.proofs.Prelude.{_≡_, refl, sym, ap, _∙_, List, [], _∷_, _++_, append-assoc, append-nil, Bool, true, false, cond, ℕ, suc, _+_, _-_, _≤_, _<_, arith, leb, le-leb, lt-leb, leb-true, putMid, add-one, length, take, drop, getD, set, length-append, length-drop, drop-of-length-le, take-append-drop, take-all, take-at, take-suc, drop-at, drop-cons, drop-drop, set-at, length-take-le, take-append-add, drop-append-add, ⊎-elim, OneOf}
+use Rattle.codec.proofs.Prelude.{_≡_, refl, sym, ap, _∙_, List, [], _∷_, _++_, append-assoc, append-nil, Bool, true, false, cond, ℕ, suc, _+_, _-_, _≤_, _<_, arith, leb, le-leb, lt-leb, leb-true, putMid, add-one, length, take, drop, getD, set, length-set, length-append, length-drop, drop-of-length-le, take-append-drop, take-all, take-at, take-suc, drop-at, drop-cons, drop-drop, set-at, length-take-le, take-append-add, drop-append-add, ⊎-elim, OneOf}
 use denote.Enum.Declared as declared
 use Rattle.codec.specs.declared.Encoded.{Encoded}
 use Rattle.codec.specs.declared.Encoded.the-variants as encoded
@@ -160,9 +160,28 @@ id-put s h =
     let long : length (take 32 s) ≡ 32 = length-take-le 32 s h in
     put-over (take 32 s) zeroId (omega (arith, long)) ∙ rw (long, append-nil (take 32 s))
 
--- a copy of s over the start of d, one element more
-pub copy-next : (d s : List ℕ) (j : ℕ) → j < length d → j < length s → set (take j s ++ drop j d) j (getD s j 0) ≡ take (j + 1) s ++ drop (j + 1) d
-copy-next d s j hd hs =
-    let l : length (take j s) ≡ j = length-take-le j s (omega arith) in
-    rw (drop-cons d j 0 hd, set-at (take j s) (getD d j 0) (drop (suc j) d) (getD s j 0) j l, add-one j, take-suc s j 0 hs)
-    (sym (append-assoc (take j s) (getD s j 0 ∷ []) (drop (suc j) d)))
+-- ---- a copy of s over the start of d, in l after i elements
+pub record Copied (d s : List ℕ) (i : ℕ) (l : List ℕ) : Type 0 where
+  pub within : i ≤ length s
+  pub long : length l ≡ length d
+  pub same : l ≡ take i s ++ drop i d
+
+pub copied-none : (d s : List ℕ) → Copied d s 0 d
+copied-none d s = record { within = omega arith; long = refl; same = refl }
+
+module _ {d s l : List ℕ} {i : ℕ} (c : Copied d s i l) where
+  pub copied-next : i < length s → i < length d → Copied d s (i + 1) (set l i (getD s i 0))
+  copied-next hs hd =
+      let e : length (take i s) ≡ i = length-take-le i s (omega arith) in
+      record {
+        within = omega arith;
+        long = simp length-set (c .long);
+        same =
+            rw (c .same, drop-cons d i 0 hd, set-at (take i s) (getD d i 0) (drop (suc i) d) (getD s i 0) i e, add-one i, take-suc s i 0 hs)
+            (sym (append-assoc (take i s) (getD s i 0 ∷ []) (drop (suc i) d)));
+      }
+
+  pub copied-all : length s ≤ i → l ≡ s ++ drop (length s) d
+  copied-all h =
+      let e : i ≡ length s = omega arith in
+      c .same ∙ rw (e, take-all (length s) s (omega arith))

@@ -22,6 +22,24 @@ sum-next s i h = rw (add-one, drop-cons s i 0)
 pub sum-end : (s : List ℕ) (i : ℕ) → length s ≤ i → sumOf (drop i s) ≡ 0
 sum-end s i h = rw drop-of-length-le
 
+-- the sum of s, of which t is that of the first i
+pub record Summed (s : List ℕ) (t i : ℕ) : Type 0 where
+  pub within : i ≤ length s
+  pub rest : t + sumOf (drop i s) ≡ sumOf s
+
+pub summed-none : (s : List ℕ) → Summed s 0 0
+summed-none s = record { within = omega arith; rest = omega arith }
+
+module _ {s : List ℕ} {t i : ℕ} (m : Summed s t i) where
+  pub summed-next : i < length s → Summed s (t + getD s i 0) (i + 1)
+  summed-next h = record { within = omega arith; rest = omega (arith, m .rest, sum-next s i h) }
+
+  pub summed-fits : i < length s → t + getD s i 0 ≤ sumOf s
+  summed-fits h = omega (arith, m .rest, sum-next s i h)
+
+  pub summed-all : length s ≤ i → t ≡ sumOf s
+  summed-all h = omega (arith, m .rest, sum-end s i h)
+
 pub bounded-sum : (m : ℕ) (l : List ℕ) → allAtMost m l ≡ true → sumOf l ≤ length l * m
 bounded-sum m [] h = omega arith
 bounded-sum m (x ∷ l) h =

@@ -1,3 +1,4 @@
+-- The invariant: what is kept of the input fits, and both buffers keep their lengths.
 use Rattle.codec.proofs.Prelude.{_≤_, _≡_, refl, _∙_, arith, length, needs}
 use Rattle.area_listing.proofs.run.Statement.{statement}
 use Rattle.area_listing.proofs.run.Tie as tie

@@ -1,3 +1,4 @@
+-- The invariant: both are as long, and the same if what follows the first i bytes of each is.
 use Rattle.codec.proofs.Prelude.{_-_, _≤_, _≡_, refl, sym, ap, _∙_, now, arith, eq-eqb, ne-eqb, length, drop, getD}
 use Rattle.codec.specs.Bytes.{sameBytes}
 use Rattle.codec.proofs.SameBytes.{same-next, same-end, different}

@@ -1,3 +1,4 @@
+-- The invariant: v is the number that the first i bytes make.
 use Rattle.codec.proofs.Prelude.{_-_, _≤_, _<_, _*_, _^_, _≡_, refl, now, arith, needs, length, take, drop, length-drop, getD-drop}
 use Rattle.compact_u64.specs.BigEndian.{valueOf}
 use Rattle.compact_u64.proofs.BigEndian.{value-next, room, room64}

@@ -1,3 +1,4 @@
+-- The invariant: from the i-th byte on the buffer has the number's lowest bytes, and x is what is left of the number.
 use Rattle.codec.proofs.Prelude.{_-_, _+_, _≤_, _^_, _/_, _≡_, refl, sym, _∙_, _++_, arith, now, length, drop, length-set}
 use Rattle.codec.specs.Format.{allowed}
 use Rattle.codec.proofs.Lending.{put-full, put-fits}

@@ -1,3 +1,4 @@
+-- The invariant: the first i bytes were digits, and v is their number, which fits.
 use Prim.Native.Nat.{_+_, _-_, _*_, _^_, _≤_, _<_}
 use mathlib.Core.Path.{_≡_, refl, _∙_, sym}
 use denote.Ref.{now}

@@ -1,3 +1,4 @@
+-- The invariant: the first i bytes were moved, and from the i-th on the buffer is as it was.
 use Rattle.codec.proofs.Prelude.{_-_, _≤_, _≡_, refl, _∙_, sym, now, arith, length, take, drop, length-set}
 use Rattle.codec.specs.Format.{over}
 use Rattle.text.specs.Buffer.{overAt}

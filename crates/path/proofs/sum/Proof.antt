@@ -1,33 +1,19 @@
-use Rattle.codec.proofs.Prelude.{_+_, _≤_, _-_, _≡_, now, arith, length, drop}
-use Rattle.path.specs.Record.{sumOf}
-use Rattle.path.proofs.Lists.{sum-next, sum-end}
+-- The invariant: the running sum is that of the first i.
+use Rattle.codec.proofs.Prelude.{_-_, arith, length}
+use Rattle.path.proofs.Lists.{Summed, summed-none, summed-next, summed-fits, summed-all}
 use Rattle.path.proofs.sum.Statement.{statement}
 use Rattle.path.proofs.sum.Tie as tie
 
 abbrev Inv-loop : tie.InvT-loop
-Inv-loop s t₀ i₀ t i = (i ≤ length s) × (t + sumOf (drop i s) ≡ sumOf s)
+Inv-loop s t₀ i₀ t i = Summed s t i
 
 abbrev μ-loop : tie.MeasureT-loop
 μ-loop s t₀ i₀ t i = length s - i
-
-loop-holds : tie.Need-loop-holds Inv-loop μ-loop
-loop-holds c = (omega arith, omega arith)
-
-add-t : tie.Need-add-t Inv-loop μ-loop
-add-t c =
-    let start : tie.Start Inv-loop μ-loop = search in
-    let s = now (start .args .s) in omega (arith, sum-next s (c .before .before .loop .i) (omega arith))
-
-loop-again : tie.Need-loop-again Inv-loop μ-loop
-loop-again c =
-    let start : tie.Start Inv-loop μ-loop = search in
-    let s = now (start .args .s) in omega (arith, sum-next s (c .before .before .loop .i) (omega arith))
-
-returns : tie.Need-returns Inv-loop μ-loop
-returns c = omega (arith, sum-end (now (c .before .before .args .s)) (c .before .loop .i) (omega arith))
 
 pub sum-spec : {M : Type 1} → statement M
 sum-spec =
     tie.close
     (tie.spec
-    Inv-loop μ-loop loop-holds (λ c. omega arith) (λ c. omega arith) add-t (λ c. omega arith) (λ c. omega arith) loop-again returns)
+    Inv-loop μ-loop (λ c. summed-none _) (λ c. omega arith) (λ c. omega arith)
+    (λ c. omega (arith, summed-fits (c .before .before .loop .inv) (omega arith))) (λ c. omega arith) (λ c. omega arith)
+    (λ c. summed-next (c .before .before .loop .inv) (omega arith)) (λ c. summed-all (c .before .loop .inv) (omega arith)))

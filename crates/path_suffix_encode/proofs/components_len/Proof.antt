@@ -1,3 +1,4 @@
+-- The invariant: t is what the first i components take, each after its length.
 use Rattle.compact_u64.specs.Number.{standaloneBytes}
 use Rattle.codec.proofs.Prelude.{length, drop, getD, _+_, _≤_, _<_, _-_, _≡_, sym, now, arith, needs}
 use Rattle.path_suffix_encode.specs.Lengths.{componentsLength}

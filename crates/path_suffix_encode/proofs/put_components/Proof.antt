@@ -1,3 +1,4 @@
+-- The invariant: the first i components were written before `at`, and writing the others there writes all.
 use Rattle.codec.proofs.Prelude.{_+_, _≤_, _<_, _-_, _≡_, refl, ap, _∙_, sym, _++_, now, arith, needs, length, take, drop, getD, length-drop}
 use Rattle.codec.specs.Format.{over}
 use Rattle.codec.proofs.Lending.{to-end, put-end, put-end-long}

@@ -1,3 +1,4 @@
+-- The invariant: the first i components were printed before `place`, and printing the others there prints all.
 use Rattle.codec.proofs.Prelude.{_+_, _-_, _≤_, _<_, _≡_, refl, ap, _∙_, sym, _∷_, _++_, arith, needs, length, drop}
 use Rattle.codec.specs.Format.{over}
 use Rattle.text.specs.Hex.{hexText}

@@ -1,3 +1,4 @@
+-- The invariant: the builder has the components before `at`, and reading the others into it reads all.
 use Rattle.codec.proofs.Prelude.{ℕ, _+_, _-_, _≤_, _<_, _≡_, refl, ap, _∙_, sym, List, [], _∷_, _++_, true, now, arith, needs, length, take, drop, length-drop, length-take-le, drop-drop, take-all}
 use Rattle.codec.proofs.Lending.{to-end}
 use Rattle.text.specs.Parts.{before, parts}

@@ -1,3 +1,4 @@
+-- The invariant: the first i bytes were copied, and copying the others to p copies all.
 use Rattle.codec.proofs.Prelude.{suc, _+_, _-_, _≤_, _≡_, refl, _∙_, sym, now, arith, add-one, length, drop, length-set, drop-of-length-le, drop-cons}
 use Rattle.text.specs.Buffer.{overAt}
 use Rattle.text.proofs.Buffer.{overAt-none, overAt-next}

@@ -1,3 +1,4 @@
+-- The invariant: the first i bytes were printed, two digits each, and printing the others at p prints all.
 use Rattle.codec.proofs.Prelude.{_+_, _-_, _*_, _≤_, _≡_, refl, _∙_, sym, now, arith, length, drop, set, length-set}
 use Rattle.text.specs.Hex.{hexText}
 use Rattle.text.specs.Buffer.{overAt}

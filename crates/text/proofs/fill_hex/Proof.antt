@@ -1,3 +1,4 @@
+-- The invariant: the digits before i were read to the bytes before k, and reading the others there reads all.
 use Rattle.codec.proofs.Prelude.{_+_, _-_, _≤_, _<_, _≡_, refl, ap, _∙_, sym, true, now, arith, needs, length, drop, length-set}
 use Rattle.codec.specs.Format.{over}
 use Rattle.text.specs.Hex.{isHex, unhex}

@@ -1,3 +1,4 @@
+-- The invariant: the byte looked for is none of the first i.
 use Rattle.codec.proofs.Prelude.{_+_, _-_, _≤_, _≡_, now, arith, length, drop}
 use Rattle.text.specs.Parts.{before}
 use Rattle.text.proofs.Parts.{before-here, before-next, before-end}

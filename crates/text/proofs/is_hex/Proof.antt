@@ -1,3 +1,4 @@
+-- The invariant: the first i are pairs of digits.
 use Rattle.codec.proofs.Prelude.{_-_, _≤_, _≡_, refl, _∙_, sym, now, arith, needs, lt-ltb, le-ltb, length, drop}
 use Rattle.text.specs.Hex.{isHex}
 use Rattle.text.proofs.HexSteps.{isHex-next, isHex-odd, isHex-end}

@@ -1,3 +1,4 @@
+-- The invariant: the part looked for is the `left`-th of those from `at` on.
 use Rattle.codec.proofs.Prelude.{ℕ, suc, _+_, _-_, _≤_, _<_, _≡_, refl, ap, _∙_, sym, List, now, arith, needs, length, drop, length-drop, length-take-le, drop-drop}
 use Rattle.codec.proofs.Lending.{to-end}
 use Rattle.text.specs.Parts.{before, partAt}

@@ -1,3 +1,4 @@
+-- The invariant: n parts begin in the first i bytes, and the others follow.
 use Rattle.codec.proofs.Prelude.{_+_, _-_, _≤_, _≡_, ⊎-elim, now, arith, length, drop}
 use Rattle.text.specs.Parts.{parts}
 use Rattle.text.proofs.Parts.{count-here, count-next, count-end}

@@ -1,3 +1,4 @@
+-- The invariant: the first i lengths stand at the start, two bytes each.
 use Rattle.codec.proofs.Prelude.{_≡_, refl, _*_, _-_, _≤_, arith, now, take, getD, take-all, needs}
 use Rattle.flat.specs.PathRecord.{shorts}
 use Rattle.flat.specs.Puts.{Puts}

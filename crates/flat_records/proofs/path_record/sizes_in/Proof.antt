@@ -1,3 +1,4 @@
+-- The invariant: the first i lengths are those that stand in the bytes.
 use Rattle.codec.proofs.Prelude.{add-one, drop-drop, take-all, take-suc-set, _≡_, refl, sym, ap, _∙_, arith, now, ℕ, _+_, _*_, _-_, _≤_, length, take, drop, set, length-set, needs, not-true, not-false}
 use Rattle.compact_u64.specs.BigEndian.{valueOf}
 use Rattle.flat.specs.PathRecord.{shortsIn}

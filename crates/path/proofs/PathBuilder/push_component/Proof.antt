@@ -1,3 +1,4 @@
+-- The invariant: the first i bytes of the component stand after the path's, and nothing else of it changed.
 use Rattle.codec.proofs.Prelude.{_≡_, refl, _∙_, sym, _++_, ℕ, _+_, _≤_, _-_, now, arith, add-one, needs, length-unmapped, not-true, not-false, length, take, drop, paste, paste-zero, paste-suc}
 use Rattle.path.specs.Builder.{grown, pushComponent}
 use Rattle.path.proofs.Lists.{paste-whole}

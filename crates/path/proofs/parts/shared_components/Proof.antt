@@ -1,3 +1,4 @@
+-- The invariant: outside, the first k components are the same and end at `at`; inside, so are the first i bytes of the next.
 use Rattle.codec.proofs.Prelude.{_+_, _≤_, _-_, _≡_, refl, sym, arith, now, take, drop, getD}
 use Rattle.path.specs.Record.{pathOf}
 use Rattle.path.proofs.Components.{parts-formed}

@@ -1,3 +1,4 @@
+-- The invariant: what was read so far stands in the record, and reading the rest from `at` on gives what reading all gives.
 use Rattle.codec.proofs.Lending.{put-end-long}
 use Rattle.codec.proofs.Prelude.{_-_, _∙_, sym, subst, ⊎-elim, now, arith, needs, length-set}
 use Rattle.path_codec.specs.declared.DecodedComponent.{DecodedComponent}

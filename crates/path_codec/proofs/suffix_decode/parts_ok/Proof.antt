@@ -1,3 +1,4 @@
+-- The invariant: `total` is the sum of the first i lengths, each of them at most 300.
 use Rattle.codec.proofs.Prelude.{_+_, _*_, _≤_, _-_, _≡_, refl, _∙_, sym, true, now, arith, lt-leb, le-leb, length, drop}
 use Rattle.path.specs.Record.{sumOf, allAtMost}
 use Rattle.path.proofs.Lists.{sum-next, sum-end, at-most-next, at-most-end}
