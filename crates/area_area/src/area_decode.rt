@@ -73,7 +73,7 @@ fn decode_subspace(
             subspace: reference,
         };
     }
-    let read = codec::decode_id(message, 0);
+    let read = byte_codec::decode_id(message, 0);
     let answer = read.answer;
     let Decoded::Consumed(_) = answer else {
         return DecodedSubspace {

@@ -34,7 +34,7 @@ fn put_subspace(buffer: &mut [u8], subspace: AreaSubspace, reference: AreaSubspa
     let written = id_written(subspace, reference);
     if written {
         let id = subspace.id;
-        codec::put_bytes(buffer, &id);
+        byte_codec::put_bytes(buffer, &id);
         return 32;
     }
     0

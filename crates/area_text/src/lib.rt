@@ -21,7 +21,7 @@ pub struct EndField {
 pub fn read_subspace(s: &[u8]) -> SubspaceField
     ensures { λ r. ⌜ r ≡ readSubspaceText (now (s .entry)) ⌝ }
 {
-    if codec::same_bytes(s, b"*") {
+    if byte_codec::same_bytes(s, b"*") {
         return SubspaceField {
             ok: true,
             subspace: AreaSubspace {
@@ -42,7 +42,7 @@ pub fn read_subspace(s: &[u8]) -> SubspaceField
 pub fn read_end(s: &[u8]) -> EndField
     ensures { λ r. ⌜ r ≡ readEndText (now (s .entry)) ⌝ }
 {
-    if codec::same_bytes(s, b"*") {
+    if byte_codec::same_bytes(s, b"*") {
         return EndField {
             ok: true,
             end: RangeEnd::Open,

@@ -34,10 +34,10 @@ pub(crate) fn pack(header: Header) -> u8
     requires { ⌜ HeaderFits header ⌝ }
     ensures { λ r. ⌜ r ≡ packHeader header ⌝ }
 {
-    codec::bit(header.id_written) * ID_WRITTEN
-        + codec::bit(header.end_open) * END_OPEN
-        + codec::bit(header.start_added) * START_ADDED
-        + codec::bit(header.end_added) * END_ADDED
+    byte_codec::bit(header.id_written) * ID_WRITTEN
+        + byte_codec::bit(header.end_open) * END_OPEN
+        + byte_codec::bit(header.start_added) * START_ADDED
+        + byte_codec::bit(header.end_added) * END_ADDED
         + header.start_tag * START_TAG
         + header.end_tag * END_TAG
 }

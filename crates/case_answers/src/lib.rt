@@ -36,19 +36,19 @@ pub struct Answered {
 fn record_kind(field: &[u8]) -> Kind
     ensures { λ r. ⌜ r ≡ recordKind (now (field .entry)) ⌝ }
 {
-    if codec::same_bytes(field, b"area_area") {
+    if byte_codec::same_bytes(field, b"area_area") {
         return Kind::AreaArea;
     }
-    if codec::same_bytes(field, b"entry_area") {
+    if byte_codec::same_bytes(field, b"entry_area") {
         return Kind::EntryArea;
     }
-    if codec::same_bytes(field, b"entry_entry") {
+    if byte_codec::same_bytes(field, b"entry_entry") {
         return Kind::EntryEntry;
     }
-    if codec::same_bytes(field, b"range3d_range3d") {
+    if byte_codec::same_bytes(field, b"range3d_range3d") {
         return Kind::Range3d;
     }
-    if codec::same_bytes(field, b"raw") {
+    if byte_codec::same_bytes(field, b"raw") {
         return Kind::Raw;
     }
     Kind::Unknown
@@ -57,19 +57,19 @@ fn record_kind(field: &[u8]) -> Kind
 fn kind_of(field: &[u8]) -> Kind
     ensures { λ r. ⌜ r ≡ kindOf (now (field .entry)) ⌝ }
 {
-    if codec::same_bytes(field, b"number") {
+    if byte_codec::same_bytes(field, b"number") {
         return Kind::Number;
     }
-    if codec::same_bytes(field, b"standalone") {
+    if byte_codec::same_bytes(field, b"standalone") {
         return Kind::Standalone;
     }
-    if codec::same_bytes(field, b"path") {
+    if byte_codec::same_bytes(field, b"path") {
         return Kind::Path;
     }
-    if codec::same_bytes(field, b"path_path") {
+    if byte_codec::same_bytes(field, b"path_path") {
         return Kind::PathPath;
     }
-    if codec::same_bytes(field, b"path_extends") {
+    if byte_codec::same_bytes(field, b"path_extends") {
         return Kind::PathExtends;
     }
     record_kind(field)

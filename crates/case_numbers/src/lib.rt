@@ -29,16 +29,16 @@ pub enum WidthField {
 fn width(field: &[u8]) -> WidthField
     ensures { λ r. ⌜ ((k : ℕ → List ℕ) → onWidthField r k ≡ onWidth (now (field .entry)) k) ⌝ }
 {
-    if codec::same_bytes(field, b"2") {
+    if byte_codec::same_bytes(field, b"2") {
         return WidthField::Width(TagWidth::Two);
     }
-    if codec::same_bytes(field, b"3") {
+    if byte_codec::same_bytes(field, b"3") {
         return WidthField::Width(TagWidth::Three);
     }
-    if codec::same_bytes(field, b"4") {
+    if byte_codec::same_bytes(field, b"4") {
         return WidthField::Width(TagWidth::Four);
     }
-    if codec::same_bytes(field, b"8") {
+    if byte_codec::same_bytes(field, b"8") {
         return WidthField::Width(TagWidth::Eight);
     }
     WidthField::Refused

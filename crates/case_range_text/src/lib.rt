@@ -93,7 +93,7 @@ fn read_subspaces(line: &[u8], i: usize) -> SubspacesField
 fn read_path_end(s: &[u8]) -> PathEndField
     ensures { λ r. ⌜ r ≡ readPathEnd (now (s .entry)) ⌝ }
 {
-    if codec::same_bytes(s, b"*") {
+    if byte_codec::same_bytes(s, b"*") {
         let none = Path::new_empty();
         return PathEndField {
             ok: true,

@@ -13,16 +13,16 @@ use text::Hex;
 pub fn op(field: &[u8]) -> Op
     ensures { λ r. ⌜ r ≡ opOf (now (field .entry)) ⌝ }
 {
-    if codec::same_bytes(field, b"s") {
+    if byte_codec::same_bytes(field, b"s") {
         return Op::Strict;
     }
-    if codec::same_bytes(field, b"l") {
+    if byte_codec::same_bytes(field, b"l") {
         return Op::Lenient;
     }
-    if codec::same_bytes(field, b"w") {
+    if byte_codec::same_bytes(field, b"w") {
         return Op::Write;
     }
-    if codec::same_bytes(field, b"n") {
+    if byte_codec::same_bytes(field, b"n") {
         return Op::Length;
     }
     Op::Unknown

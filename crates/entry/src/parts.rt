@@ -32,7 +32,7 @@ pub fn lies_inside<'a>(
         return prefix;
     };
     let id = fields.namespace_id;
-    let same = codec::same_bytes(&namespace, &id);
+    let same = byte_codec::same_bytes(&namespace, &id);
     if !same {
         return Compared::No;
     }

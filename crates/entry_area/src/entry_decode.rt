@@ -57,7 +57,7 @@ fn decode_id(message: &[u8], subspace: AreaSubspace, written: bool) -> DecodedId
             id: id,
         };
     }
-    codec::decode_id(message, 0)
+    byte_codec::decode_id(message, 0)
 }
 
 // Whether the bytes of a path, from `start` on, tell that it shares `count` components.

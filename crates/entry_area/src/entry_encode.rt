@@ -48,7 +48,7 @@ fn put_start(
     if !subspace.any {
         return 1;
     }
-    codec::put_bytes(&mut buffer[1..], &id);
+    byte_codec::put_bytes(&mut buffer[1..], &id);
     33
 }
 
@@ -76,7 +76,7 @@ fn put_payload(buffer: &mut [u8], end: End)
     let n = compact_u64::relative_len_of_encoding(TagWidth::Two, end.payload_length);
     compact_u64::relative_encode(buffer, TagWidth::Two, end.payload_length);
     let digest = end.payload_digest;
-    codec::put_bytes(&mut buffer[n..], &digest);
+    byte_codec::put_bytes(&mut buffer[n..], &digest);
 }
 
 // The fields after the path.

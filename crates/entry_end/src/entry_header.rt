@@ -31,8 +31,8 @@ pub(crate) fn pack(header: Header) -> u8
     requires { ⌜ HeaderFits header ⌝ }
     ensures { λ r. ⌜ r ≡ packHeader header ⌝ }
 {
-    codec::bit(header.id_written) * ID_WRITTEN
-        + codec::bit(header.time_added) * TIME_ADDED
+    byte_codec::bit(header.id_written) * ID_WRITTEN
+        + byte_codec::bit(header.time_added) * TIME_ADDED
         + header.time_tag * TIME_TAG
         + header.length_tag * LENGTH_TAG
         + header.spare * SPARE

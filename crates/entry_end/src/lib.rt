@@ -97,7 +97,7 @@ pub fn relative_decode(
         return refuse(compact_u64::refusal(second));
     };
     let at = a + b;
-    let third = codec::decode_id(message, at);
+    let third = byte_codec::decode_id(message, at);
     let answer = third.answer;
     let Decoded::Consumed(n) = answer else {
         return refuse(answer);

@@ -23,7 +23,7 @@ fn decode_id(message: &[u8], start: usize, written: bool, reference: [u8; 32]) -
     ensures { λ r. ⌜ answerOf (r .answer) (r .id) ≡ readId written reference (drop start (now (message .entry))) ⌝ }
 {
     if written {
-        return codec::decode_id(message, start);
+        return byte_codec::decode_id(message, start);
     }
     DecodedId {
         answer: Decoded::Consumed(0),

@@ -16,7 +16,7 @@ use entry::EntryFields;
 fn id_written(id: [u8; 32], reference: [u8; 32]) -> bool
     ensures { λ r. ⌜ r ≡ idWritten reference id ⌝ }
 {
-    !codec::same_bytes(&id, &reference)
+    !byte_codec::same_bytes(&id, &reference)
 }
 
 fn header_byte(fields: EntryFields, of: EntryFields) -> u8
@@ -80,7 +80,7 @@ fn put_id(buffer: &mut [u8], id: [u8; 32], reference: [u8; 32]) -> usize
 {
     let written = id_written(id, reference);
     if written {
-        codec::put_bytes(buffer, &id);
+        byte_codec::put_bytes(buffer, &id);
         return 32;
     }
     0
@@ -115,7 +115,7 @@ fn put_end<'a>(
     let Encoded::Length(n) = whole else {
         return;
     };
-    codec::put_bytes(&mut buffer[n..], &digest);
+    byte_codec::put_bytes(&mut buffer[n..], &digest);
 }
 
 // What follows the ids.

@@ -45,7 +45,7 @@ pub fn relative_decode<'a>(
     let Decoded::Consumed(b) = second_answer else {
         return entry::refuse(second_answer);
     };
-    let third = codec::decode_id(message, at + b);
+    let third = byte_codec::decode_id(message, at + b);
     let third_answer = third.answer;
     let Decoded::Consumed(c) = third_answer else {
         return entry::refuse(third_answer);

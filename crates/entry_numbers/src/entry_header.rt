@@ -31,9 +31,9 @@ pub(crate) fn pack(header: Header) -> u8
     requires { ⌜ HeaderFits header ⌝ }
     ensures { λ r. ⌜ r ≡ packHeader header ⌝ }
 {
-    codec::bit(header.namespace_written) * NAMESPACE_WRITTEN
-        + codec::bit(header.subspace_written) * SUBSPACE_WRITTEN
-        + codec::bit(header.time_added) * TIME_ADDED
+    byte_codec::bit(header.namespace_written) * NAMESPACE_WRITTEN
+        + byte_codec::bit(header.subspace_written) * SUBSPACE_WRITTEN
+        + byte_codec::bit(header.time_added) * TIME_ADDED
         + header.time_tag * TIME_TAG
         + header.length_tag * LENGTH_TAG
 }

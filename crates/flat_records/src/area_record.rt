@@ -37,7 +37,7 @@ fn subspace_in(flat: &[u8]) -> AreaSubspace
     requires { ⌜ 691 ≤ length (now flat) ⌝ }
     ensures { λ r. ⌜ r ≡ areaIn (now (flat .entry)) .subspace ⌝ }
 {
-    let read = codec::decode_id(flat, ID);
+    let read = byte_codec::decode_id(flat, ID);
     let id = read.id;
     AreaSubspace {
         any: flat[ANY] == 1,
@@ -73,8 +73,8 @@ fn put_subspace(flat: &mut [u8], subspace: AreaSubspace)
     ensures { λ _. ⌜ Puts 33 (subspaceFlat subspace) (now (flat .entry)) (now (flat .exit)) ⌝ }
 {
     let id = subspace.id;
-    flat[ANY] = codec::bit(subspace.any);
-    codec::put_bytes(&mut flat[ID..], &id);
+    flat[ANY] = byte_codec::bit(subspace.any);
+    byte_codec::put_bytes(&mut flat[ID..], &id);
 }
 
 // Writes an area from the first byte on.

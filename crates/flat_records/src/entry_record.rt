@@ -31,9 +31,9 @@ fn fields_in(flat: &[u8]) -> EntryFields
     requires { ⌜ 753 ≤ length (now flat) ⌝ }
     ensures { λ r. ⌜ r ≡ fieldsOf (entryIn (now (flat .entry))) ⌝ }
 {
-    let namespace = codec::decode_id(flat, NAMESPACE);
-    let subspace = codec::decode_id(flat, SUBSPACE);
-    let digest = codec::decode_id(flat, DIGEST);
+    let namespace = byte_codec::decode_id(flat, NAMESPACE);
+    let subspace = byte_codec::decode_id(flat, SUBSPACE);
+    let digest = byte_codec::decode_id(flat, DIGEST);
     let namespace_id = namespace.id;
     let subspace_id = subspace.id;
     let payload_digest = digest.id;
@@ -64,8 +64,8 @@ fn put_ids(flat: &mut [u8], fields: EntryFields)
     requires { ⌜ 64 ≤ length (now flat) ⌝ }
     ensures { λ _. ⌜ Puts 64 (idsFlat fields) (now (flat .entry)) (now (flat .exit)) ⌝ }
 {
-    codec::put_bytes(flat, &fields.namespace_id);
-    codec::put_bytes(&mut flat[SUBSPACE..], &fields.subspace_id);
+    byte_codec::put_bytes(flat, &fields.namespace_id);
+    byte_codec::put_bytes(&mut flat[SUBSPACE..], &fields.subspace_id);
 }
 
 // What follows the path.
@@ -75,7 +75,7 @@ fn put_end(flat: &mut [u8], fields: EntryFields)
 {
     compact_u64::put_big_endian(flat, 8, fields.timestamp);
     compact_u64::put_big_endian(&mut flat[8..], 8, fields.payload_length);
-    codec::put_bytes(&mut flat[16..], &fields.payload_digest);
+    byte_codec::put_bytes(&mut flat[16..], &fields.payload_digest);
 }
 
 // Writes an entry from the first byte on.

@@ -76,7 +76,7 @@ pub(crate) fn put_path<'a>(flat: &mut [u8], bytes: &'a [u8], lengths: &'a [usize
 {
     flat[0] = (count % 256) as u8;
     put_lengths(&mut flat[LENGTHS..], lengths);
-    codec::put_bytes(&mut flat[BYTES..], bytes);
+    byte_codec::put_bytes(&mut flat[BYTES..], bytes);
 }
 
 pub fn sizes(flat: &[u8; SIZE]) -> PathSizes

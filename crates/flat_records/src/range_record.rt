@@ -48,8 +48,8 @@ fn subspaces_in(flat: &[u8]) -> SubspaceRange
     requires { ⌜ 65 ≤ length (now flat) ⌝ }
     ensures { λ r. ⌜ r ≡ subspacesIn (now (flat .entry)) ⌝ }
 {
-    let first = codec::decode_id(flat, SUBSPACE_START);
-    let last = codec::decode_id(flat, SUBSPACE_END);
+    let first = byte_codec::decode_id(flat, SUBSPACE_START);
+    let last = byte_codec::decode_id(flat, SUBSPACE_END);
     let start = first.id;
     let end = last.id;
     SubspaceRange {
@@ -109,9 +109,9 @@ fn put_subspaces(flat: &mut [u8], subspaces: SubspaceRange)
 {
     let start = subspaces.start;
     let end = subspaces.end;
-    codec::put_bytes(flat, &start);
-    flat[SUBSPACE_OPEN] = codec::bit(subspaces.end_open);
-    codec::put_bytes(&mut flat[SUBSPACE_END..], &end);
+    byte_codec::put_bytes(flat, &start);
+    flat[SUBSPACE_OPEN] = byte_codec::bit(subspaces.end_open);
+    byte_codec::put_bytes(&mut flat[SUBSPACE_END..], &end);
 }
 
 // The paths, from the first byte on.
@@ -131,7 +131,7 @@ fn put_paths<'a>(
     let open = PATH_OPEN - PATH_START;
     let end = PATH_END - PATH_START;
     crate::path_record::put_path(flat, start_bytes, start_lengths, start_count);
-    flat[open] = codec::bit(end_open);
+    flat[open] = byte_codec::bit(end_open);
     crate::path_record::put_path(&mut flat[end..], end_bytes, end_lengths, end_count);
 }
 

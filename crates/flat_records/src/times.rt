@@ -59,6 +59,6 @@ pub(crate) fn put_times(flat: &mut [u8], times: TimeRange)
 {
     let end = times.end;
     compact_u64::put_big_endian(flat, 8, times.start);
-    flat[MARK] = codec::bit(end.is_open());
+    flat[MARK] = byte_codec::bit(end.is_open());
     compact_u64::put_big_endian(&mut flat[END..], 8, end_time(end));
 }

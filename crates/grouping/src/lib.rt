@@ -38,7 +38,7 @@ impl AreaSubspace {
         if self.any {
             let id = self.id;
             let zero = [0u8; 32];
-            return codec::same_bytes(&id, &zero);
+            return byte_codec::same_bytes(&id, &zero);
         }
         true
     }
@@ -54,7 +54,7 @@ impl AreaSubspace {
         }
         let id = self.id;
         let other_id = other.id;
-        codec::same_bytes(&id, &other_id)
+        byte_codec::same_bytes(&id, &other_id)
     }
 }
 

@@ -121,7 +121,7 @@ impl PathBuilder {
         let sizes = path.lengths;
         let more = crate::sum(&sizes[..k]);
         let mut bytes = first.bytes;
-        codec::put_bytes(&mut bytes[total..], &source[..more]);
+        byte_codec::put_bytes(&mut bytes[total..], &source[..more]);
         let mut lengths = first.lengths;
         put_lengths(&mut lengths[n..], &sizes[..k]);
         let joined = Path {

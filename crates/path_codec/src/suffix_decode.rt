@@ -127,7 +127,7 @@ fn decode_last(
         return Decoded::EndOfInput;
     }
     let end = at + len;
-    codec::put_bytes(&mut bytes[used..], &message[at..end]);
+    byte_codec::put_bytes(&mut bytes[used..], &message[at..end]);
     lengths[n] = len;
     Decoded::Consumed(end)
 }
@@ -154,7 +154,7 @@ fn decode_some(
         };
         let len = end - begin;
         if used + len <= total {
-            codec::put_bytes(&mut bytes[used..], &message[begin..end]);
+            byte_codec::put_bytes(&mut bytes[used..], &message[begin..end]);
             lengths[count - left] = len;
         }
         used += len;
@@ -247,7 +247,7 @@ pub fn decode_after<'a>(
     let m = count as usize;
     let mut all = [0u8; Path::MAX_PATH_LENGTH];
     let mut sizes = [0usize; Path::MAX_COMPONENT_COUNT];
-    codec::put_bytes(&mut all[..], bytes);
+    byte_codec::put_bytes(&mut all[..], bytes);
     put_lengths(&mut sizes[..], lengths);
     let answer = decode_all(message, canonic, m, t, &mut all[filled..], &mut sizes[n..]);
     let Decoded::Consumed(_) = answer else {

@@ -42,7 +42,7 @@ fn same_component<'a>(
 {
     let end = at + lengths[k];
     let other_end = at + other_lengths[k];
-    codec::same_bytes(&bytes[at..end], &other_bytes[at..other_end])
+    byte_codec::same_bytes(&bytes[at..end], &other_bytes[at..other_end])
 }
 
 // Reads what follows the shared count and the sizes: the components after the reference's first `k`, from the message's first byte on.

@@ -34,7 +34,7 @@ pub fn encode_shared<'a>(
     let a = compact_u64::len_of_encoding(shared);
     if buffer.len() < a {
         let whole = shared_len(bytes, lengths, count, k);
-        return codec::in_room(whole, buffer.len());
+        return byte_codec::in_room(whole, buffer.len());
     }
     let suffix = path_suffix_encode::parts::encode_suffix(
         &mut buffer[a..],

@@ -20,7 +20,7 @@ fn put(buffer: &mut [u8], s: &[u8]) -> usize
     requires { ⌜ length (now s) ≤ length (now buffer) ⌝ }
     ensures { λ r. ⌜ (r ≡ length (now (s .entry))) × (now (buffer .exit) ≡ over (now (s .entry)) (now (buffer .entry))) ⌝ }
 {
-    codec::put_bytes(buffer, s);
+    byte_codec::put_bytes(buffer, s);
     s.len()
 }
 

@@ -81,7 +81,7 @@ pub fn read_components(s: &[u8]) -> PathField
 pub fn read_path(s: &[u8]) -> PathField
     ensures { λ r. ⌜ r ≡ readPathText (now (s .entry)) ⌝ }
 {
-    if codec::same_bytes(s, b"-") {
+    if byte_codec::same_bytes(s, b"-") {
         let path = Path::new_empty();
         return PathField {
             found: Found::Read,

@@ -31,7 +31,7 @@ impl SubspaceRange {
         if self.end_open {
             let end = self.end;
             let zero = [0u8; 32];
-            return codec::same_bytes(&end, &zero);
+            return byte_codec::same_bytes(&end, &zero);
         }
         true
     }

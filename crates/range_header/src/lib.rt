@@ -73,8 +73,8 @@ pub fn pack(header: Header) -> u8
     let end = header.subspace_end;
     source_bits(start) * SUBSPACE_START
         + source_bits(end) * SUBSPACE_END
-        + codec::bit(header.path_start_from_start) * PATH_START_FROM_START
-        + codec::bit(header.path_end_open) * PATH_END_OPEN
-        + codec::bit(header.path_end_from_start) * PATH_END_FROM_START
-        + codec::bit(header.times_end_open) * TIMES_END_OPEN
+        + byte_codec::bit(header.path_start_from_start) * PATH_START_FROM_START
+        + byte_codec::bit(header.path_end_open) * PATH_END_OPEN
+        + byte_codec::bit(header.path_end_from_start) * PATH_END_FROM_START
+        + byte_codec::bit(header.times_end_open) * TIMES_END_OPEN
 }

@@ -36,14 +36,14 @@ fn source(id: [u8; 32], reference: SubspaceRange) -> IdSource
     ensures { λ r. ⌜ r ≡ sourceOf (subspacesOf reference) id ⌝ }
 {
     let start = reference.start;
-    if codec::same_bytes(&id, &start) {
+    if byte_codec::same_bytes(&id, &start) {
         return IdSource::Start;
     }
     if reference.end_open {
         return IdSource::Written;
     }
     let end = reference.end;
-    if codec::same_bytes(&id, &end) {
+    if byte_codec::same_bytes(&id, &end) {
         return IdSource::End;
     }
     IdSource::Written
@@ -82,7 +82,7 @@ fn no_id(answer: Decoded) -> DecodedId
 fn decode_written(message: &[u8], reference: SubspaceRange) -> DecodedId
     ensures { λ r. ⌜ answerOf (r .answer) (r .id) ≡ readId (subspacesOf reference) idsource.Written (now (message .entry)) ⌝ }
 {
-    let read = codec::decode_id(message, 0);
+    let read = byte_codec::decode_id(message, 0);
     let answer = read.answer;
     let Decoded::Consumed(_) = answer else {
         return read;
@@ -205,7 +205,7 @@ fn put_id(buffer: &mut [u8], id: [u8; 32], reference: SubspaceRange) -> usize
     let IdSource::Written = told else {
         return 0;
     };
-    codec::put_bytes(buffer, &id);
+    byte_codec::put_bytes(buffer, &id);
     32
 }
 

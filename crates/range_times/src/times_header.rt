@@ -33,10 +33,10 @@ pub(crate) fn pack(header: Header) -> u8
     requires { ⌜ HeaderFits header ⌝ }
     ensures { λ r. ⌜ r ≡ packHeader header ⌝ }
 {
-    codec::bit(header.start_from_start) * START_FROM_START
-        + codec::bit(header.start_added) * START_ADDED
+    byte_codec::bit(header.start_from_start) * START_FROM_START
+        + byte_codec::bit(header.start_added) * START_ADDED
         + header.start_tag * START_TAG
-        + codec::bit(header.end_from_start) * END_FROM_START
-        + codec::bit(header.end_added) * END_ADDED
+        + byte_codec::bit(header.end_from_start) * END_FROM_START
+        + byte_codec::bit(header.end_added) * END_ADDED
         + header.end_tag * END_TAG
 }

@@ -7,17 +7,13 @@ use Rattle.path_text.proofs.Reading.{push-refused, push-hex}
 use Rattle.path_text.proofs.push_text.Statement.{statement}
 use Rattle.path_text.proofs.push_text.Tie as tie
 
--- earlier places
-abbrev known-told-start : tie.After-known-told → tie.Start
-known-told-start c = c .before .before .before .before .before .before .before
-
 -- the bytes that were read
-hex-here : (c : tie.After-known-told) → Bytes (c .before .got .given .0 .0) ≡ readHex (now (known-told-start c .args .t)) 300
+hex-here : (c : tie.After-known-told) → Bytes (c .before .got .given .0 .0) ≡ readHex (now (c .before .before .before .before .before .before .before .args .t)) 300
 hex-here c =
     let after-read-hex : tie.After-read-hex = search in
     sym (c .before .got .given .1) ∙ after-read-hex .read-hex .ensures .0
 
-bytes-here : (c : tie.After-known-told) → take (c .before .got .given .0 .0) (c .before .before .before .before .read-hex .last .1 .0) ≡ unhex (now (known-told-start c .args .t))
+bytes-here : (c : tie.After-known-told) → take (c .before .got .given .0 .0) (c .before .before .before .before .read-hex .last .1 .0) ≡ unhex (now (c .before .before .before .before .before .before .before .args .t))
 bytes-here c =
     let after-read-hex : tie.After-read-hex = search in
     rw (after-read-hex .read-hex .ensures .1) (bytes-are _ _ _ (hex-here c))

@@ -1,7 +1,7 @@
 use Rattle.codec.proofs.Prelude.{le-leb, lt-leb, needs}
 use Rattle.codec.proofs.Lending.{no-length}
-use Rattle.codec.proofs.in_room.Statement.{statement}
-use Rattle.codec.proofs.in_room.Tie as tie
+use Rattle.byte_codec.proofs.in_room.Statement.{statement}
+use Rattle.byte_codec.proofs.in_room.Tie as tie
 
 returns : tie.Need-returns
 returns c = rw (no-length (c .before .args .whole) (c .match .keys2) .is)

@@ -1,9 +1,9 @@
 -- The invariant: both are as long, and the same if what follows the first i bytes of each is.
 use Rattle.codec.proofs.Prelude.{_-_, _≤_, _≡_, refl, sym, ap, _∙_, now, arith, eq-eqb, ne-eqb, length, drop, getD}
 use Rattle.codec.specs.Bytes.{sameBytes}
 use Rattle.codec.proofs.SameBytes.{same-next, same-end, different}
-use Rattle.codec.proofs.same_bytes.Statement.{statement}
-use Rattle.codec.proofs.same_bytes.Tie as tie
+use Rattle.byte_codec.proofs.same_bytes.Statement.{statement}
+use Rattle.byte_codec.proofs.same_bytes.Tie as tie
 
 abbrev Inv-loop : tie.InvT-loop
 Inv-loop s t i₀ i = (i ≤ length s) × (length s ≡ length t) × (sameBytes s t ≡ sameBytes (drop i s) (drop i t))

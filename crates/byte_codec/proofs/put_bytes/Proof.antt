@@ -1,9 +1,9 @@
 -- The invariant: the first i bytes of s stand in the buffer, and the rest of it is as it was.
 use Rattle.codec.proofs.Prelude.{_-_, refl, _∙_, now, arith, needs, length}
 use Rattle.codec.specs.Format.{allowed}
 use Rattle.codec.proofs.Lending.{put-full, put-fits, Copied, copied-none, copied-next, copied-all}
-use Rattle.codec.proofs.put_bytes.Statement.{statement}
-use Rattle.codec.proofs.put_bytes.Tie as tie
+use Rattle.byte_codec.proofs.put_bytes.Statement.{statement}
+use Rattle.byte_codec.proofs.put_bytes.Tie as tie
 
 abbrev Inv-loop : tie.InvT-loop
 Inv-loop buffer₀ s i₀ buffer i = Copied buffer₀ s i buffer

@@ -1,9 +1,9 @@
 use Rattle.codec.proofs.Prelude.{_≡_, refl, _∙_, _+_, _-_, _≤_, arith, now, length, take, drop, length-drop, needs}
 use Rattle.codec.proofs.Answers.{gives-refused, gives-accepted}
 use Rattle.codec.proofs.Lending.{id-put}
 use Rattle.codec.proofs.Readers.{bytes-short, bytes-there}
-use Rattle.codec.proofs.decode_id.Statement.{statement}
-use Rattle.codec.proofs.decode_id.Tie as tie
+use Rattle.byte_codec.proofs.decode_id.Statement.{statement}
+use Rattle.byte_codec.proofs.decode_id.Tie as tie
 
 -- earlier places
 abbrev else1-start : tie.Else1 → tie.Start

@@ -1,6 +1,6 @@
 use Rattle.codec.proofs.Prelude.{sym, arith, now, length-drop, needs}
-use Rattle.codec.proofs.bytes_from.Statement.{statement}
-use Rattle.codec.proofs.bytes_from.Tie as tie
+use Rattle.byte_codec.proofs.bytes_from.Statement.{statement}
+use Rattle.byte_codec.proofs.bytes_from.Tie as tie
 
 returns : tie.Need-returns
 returns c = rw length-drop (omega (arith, c .if1 .taken))
