@@ -134,6 +134,22 @@ pub over-then : (l a b : List ℕ) → take (length a) (over a l) ++ over b (dro
 over-then l a b =
     rw (take-at a (drop (length a) l) (length a) refl, drop-at a (drop (length a) l) (length a) refl, drop-drop, length-append) (sym (append-assoc a b (drop (length a + length b) l)))
 
+-- x and then y from the n-th byte on, both put, are t
+module _ {t : List ℕ} (x y l : List ℕ) (e : t ≡ x ++ y) (fits : length t ≤ length l) {n : ℕ} (long : n ≡ length x) where
+  pair-long : n + length y ≤ length l
+  pair-long = omega (arith, fits, long, ap length e ∙ length-append x y)
+
+  pub pair-inside : {m : ℕ} → m ≡ length l → n ≤ m
+  pair-inside kept = omega (arith, kept, pair-long)
+
+  pub pair-put : {p q : List ℕ} → p ≡ putBuffer allowed x l → length p ≡ length l → q ≡ putBuffer allowed y (take (length p - n) (drop n p))
+      → putMid n (length p - n) p q ≡ putBuffer allowed t l
+  pair-put {p} {q} first kept rest =
+      let f : p ≡ over x l = first ∙ put-over x l (omega (arith, pair-long, long)) in
+      let r : q ≡ putBuffer allowed y (drop n p) = rw (to-end n p) at rest in
+      let room : length y ≤ length (drop n p) = rw length-drop (omega (arith, kept, pair-long)) in
+      put-end n p q ∙ rw (r, put-over y (drop n p) room, f, long) (over-then l x y) ∙ ap (λ (bs : List ℕ). over bs l) (sym e) ∙ sym (put-over t l fits)
+
 -- the same from a place on: what is left to write, after a was written from `at` on
 pub over-turn : (l a b : List ℕ) (at : ℕ) → at ≤ length l
     → take at l ++ over (a ++ b) (drop at l)
