@@ -15,6 +15,6 @@ read-line-spec =
     (λ c. let m : tie.After-message = search in message-inside (m .message .ensures) (c .before .message2 .given .1))
     (λ c. let m : tie.After-message = search in sym (message-long (m .message .ensures) (c .before .before .message2 .given .1)))
     (λ c κs. search needs) (λ c κs. search needs) (λ c κs. search needs) (λ c. search needs)
-    (λ c. let m : tie.After-message = search in let n : tie.After-message2 = search in let d : tie.After-relative-decode = search in let p : tie.After-print = search in
+    (λ c. let p : tie.After-print = search in let d : tie.After-relative-decode = search in let n : tie.After-message2 = search in let m : tie.After-message = search in
     read-printed areaText (readAgainstArea _ _) 6 _ (m .message .ensures) (d .relative-decode .result .answer) (d .relative-decode .result .area) (n .message2 .given .1)
     (d .relative-decode .ensures .answer) (p .print .ensures) search))

@@ -14,11 +14,11 @@ write-line-spec =
     (λ c κs. search needs) (λ c κs. search needs) (λ c. search needs)
     (λ c. let f : tie.After-read-area = search in write-value areaField (againstArea _) 6 10 _ (omega arith) (f .read-area .ensures .0) (search) search)
     (λ c. search needs) (λ c κs. search needs) (λ c. search needs) (λ c. search needs) (λ c κs. search needs) (λ c. search needs)
-    (λ c. let f : tie.After-read-area = search in let h : tie.After-hex = search in
+    (λ c. let h : tie.After-hex = search in let f : tie.After-read-area = search in
     write-buffer areaField (againstArea _) 6 10 _ (omega arith) (f .read-area .ensures .0) (search) (h .hex .ensures) (search) search)
     (λ c. let h : tie.After-hex = search in hex-inside (h .hex .ensures) (c .before .hex2 .given .1))
     (λ c. let h : tie.After-hex = search in sym (hex-long (h .hex .ensures) (c .before .before .hex2 .given .1)))
     (λ c κs. search needs) (λ c κs. search needs) (λ c. search needs)
-    (λ c. let f : tie.After-read-area = search in let h : tie.After-hex = search in let n : tie.After-hex2 = search in let w : tie.After-relative-encode = search in
+    (λ c. let w : tie.After-relative-encode = search in let n : tie.After-hex2 = search in let h : tie.After-hex = search in let f : tie.After-read-area = search in
     write-answer areaField (againstArea _) 6 10 _ (omega arith) (f .read-area .ensures .0) (search) (h .hex .ensures) (n .hex2 .given .1) (w .relative-encode .ensures)
     (w .relative-encode .kept .0) search))
