@@ -105,10 +105,14 @@ module _ {room at r : ℕ} {l l' : List ℕ} where
       pub length-answer : not ok ≡ false → {o : Outcome} → o ≡ lengthAnswer format a → Put room at l l' r (lengthText o) → Put room at l l' r (lengthLine parse format i j line)
       length-answer e h p = counted j line _ many (says-so parse i line _ value e (rw (← h) p))
 
--- ---- the reference stands before the other fields; the operation was told from its field
+-- ---- the operation, which was told from its field
+pub op-told : (f : Op → List ℕ → List ℕ) (line : List ℕ) (x : Op) → opOf (partAt 9 1 line) ≡ x → f (opOf (partAt 9 1 line)) line ≡ f x line
+op-told f line x e = ap (λ (x : Op). f x line) e
+
+-- ---- the reference stands before the other fields, and the operation was told
 module _ {A : Type 0} {f : (A → List ℕ) → List ℕ} {ok : Bool} {a : A} (s : Says f ok a) (g : A → Op → List ℕ → List ℕ) (line : List ℕ) where
   pub against-refused : not ok ≡ true → f (λ a. g a (opOf (partAt 9 1 line)) line) ≡ six
   against-refused e = says-refused s (not-true _ e) _
 
   pub against-told : not ok ≡ false → (x : Op) → opOf (partAt 9 1 line) ≡ x → f (λ a. g a (opOf (partAt 9 1 line)) line) ≡ g a x line
-  against-told e x told = says-value s (not-false _ e) _ ∙ ap (λ (x : Op). g a x line) told
+  against-told e x told = says-value s (not-false _ e) _ ∙ op-told (g a) line x told
