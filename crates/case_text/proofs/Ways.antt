@@ -46,6 +46,9 @@ module _ {room at r : ℕ} {l l' : List ℕ} where
     pub hex-not : x ≡ hex.Refused → Put room at l l' r six → Put room at l l' r (hexField i line k)
     hex-not e = puts (hex-refused read k e)
 
+    pub hex-so : {n : ℕ} → x ≡ hex.Bytes n → Put room at l l' r (k (take n buffer)) → Put room at l l' r (hexField i line k)
+    hex-so e = puts (hex-bytes read e k)
+
     -- the buffer came back as ys
     pub hex-back : {n : ℕ} (ys : List ℕ) (t : List ℕ → List ℕ) → x ≡ hex.Bytes n → length ys ≡ length (take n buffer) → k (take n buffer) ≡ t ys
         → Put room at l l' r (t (take n (ys ++ drop n buffer))) → Put room at l l' r (hexField i line k)
@@ -58,6 +61,17 @@ module _ {room at r : ℕ} {l l' : List ℕ} where
     pub message-so : {s n : ℕ} → x ≡ message.Message s n → Put room at l l' r (k s (take n buffer)) → Put room at l l' r (messageField i line k)
     message-so e = puts (message-is read e k)
 
+  -- ---- what was read, with the value already printed
+  pub printed : {A : Type 0} (print : A → List ℕ) (d : Decoded) (a : A) {y : Answer A} {t : List ℕ} → answerOf d a ≡ y → t ≡ print a
+      → Put room at l l' r (readText (λ t. t) (answerOf d t)) → Put room at l l' r (readText print y)
+  printed print d a {t = t} h f p = rw (← h) (puts (same d) p)
+    where
+      same : (d : Decoded) → readText print (answerOf d a) ≡ readText (λ t. t) (answerOf d t)
+      same (decoded.Consumed n) = rw f
+      same decoded.EndOfInput = refl
+      same decoded.TheirFault = refl
+      same decoded.Malformed = refl
+
   -- ---- reading: start and message from the i-th field on
   module _ {A : Type 0} (print : A → List ℕ) (reader : Reader A) (i : ℕ) (line : List ℕ) {buffer : List ℕ} {x : MessageField} (read : ReadsMessage 8192 i line buffer x) where
     pub read-refused : x ≡ message.Refused → Put room at l l' r six → Put room at l l' r (readLine print reader i line)
@@ -69,13 +83,7 @@ module _ {room at r : ℕ} {l l' : List ℕ} where
     -- with the value already printed
     pub read-printed : {s n : ℕ} (d : Decoded) (a : A) {t : List ℕ} → x ≡ message.Message s n → answerOf d a ≡ reader (drop s (take n buffer)) → t ≡ print a
         → Put room at l l' r (readText (λ t. t) (answerOf d t)) → Put room at l l' r (readLine print reader i line)
-    read-printed d a {t} e h f p = read-answer e h (puts (same d) p)
-      where
-        same : (d : Decoded) → readText print (answerOf d a) ≡ readText (λ t. t) (answerOf d t)
-        same (decoded.Consumed n) = rw f
-        same decoded.EndOfInput = refl
-        same decoded.TheirFault = refl
-        same decoded.Malformed = refl
+    read-printed d a e h f p = message-so read _ e (printed print d a h f p)
 
   module _ {A : Type 0} (parse : ℕ → List ℕ → (A → List ℕ) → List ℕ) (format : Format A) (i j : ℕ) (line : List ℕ) where
     -- ---- writing: a value from the i-th field on, then the lent buffer
