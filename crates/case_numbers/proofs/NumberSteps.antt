@@ -1,5 +1,5 @@
 -- The ways out of a line of a compact number after a tag of w bits: what was put is the text of the line.
-use Rattle.codec.proofs.Prelude.{_≡_, sym, List, _++_, Bool, not, true, false, cond, ℕ, _^_, _≤_, _<_, lt-ltb, le-ltb, ltb, length, take, drop}
+use Rattle.codec.proofs.Prelude.{_≡_, List, _++_, Bool, not, true, false, cond, ℕ, _^_, _≤_, _<_, lt-ltb, le-ltb, ltb, length, take, drop}
 use Rattle.codec.specs.Answers.{Outcome, Answer, wrote}
 use Rattle.codec.specs.Format.{allowed, putAnswer, putBuffer}
 use Rattle.compact_u64.specs.Number.{minTag, numberBytes, readNumber}

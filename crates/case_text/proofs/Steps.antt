@@ -1,6 +1,5 @@
 -- What fields that were read say to whatever comes after them.
-use Rattle.codec.proofs.Prelude.{_≡_, sym, ap, _∙_, List, _++_, Bool, true, false, ℕ, _≤_, eq-eqb, ne-eqb, length, take, drop, length-take-le, take-at}
-use Rattle.path.specs.declared.Path.{Path}
+use Rattle.codec.proofs.Prelude.{_≡_, sym, _∙_, List, _++_, Bool, true, false, ℕ, _≤_, eq-eqb, ne-eqb, length, take, drop, length-take-le, take-at}
 use Rattle.path_text.specs.declared.PathField.{PathField}
 use Rattle.path_text.specs.declared.Found.the-variants as found
 use Rattle.path_text.specs.PathText.{readPathText}
@@ -12,11 +11,9 @@ use Rattle.case_text.specs.declared.HexField.{HexField}
 use Rattle.case_text.specs.declared.HexField.the-variants as hex
 use Rattle.case_text.specs.declared.MessageField.{MessageField}
 use Rattle.case_text.specs.declared.MessageField.the-variants as message
-use Rattle.case_text.specs.declared.Op.{Op}
-use Rattle.case_text.specs.Texts.{six, ended}
-use Rattle.case_text.specs.Fields.{field, onField, Says, exactly, decimalField, hexFieldIn, messageFieldIn, pathField, opOf}
-use Rattle.case_text.specs.Answers.{PutsWithin, ReadsHex, ReadsMessage}
-use Rattle.case_text.proofs.Puts.{within-same}
+use Rattle.case_text.specs.Texts.{six}
+use Rattle.case_text.specs.Fields.{field, onField, Says, exactly, decimalField, hexFieldIn, messageFieldIn, pathField}
+use Rattle.case_text.specs.Answers.{ReadsHex, ReadsMessage}
 
 -- ---- the number of fields, which was counted
 module _ (line : List ℕ) {m : ℕ} (counted : m ≡ length (parts 9 line)) where

@@ -1,5 +1,5 @@
 -- The ways out of a line that reads, writes or measures a record, whatever the record: what was put is the text of the line.
-use Rattle.codec.proofs.Prelude.{_≡_, refl, sym, ap, _∙_, List, _++_, Bool, not, true, false, ℕ, _+_, eq-eqb, ne-eqb, not-true, not-false, length, take, drop}
+use Rattle.codec.proofs.Prelude.{_≡_, refl, ap, _∙_, List, _++_, Bool, not, true, false, ℕ, _+_, eq-eqb, ne-eqb, not-true, not-false, length, take, drop}
 use Rattle.codec.specs.declared.Decoded.{Decoded}
 use Rattle.codec.specs.declared.Decoded.the-variants as decoded
 use Rattle.codec.specs.Answers.{Outcome, Answer, answerOf}

@@ -1,4 +1,4 @@
-use Rattle.codec.proofs.Prelude.{_≡_, refl, _∙_, ap, List, not, true, false, ℕ, _+_, not-true, not-false, needs}
+use Rattle.codec.proofs.Prelude.{_≡_, refl, List, not, true, false, ℕ, _+_, not-true, not-false, needs}
 use Rattle.grouping.specs.declared.Area.{Area}
 use Rattle.area_text.specs.declared.SubspaceField.{SubspaceField}
 use Rattle.area_text.specs.declared.EndField.{EndField}

@@ -1,4 +1,4 @@
-use Rattle.codec.proofs.Prelude.{_≡_, sym, List, not, true, false, ℕ, not-true, not-false, needs}
+use Rattle.codec.proofs.Prelude.{_≡_, List, not, true, false, ℕ, not-true, not-false, needs}
 use Rattle.area_text.specs.declared.SubspaceField.{SubspaceField}
 use Rattle.area_text.specs.AreaText.{readSubspaceText}
 use Rattle.path_text.specs.declared.PathField.{PathField}
