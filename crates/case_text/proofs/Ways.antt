@@ -46,9 +46,6 @@ module _ {room at r : ℕ} {l l' : List ℕ} where
     pub hex-not : x ≡ hex.Refused → Put room at l l' r six → Put room at l l' r (hexField i line k)
     hex-not e = puts (hex-refused read k e)
 
-    pub hex-so : {n : ℕ} → x ≡ hex.Bytes n → Put room at l l' r (k (take n buffer)) → Put room at l l' r (hexField i line k)
-    hex-so e = puts (hex-bytes read e k)
-
     -- the buffer came back as ys
     pub hex-back : {n : ℕ} (ys : List ℕ) (t : List ℕ → List ℕ) → x ≡ hex.Bytes n → length ys ≡ length (take n buffer) → k (take n buffer) ≡ t ys
         → Put room at l l' r (t (take n (ys ++ drop n buffer))) → Put room at l l' r (hexField i line k)
@@ -71,6 +68,11 @@ module _ {room at r : ℕ} {l l' : List ℕ} where
       same decoded.EndOfInput = refl
       same decoded.TheirFault = refl
       same decoded.Malformed = refl
+
+  pub hex-printed : {A : Type 0} (print : A → List ℕ) (reader : Reader A) {i n : ℕ} {line buffer t : List ℕ} {x : HexField} (d : Decoded) (a : A)
+      → ReadsHex 8192 i line buffer x → x ≡ hex.Bytes n → answerOf d a ≡ reader (take n buffer) → t ≡ print a
+      → Put room at l l' r (readText (λ t. t) (answerOf d t)) → Put room at l l' r (hexField i line (λ message. readText print (reader message)))
+  hex-printed print reader d a read e h f p = puts (hex-bytes read e (λ message. readText print (reader message))) (printed print d a h f p)
 
   -- ---- reading: start and message from the i-th field on
   module _ {A : Type 0} (print : A → List ℕ) (reader : Reader A) (i : ℕ) (line : List ℕ) {buffer : List ℕ} {x : MessageField} (read : ReadsMessage 8192 i line buffer x) where

@@ -5,7 +5,7 @@ use Rattle.case_text.specs.Texts.{readText}
 use Rattle.case_text.specs.Fields.{hexField}
 use Rattle.case_text.proofs.Puts.{puts-first}
 use Rattle.case_text.proofs.Steps.{hex-inside, hex-long}
-use Rattle.case_text.proofs.Ways.{not-counted, counted, says-not, says-so, hex-not, hex-so, printed}
+use Rattle.case_text.proofs.Ways.{not-counted, counted, says-not, says-so, hex-not, hex-printed}
 use Rattle.listing.specs.Lines.{areaText, areaField}
 use Rattle.listing.proofs.read_line.Statement.{statement}
 use Rattle.listing.proofs.read_line.Tie as tie
@@ -31,6 +31,6 @@ read-line-spec =
     (λ c κs. search needs) (λ c κs. search needs) (λ c κs. search needs) (λ c. search needs)
     (λ c. let p : tie.After-print = search in let d : tie.After-relative-decode = search in let n : tie.After-hex2 = search in let h : tie.After-hex = search in
     let a : tie.After-read-area = search in let s : tie.Start = search in
-    counted 6 _ _ (omega arith) (says-so (λ i line k. areaField line k) 1 (now (s .args .line)) (said (s .args .canonic) (now (s .args .line))) (a .read-area .ensures) (search) (hex-so
-    (h .hex .ensures) _ (n .hex2 .given .1) (printed areaText (d .relative-decode .result .answer) (d .relative-decode .result .area) (d .relative-decode .ensures .answer) (puts-first
-    (p .print .ensures)) search)))))
+    counted 6 _ _ (omega arith) (says-so (λ i line k. areaField line k) 1 (now (s .args .line)) (said (s .args .canonic) (now (s .args .line))) (a .read-area .ensures) (search)
+    (hex-printed areaText (readAgainstArea (s .args .canonic) (a .read-area .result .area)) (d .relative-decode .result .answer) (d .relative-decode .result .area) (h .hex .ensures)
+    (n .hex2 .given .1) (d .relative-decode .ensures .answer) (puts-first (p .print .ensures)) search))))
