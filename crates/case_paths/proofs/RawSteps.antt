@@ -111,7 +111,7 @@ module _ (line : List ℕ) {m : ℕ} (counted : m ≡ length (parts 9 line)) whe
     unfolding rawLine
     raw-count count = fields-are line counted 4 _ many ∙ count _
 
-    module _ (n : ℕ) (count : (k : ℕ → List ℕ) → decimalField 1 line k ≡ k n) {s : List ℕ} {r : Lengths} (part : s ≡ partAt 9 2 line) (read : r ≡ lengthsOf s) where
+    module _ (n : ℕ) (count : (k : ℕ → List ℕ) → decimalField 1 line k ≡ k n) {s : List ℕ} {r : Lengths} (read : r ≡ lengthsOf s) (part : s ≡ partAt 9 2 line) where
       lengths-ok : (t : Bool) → r .ok ≡ t → lengthsOk (field 2 line) ≡ t
       unfolding lengthsOf
       lengths-ok t e = rw (← part) (sym (ap (λ (x : Lengths). x .ok) read) ∙ e)

@@ -51,7 +51,7 @@ module _ (room i : ℕ) (line : List ℕ) {m : ℕ} (counted : m ≡ length (par
 
     module _ (s : ℕ) (start : (k : ℕ → List ℕ) → decimalField i line k ≡ k s) {l : List ℕ} {r : HexField} (read : ReadsHex room (i + 1) line l r) where
       pub message-none : r ≡ hex.Refused → ReadsMessage room i line l message.Refused
-      message-none e = record { text = λ k. sym (fields-are line counted (i + 2) _ many ∙ start _ ∙ hex-refused (i + 1) line read (k s) e); inside = tt }
+      message-none e = record { text = λ k. sym (fields-are line counted (i + 2) _ many ∙ start _ ∙ hex-refused read (k s) e); inside = tt }
 
       pub message-some : {n : ℕ} → r ≡ hex.Bytes n → ReadsMessage room i line l (message.Message s n)
-      message-some e = record { text = λ k. sym (fields-are line counted (i + 2) _ many ∙ start _ ∙ hex-bytes (i + 1) line read e (k s)); inside = hex-inside (i + 1) line read e }
+      message-some e = record { text = λ k. sym (fields-are line counted (i + 2) _ many ∙ start _ ∙ hex-bytes read e (k s)); inside = hex-inside read e }

@@ -1,4 +1,4 @@
 pub mod Puts
 pub mod Steps
 pub mod FieldLaws
-pub mod RecordSteps
+pub mod Ways

@@ -1,6 +1,5 @@
--- What each way out of a line says of the answer to it: each law takes the text of the line, or of what is left of it, to the text that was put.
-use Rattle.codec.proofs.Prelude.{_≡_, sym, ap, _∙_, List, _++_, Bool, true, false, ℕ, _≤_, eq-eqb, ne-eqb, length, take, drop, length-take-le, take-at}
-use Rattle.path.specs.declared.Path.{Path}
+-- What fields that were read say to whatever comes after them.
+use Rattle.codec.proofs.Prelude.{_≡_, sym, _∙_, List, _++_, Bool, true, false, ℕ, _≤_, eq-eqb, ne-eqb, length, take, drop, length-take-le, take-at}
 use Rattle.path_text.specs.declared.PathField.{PathField}
 use Rattle.path_text.specs.declared.Found.the-variants as found
 use Rattle.path_text.specs.PathText.{readPathText}
@@ -12,15 +11,9 @@ use Rattle.case_text.specs.declared.HexField.{HexField}
 use Rattle.case_text.specs.declared.HexField.the-variants as hex
 use Rattle.case_text.specs.declared.MessageField.{MessageField}
 use Rattle.case_text.specs.declared.MessageField.the-variants as message
-use Rattle.case_text.specs.declared.Op.{Op}
-use Rattle.case_text.specs.Texts.{six, ended}
-use Rattle.case_text.specs.Fields.{field, onField, Says, exactly, decimalField, hexFieldIn, messageFieldIn, pathField, opOf}
-use Rattle.case_text.specs.Answers.{PutsWithin, ReadsHex, ReadsMessage}
-use Rattle.case_text.proofs.Puts.{within-same}
-
--- an answer that was put answers a line whose text is the same
-pub puts : {room at : ℕ} {a b l l' : List ℕ} {r : ℕ} → b ≡ a → PutsWithin room at (ended a) l l' r → PutsWithin room at (ended b) l l' r
-puts e p = within-same (ap ended e) p
+use Rattle.case_text.specs.Texts.{six}
+use Rattle.case_text.specs.Fields.{field, onField, Says, exactly, decimalField, hexFieldIn, messageFieldIn, pathField}
+use Rattle.case_text.specs.Answers.{ReadsHex, ReadsMessage}
 
 -- ---- the number of fields, which was counted
 module _ (line : List ℕ) {m : ℕ} (counted : m ≡ length (parts 9 line)) where
@@ -38,28 +31,21 @@ module _ (i : ℕ) (line : List ℕ) {s : List ℕ} {r : Decimal} (part : s ≡ 
   pub decimal-value : {v : ℕ} → r ≡ decimal.Value v → (k : ℕ → List ℕ) → decimalField i line k ≡ k v
   decimal-value e k = rw (← part, ← read, e)
 
-  pub decimal-says : {v : ℕ} → r ≡ decimal.Value v → Says (decimalField i line) true v
-  decimal-says e = record { said = λ k. sym (decimal-value e k) }
+module _ (i : ℕ) (line : List ℕ) where
+  pub decimal-says : {x : Decimal} {v : ℕ} → x ≡ decimal.Value v → x ≡ readDecimal (partAt 9 i line) → Says (decimalField i line) true v
+  decimal-says e read = record { said = λ k. rw (← read, e) }
 
-  pub decimal-says-no : r ≡ decimal.Refused → Says (decimalField i line) false 0
-  decimal-says-no e = record { said = λ k. sym (decimal-refused e k) }
+  pub decimal-says-no : readDecimal (partAt 9 i line) ≡ decimal.Refused → Says (decimalField i line) false 0
+  decimal-says-no e = record { said = λ k. rw e }
 
--- ---- the i-th field as a path, which was read
-module _ (i : ℕ) (line : List ℕ) {s : List ℕ} {r : PathField} (part : s ≡ partAt 9 i line) (read : r ≡ readPathText s) where
-  pub path-refused : r .found ≡ found.Refused → (k : Path → List ℕ) → pathField i line k ≡ six
-  path-refused e k = rw (← part, ← read, e)
+  pub path-says : {x : PathField} → x .found ≡ found.Read → x ≡ readPathText (partAt 9 i line) → Says (pathField i line) true (x .path)
+  path-says e read = record { said = λ k. rw (← read, e) }
 
-  pub path-value : r .found ≡ found.Read → (k : Path → List ℕ) → pathField i line k ≡ k (r .path)
-  path-value e k = rw (← part, ← read, e)
-
-  pub path-says : r .found ≡ found.Read → Says (pathField i line) true (r .path)
-  path-says e = record { said = λ k. sym (path-value e k) }
-
-  pub path-says-no : r .found ≡ found.Refused → Says (pathField i line) false (r .path)
-  path-says-no e = record { said = λ k. sym (path-refused e k) }
+  pub path-says-no : {x : PathField} → x .found ≡ found.Refused → x ≡ readPathText (partAt 9 i line) → Says (pathField i line) false (x .path)
+  path-says-no e read = record { said = λ k. rw (← read, e) }
 
 -- ---- the i-th field as bytes in hex, which was read into a buffer
-module _ {room : ℕ} (i : ℕ) (line : List ℕ) {buffer : List ℕ} {r : HexField} (read : ReadsHex room i line buffer r) where
+module _ {room i : ℕ} {line buffer : List ℕ} {r : HexField} (read : ReadsHex room i line buffer r) where
   pub hex-refused : (k : List ℕ → List ℕ) → r ≡ hex.Refused → hexFieldIn room i line k ≡ six
   hex-refused k e = rw e at (sym (read .text k))
 
@@ -79,7 +65,7 @@ module _ {room : ℕ} (i : ℕ) (line : List ℕ) {buffer : List ℕ} {r : HexFi
     lent-back ys kept = take-at ys (drop n buffer) n (kept ∙ hex-long)
 
 -- ---- the i-th field and the next as a start and a message, which was read into a buffer
-module _ {room : ℕ} (i : ℕ) (line : List ℕ) {buffer : List ℕ} {r : MessageField} (read : ReadsMessage room i line buffer r) where
+module _ {room i : ℕ} {line buffer : List ℕ} {r : MessageField} (read : ReadsMessage room i line buffer r) where
   pub message-refused : (k : ℕ → List ℕ → List ℕ) → r ≡ message.Refused → messageFieldIn room i line k ≡ six
   message-refused k e = rw e at (sym (read .text k))
 
@@ -116,7 +102,3 @@ module _ {A : Type 0} {f : (A → List ℕ) → List ℕ} {ok : Bool} {a : A} (s
 
   pub says-refused : ok ≡ false → (k : A → List ℕ) → f k ≡ six
   says-refused e k = rw e at (sym (s .said k))
-
--- ---- the operation, which was told from its field
-pub op-told : (line : List ℕ) {s : List ℕ} {r x : Op} → s ≡ partAt 9 1 line → r ≡ opOf s → r ≡ x → (f : Op → List ℕ) → f (opOf (partAt 9 1 line)) ≡ f x
-op-told line part told e f = ap f (ap opOf (sym part) ∙ sym told ∙ e)

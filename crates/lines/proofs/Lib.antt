@@ -2,3 +2,4 @@ pub mod Lines
 pub mod Fitting
 pub mod Keeping
 pub mod Stream
+pub mod Answering

@@ -1,3 +1,2 @@
-pub mod PathField
 pub mod Answering
 pub mod Stream

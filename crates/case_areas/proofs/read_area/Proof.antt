@@ -1,123 +1,63 @@
-use Rattle.codec.proofs.Prelude.{_≡_, refl, sym, ap, _∙_, true, false, List, ℕ, _+_, now, not-true, not-false, needs}
-use Rattle.path.specs.declared.Path.{Path}
-use Rattle.grouping.specs.declared.RangeEnd.{RangeEnd}
-use Rattle.grouping.specs.declared.AreaSubspace.{AreaSubspace}
+use Rattle.codec.proofs.Prelude.{_≡_, refl, List, not, true, false, ℕ, _+_, not-true, not-false, needs}
 use Rattle.grouping.specs.declared.Area.{Area}
+use Rattle.area_text.specs.declared.SubspaceField.{SubspaceField}
+use Rattle.area_text.specs.declared.EndField.{EndField}
 use Rattle.area_text.specs.AreaText.{readSubspaceText, readEndText}
-use Rattle.case_text.specs.Fields.{field, onField, decimalField, pathField}
-use Rattle.case_text.proofs.Steps.{decimal-says, decimal-says-no, path-says, path-says-no, field-says, says-then, says-none}
-use Rattle.case_areas.specs.Lines.{noArea}
+use Rattle.path_text.specs.declared.PathField.{PathField}
+use Rattle.path_text.specs.declared.Found.the-variants as found
+use Rattle.path_text.specs.PathText.{readPathText}
+use Rattle.decimal.specs.Decimal.{readDecimal}
+use Rattle.decimal.specs.declared.Decimal.{Decimal}
+use Rattle.decimal.specs.declared.Decimal.the-variants as decimal
+use Rattle.case_text.specs.Fields.{field, Says}
+use Rattle.case_areas.specs.Lines.{areaField, noArea}
 use Rattle.case_areas.proofs.read_area.Statement.{statement}
 use Rattle.case_areas.proofs.read_area.Tie as tie
 
--- what comes after each field
-abbrev end-of : AreaSubspace → Path → ℕ → RangeEnd → (Area → List ℕ) → List ℕ
-end-of s p t e k = k (record { subspace = s; path = p; times = record { start = t; end = e } })
+-- the four fields, one after another
+module _ (i : ℕ) (line : List ℕ) {b : List ℕ} {s : SubspaceField} (first : s ≡ readSubspaceText b) (at : b ≡ field i line) where
+  no-subspace : (a : Area) → not (s .ok) ≡ true → Says (areaField i line) false a
+  no-subspace a e = record { said = λ k. rw (← at, ← first, not-true (s .ok) e) }
 
-abbrev start-of : ℕ → List ℕ → AreaSubspace → Path → ℕ → (Area → List ℕ) → List ℕ
-start-of i line s p t k = onField (readEndText (field (i + 3) line) .ok) (readEndText (field (i + 3) line) .end) (λ e. end-of s p t e k)
+  module _ (e : not (s .ok) ≡ false) {b2 : List ℕ} {p : PathField} (second : p ≡ readPathText b2) (at2 : b2 ≡ field (i + 1) line) where
+    no-path : (a : Area) → p .found ≡ found.Refused → Says (areaField i line) false a
+    no-path a f = record { said = λ k. rw (← at, ← first, not-false (s .ok) e, ← at2, ← second, f) }
 
-abbrev path-of : ℕ → List ℕ → AreaSubspace → Path → (Area → List ℕ) → List ℕ
-path-of i line s p k = decimalField (i + 2) line (λ t. start-of i line s p t k)
+    module _ (f : p .found ≡ found.Read) {b3 : List ℕ} {t : Decimal} (third : t ≡ readDecimal b3) (at3 : b3 ≡ field (i + 2) line) where
+      no-start : (a : Area) → t ≡ decimal.Refused → Says (areaField i line) false a
+      no-start a g = record { said = λ k. rw (← at, ← first, not-false (s .ok) e, ← at2, ← second, f, ← at3, ← third, g) }
 
-abbrev subspace-of : ℕ → List ℕ → AreaSubspace → (Area → List ℕ) → List ℕ
-subspace-of i line s k = pathField (i + 1) line (λ p. path-of i line s p k)
+      module _ {v : ℕ} (g : t ≡ decimal.Value v) {b4 : List ℕ} {n : EndField} (fourth : n ≡ readEndText b4) (at4 : b4 ≡ field (i + 3) line) where
+        no-end : (a : Area) → not (n .ok) ≡ true → Says (areaField i line) false a
+        no-end a h = record { said = λ k. rw (← at, ← first, not-false (s .ok) e, ← at2, ← second, f, ← at3, ← third, g, ← at4, ← fourth, not-true (n .ok) h) }
 
--- src/lib.rt:58:9
-returns : tie.Need-returns
-unfolding noArea
-returns c =
-    let after-read-subspace : tie.After-read-subspace = search in
-    let after-part : tie.After-part = search in
-    let start : tie.Start = search in
-    let i = start .args .place in
-    let line = now (start .args .line) in
-    rw (c .no-area .ensures) (says-none (subspace-of i line) _ (field-says readSubspaceText (λ r. r .ok) (λ r. r .subspace) i line (after-part .part .ensures) (after-read-subspace .read-subspace .ensures) false (not-true _ (c .before .if1 .taken))), refl)
-
--- src/lib.rt:63:9
-returns-2 : tie.Need-returns-2
-unfolding noArea
-returns-2 c =
-    let after-read-path : tie.After-read-path = search in
-    let after-part2 : tie.After-part2 = search in
-    let else1 : tie.Else1 = search in
-    let after-read-subspace : tie.After-read-subspace = search in
-    let after-part : tie.After-part = search in
-    let start : tie.Start = search in
-    let i = start .args .place in
-    let line = now (start .args .line) in
-    let first = field-says readSubspaceText (λ r. r .ok) (λ r. r .subspace) i line (after-part .part .ensures) (after-read-subspace .read-subspace .ensures) true (not-false _ (else1 .if1 .left)) in
-    rw (c .no-area2 .ensures) (says-then (subspace-of i line) first (says-none (path-of i line _) _ (path-says-no (i + 1) line (after-part2 .part2 .ensures) (after-read-path .read-path .ensures) (c .before .enum-told2 .given .1))), refl)
-
--- src/lib.rt:67:9
-returns-3 : tie.Need-returns-3
-unfolding noArea
-returns-3 c =
-    let after-read-decimal : tie.After-read-decimal = search in
-    let after-part3 : tie.After-part3 = search in
-    let after-enum-told : tie.After-enum-told = search in
-    let after-read-path : tie.After-read-path = search in
-    let after-part2 : tie.After-part2 = search in
-    let else1 : tie.Else1 = search in
-    let after-read-subspace : tie.After-read-subspace = search in
-    let after-part : tie.After-part = search in
-    let start : tie.Start = search in
-    let i = start .args .place in
-    let line = now (start .args .line) in
-    let first = field-says readSubspaceText (λ r. r .ok) (λ r. r .subspace) i line (after-part .part .ensures) (after-read-subspace .read-subspace .ensures) true (not-false _ (else1 .if1 .left)) in
-    let second = path-says (i + 1) line (after-part2 .part2 .ensures) (after-read-path .read-path .ensures) (after-enum-told .enum-told .given .1) in
-    rw (c .no-area3 .ensures) (says-then (subspace-of i line) first (says-then (path-of i line _) second (says-none (start-of i line _ _) _ (decimal-says-no (i + 2) line (after-part3 .part3 .ensures) (after-read-decimal .read-decimal .ensures) (c .before .enum-told3 .given .1)))), refl)
-
--- src/lib.rt:71:9
-returns-4 : tie.Need-returns-4
-unfolding noArea
-returns-4 c =
-    let after-read-end : tie.After-read-end = search in
-    let after-part4 : tie.After-part4 = search in
-    let after-third : tie.After-third = search in
-    let after-read-decimal : tie.After-read-decimal = search in
-    let after-part3 : tie.After-part3 = search in
-    let after-enum-told : tie.After-enum-told = search in
-    let after-read-path : tie.After-read-path = search in
-    let after-part2 : tie.After-part2 = search in
-    let else1 : tie.Else1 = search in
-    let after-read-subspace : tie.After-read-subspace = search in
-    let after-part : tie.After-part = search in
-    let start : tie.Start = search in
-    let i = start .args .place in
-    let line = now (start .args .line) in
-    let first = field-says readSubspaceText (λ r. r .ok) (λ r. r .subspace) i line (after-part .part .ensures) (after-read-subspace .read-subspace .ensures) true (not-false _ (else1 .if1 .left)) in
-    let second = path-says (i + 1) line (after-part2 .part2 .ensures) (after-read-path .read-path .ensures) (after-enum-told .enum-told .given .1) in
-    let third = decimal-says (i + 2) line (after-part3 .part3 .ensures) (after-read-decimal .read-decimal .ensures) (after-third .third .given .1) in
-    rw (c .no-area4 .ensures) (says-then (subspace-of i line) first (says-then (path-of i line _) second (says-then (start-of i line _ _) third (says-none (end-of _ _ _) _ (field-says readEndText (λ r. r .ok) (λ r. r .end) (i + 3) line (after-part4 .part4 .ensures) (after-read-end .read-end .ensures) false (not-true _ (c .before .if2 .taken)))))), refl)
-
--- src/lib.rt:52:1
-returns-5 : tie.Need-returns-5
-returns-5 c =
-    let after-read-end : tie.After-read-end = search in
-    let after-part4 : tie.After-part4 = search in
-    let after-third : tie.After-third = search in
-    let after-read-decimal : tie.After-read-decimal = search in
-    let after-part3 : tie.After-part3 = search in
-    let after-enum-told : tie.After-enum-told = search in
-    let after-read-path : tie.After-read-path = search in
-    let after-part2 : tie.After-part2 = search in
-    let else1 : tie.Else1 = search in
-    let after-read-subspace : tie.After-read-subspace = search in
-    let after-part : tie.After-part = search in
-    let start : tie.Start = search in
-    let i = start .args .place in
-    let line = now (start .args .line) in
-    let first = field-says readSubspaceText (λ r. r .ok) (λ r. r .subspace) i line (after-part .part .ensures) (after-read-subspace .read-subspace .ensures) true (not-false _ (else1 .if1 .left)) in
-    let second = path-says (i + 1) line (after-part2 .part2 .ensures) (after-read-path .read-path .ensures) (after-enum-told .enum-told .given .1) in
-    let third = decimal-says (i + 2) line (after-part3 .part3 .ensures) (after-read-decimal .read-decimal .ensures) (after-third .third .given .1) in
-    (says-then (subspace-of i line) first (says-then (path-of i line _) second (says-then (start-of i line _ _) third (says-then (end-of _ _ _) (field-says readEndText (λ r. r .ok) (λ r. r .end) (i + 3) line (after-part4 .part4 .ensures) (after-read-end .read-end .ensures) true (not-false _ (c .before .before .if2 .left))) (record { said = λ k. refl })))), refl)
+        all-four : not (n .ok) ≡ false → Says (areaField i line) true (record { subspace = s .subspace; path = p .path; times = record { start = v; end = n .end } })
+        all-four h = record { said = λ k. rw (← at, ← first, not-false (s .ok) e, ← at2, ← second, f, ← at3, ← third, g, ← at4, ← fourth, not-false (n .ok) h) }
 
 pub read-area-spec : {M : Type 1} → statement M
+unfolding noArea
 read-area-spec =
     tie.close
     (tie.spec
-    (λ c κs. search needs) (λ c κs. search needs) (λ c κs. search needs) returns (λ c. search needs) (λ c κs. search needs)
-    (λ c κs. search needs) (λ c. search needs) (λ c. search needs) (λ c κs. search needs) returns-2 (λ c. search needs)
-    (λ c κs. search needs) (λ c κs. search needs) (λ c. search needs) (λ c. search needs) (λ c κs. search needs) returns-3
-    (λ c. search needs) (λ c κs. search needs) (λ c κs. search needs) (λ c κs. search needs) returns-4 returns-5)
+    (λ c κs. search needs) (λ c κs. search needs) (λ c κs. search needs)
+    (λ c. let f : tie.After-read-subspace = search in rw (c .no-area .ensures) (no-subspace _ _ (f .read-subspace .ensures) (search) _ (search), refl))
+    (λ c. search needs) (λ c κs. search needs) (λ c κs. search needs) (λ c. search needs) (λ c. search needs) (λ c κs. search needs)
+    (λ c. let g : tie.After-read-path = search in let f : tie.After-read-subspace = search in
+    rw (c .no-area2 .ensures) (no-path _ _ (f .read-subspace .ensures) (search) (search) (g .read-path .ensures) (search) _ (search), refl))
+    (λ c. search needs) (λ c κs. search needs) (λ c κs. search needs) (λ c. search needs) (λ c. search needs) (λ c κs. search needs)
+    (λ c. let h : tie.After-read-decimal = search in let g : tie.After-read-path = search in let f : tie.After-read-subspace = search in
+    rw (c .no-area3 .ensures) (no-start _ _ (f .read-subspace .ensures) (search) (search) (g .read-path .ensures) (search) (search) (h .read-decimal .ensures) (search) _ (search), refl))
+    (λ c. search needs) (λ c κs. search needs) (λ c κs. search needs) (λ c κs. search needs)
+    (λ c. let l : tie.After-read-end = search in let w : tie.After-third = search in let h : tie.After-read-decimal = search in let g : tie.After-read-path = search in
+    let f : tie.After-read-subspace = search in
+    rw (c .no-area4 .ensures) (
+      no-end _ _ (f .read-subspace .ensures) (search) (search) (g .read-path .ensures) (search) (search) (h .read-decimal .ensures) (search) (w .third .given .1)
+          (l .read-end .ensures) (search) _ (search),
+      refl,
+    ))
+    (λ c. let l : tie.After-read-end = search in let w : tie.After-third = search in let h : tie.After-read-decimal = search in let g : tie.After-read-path = search in
+    let f : tie.After-read-subspace = search in (
+      all-four _ _ (f .read-subspace .ensures) (search) (search) (g .read-path .ensures) (search) (search) (h .read-decimal .ensures) (search) (w .third .given .1) (l .read-end .ensures)
+          (search) (search),
+      refl,
+    )))

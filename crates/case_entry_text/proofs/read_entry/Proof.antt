@@ -1,112 +1,72 @@
-use Rattle.codec.proofs.Prelude.{refl, true, false, List, ℕ, _+_, now, not-true, not-false, needs}
-use Rattle.text.specs.Ids.{readId}
+use Rattle.codec.proofs.Prelude.{_≡_, refl, List, Bool, not, true, false, ℕ, _+_, not-true, not-false, needs}
 use Rattle.case_text.specs.Fields.{decimalField, idField}
-use Rattle.case_text.proofs.Steps.{decimal-says, decimal-says-no, field-says, says-then, says-none, says-as}
-use Rattle.case_entry_text.specs.Fields.{noEntry}
-use Rattle.entry.specs.declared.Entry.{Entry}
 use Rattle.case_entry_text.specs.declared.Names.{Names}
+use Rattle.decimal.specs.Decimal.{readDecimal}
+use Rattle.decimal.specs.declared.Decimal.{Decimal}
+use Rattle.decimal.specs.declared.Decimal.the-variants as decimal
+use Rattle.text.specs.declared.IdField.{IdField}
+use Rattle.text.specs.Ids.{readId}
+use Rattle.entry.specs.declared.Entry.{Entry}
+use Rattle.case_text.specs.Fields.{field, Says}
+use Rattle.case_text.proofs.Steps.{says-then, says-none, says-as}
+use Rattle.case_entry_text.specs.Fields.{namesField, entryField, noEntry}
 use Rattle.case_entry_text.proofs.read_entry.Statement.{statement}
 use Rattle.case_entry_text.proofs.read_entry.Tie as tie
 
--- what comes after the names, and after each other field
-abbrev digest-of : Names → ℕ → ℕ → List ℕ → (Entry → List ℕ) → List ℕ
-digest-of n t z d k = k (record { «namespace_id» = n .«namespace_id»; «subspace_id» = n .«subspace_id»; path = n .path; timestamp = t; «payload_length» = z; «payload_digest» = d })
-
-abbrev size-of : ℕ → List ℕ → Names → ℕ → ℕ → (Entry → List ℕ) → List ℕ
-size-of i line n t z k = idField (i + 5) line (λ d. digest-of n t z d k)
-
-abbrev time-of : ℕ → List ℕ → Names → ℕ → (Entry → List ℕ) → List ℕ
-time-of i line n t k = decimalField (i + 4) line (λ z. size-of i line n t z k)
-
+-- what comes after the names
 abbrev names-of : ℕ → List ℕ → Names → (Entry → List ℕ) → List ℕ
-names-of i line n k = decimalField (i + 3) line (λ t. time-of i line n t k)
+names-of i line n k =
+    decimalField (i + 3) line (λ t. decimalField (i + 4) line (λ z. idField (i + 5) line (λ d.
+    k (record { «namespace_id» = n .«namespace_id»; «subspace_id» = n .«subspace_id»; path = n .path; timestamp = t; «payload_length» = z; «payload_digest» = d }))))
 
-returns : tie.Need-returns
-unfolding noEntry
-returns c =
-    let after-read-names : tie.After-read-names = search in
-    let start : tie.Start = search in
-    let i = start .args .place in
-    let line = now (start .args .line) in
-    rw (c .no-entry .ensures) (says-none (names-of i line) _ (says-as (after-read-names .read-names .ensures) (not-true _ (c .before .if1 .taken))), refl)
+-- the names and the three fields after them, one after another
+module _ (i : ℕ) (line : List ℕ) {ok1 : Bool} {x1 : Names} (said1 : Says (namesField i line) ok1 x1) where
+  no-names : (a : Entry) → not ok1 ≡ true → Says (entryField i line) false a
+  no-names a e = says-none (names-of i line) a (says-as said1 (not-true ok1 e))
 
-returns-2 : tie.Need-returns-2
-unfolding noEntry
-returns-2 c =
-    let after-read-decimal : tie.After-read-decimal = search in
-    let after-part : tie.After-part = search in
-    let else1 : tie.Else1 = search in
-    let after-read-names : tie.After-read-names = search in
-    let start : tie.Start = search in
-    let i = start .args .place in
-    let line = now (start .args .line) in
-    let names = says-as (after-read-names .read-names .ensures) (not-false _ (else1 .if1 .left)) in
-    rw (c .no-entry2 .ensures) (says-then (names-of i line) names (says-none (time-of i line _) _ (decimal-says-no (i + 3) line (after-part .part .ensures) (after-read-decimal .read-decimal .ensures) (c .before .enum-told .given .1))), refl)
+  module _ (so1 : not ok1 ≡ false) {s2 : List ℕ} {x2 : Decimal} (read2 : x2 ≡ readDecimal s2) (part2 : s2 ≡ field (i + 3) line) where
+    no-time : (a : Entry) → x2 ≡ decimal.Refused → Says (entryField i line) false a
+    no-time a e = says-then (names-of i line) (says-as said1 (not-false ok1 so1)) (record { said = λ k. rw (← part2, ← read2, e) })
 
-returns-3 : tie.Need-returns-3
-unfolding noEntry
-returns-3 c =
-    let after-read-decimal2 : tie.After-read-decimal2 = search in
-    let after-part2 : tie.After-part2 = search in
-    let after-fourth : tie.After-fourth = search in
-    let after-read-decimal : tie.After-read-decimal = search in
-    let after-part : tie.After-part = search in
-    let else1 : tie.Else1 = search in
-    let after-read-names : tie.After-read-names = search in
-    let start : tie.Start = search in
-    let i = start .args .place in
-    let line = now (start .args .line) in
-    let names = says-as (after-read-names .read-names .ensures) (not-false _ (else1 .if1 .left)) in
-    let fourth = decimal-says (i + 3) line (after-part .part .ensures) (after-read-decimal .read-decimal .ensures) (after-fourth .fourth .given .1) in
-    rw (c .no-entry3 .ensures) (says-then (names-of i line) names (says-then (time-of i line _) fourth (says-none (size-of i line _ _) _ (decimal-says-no (i + 4) line (after-part2 .part2 .ensures) (after-read-decimal2 .read-decimal2 .ensures) (c .before .enum-told2 .given .1)))), refl)
+    module _ {v2 : ℕ} (ok2 : x2 ≡ decimal.Value v2) {s3 : List ℕ} {x3 : Decimal} (read3 : x3 ≡ readDecimal s3) (part3 : s3 ≡ field (i + 4) line) where
+      no-size : (a : Entry) → x3 ≡ decimal.Refused → Says (entryField i line) false a
+      no-size a e = says-then (names-of i line) (says-as said1 (not-false ok1 so1)) (record { said = λ k. rw (← part2, ← read2, ok2, ← part3, ← read3, e) })
 
-returns-4 : tie.Need-returns-4
-unfolding noEntry
-returns-4 c =
-    let after-read-id : tie.After-read-id = search in
-    let after-part3 : tie.After-part3 = search in
-    let after-fifth : tie.After-fifth = search in
-    let after-read-decimal2 : tie.After-read-decimal2 = search in
-    let after-part2 : tie.After-part2 = search in
-    let after-fourth : tie.After-fourth = search in
-    let after-read-decimal : tie.After-read-decimal = search in
-    let after-part : tie.After-part = search in
-    let else1 : tie.Else1 = search in
-    let after-read-names : tie.After-read-names = search in
-    let start : tie.Start = search in
-    let i = start .args .place in
-    let line = now (start .args .line) in
-    let names = says-as (after-read-names .read-names .ensures) (not-false _ (else1 .if1 .left)) in
-    let fourth = decimal-says (i + 3) line (after-part .part .ensures) (after-read-decimal .read-decimal .ensures) (after-fourth .fourth .given .1) in
-    let fifth = decimal-says (i + 4) line (after-part2 .part2 .ensures) (after-read-decimal2 .read-decimal2 .ensures) (after-fifth .fifth .given .1) in
-    rw (c .no-entry4 .ensures) (says-then (names-of i line) names (says-then (time-of i line _) fourth (says-then (size-of i line _ _) fifth (says-none (digest-of _ _ _) _ (field-says readId (λ r. r .ok) (λ r. r .id) (i + 5) line (after-part3 .part3 .ensures) (after-read-id .read-id .ensures) false (not-true _ (c .before .if2 .taken)))))), refl)
+      module _ {v3 : ℕ} (ok3 : x3 ≡ decimal.Value v3) {s4 : List ℕ} {x4 : IdField} (read4 : x4 ≡ readId s4) (part4 : s4 ≡ field (i + 5) line) where
+        no-digest : (a : Entry) → not (x4 .ok) ≡ true → Says (entryField i line) false a
+        no-digest a e = says-then (names-of i line) (says-as said1 (not-false ok1 so1)) (record { said = λ k. rw (← part2, ← read2, ok2, ← part3, ← read3, ok3, ← part4, ← read4, not-true (x4 .ok) e) })
 
-returns-5 : tie.Need-returns-5
-returns-5 c =
-    let else2 : tie.Else2 = search in
-    let after-read-id : tie.After-read-id = search in
-    let after-part3 : tie.After-part3 = search in
-    let after-fifth : tie.After-fifth = search in
-    let after-read-decimal2 : tie.After-read-decimal2 = search in
-    let after-part2 : tie.After-part2 = search in
-    let after-fourth : tie.After-fourth = search in
-    let after-read-decimal : tie.After-read-decimal = search in
-    let after-part : tie.After-part = search in
-    let else1 : tie.Else1 = search in
-    let after-read-names : tie.After-read-names = search in
-    let start : tie.Start = search in
-    let i = start .args .place in
-    let line = now (start .args .line) in
-    let names = says-as (after-read-names .read-names .ensures) (not-false _ (else1 .if1 .left)) in
-    let fourth = decimal-says (i + 3) line (after-part .part .ensures) (after-read-decimal .read-decimal .ensures) (after-fourth .fourth .given .1) in
-    let fifth = decimal-says (i + 4) line (after-part2 .part2 .ensures) (after-read-decimal2 .read-decimal2 .ensures) (after-fifth .fifth .given .1) in
-    (says-then (names-of i line) names (says-then (time-of i line _) fourth (says-then (size-of i line _ _) fifth (says-then (digest-of _ _ _) (field-says readId (λ r. r .ok) (λ r. r .id) (i + 5) line (after-part3 .part3 .ensures) (after-read-id .read-id .ensures) true (not-false _ (else2 .if2 .left))) (record { said = λ k. refl })))), refl)
+        all-read : (ok4 : not (x4 .ok) ≡ false) → Says (entryField i line) true (record { «namespace_id» = x1 .«namespace_id»; «subspace_id» = x1 .«subspace_id»; path = x1 .path; timestamp = v2; «payload_length» = v3; «payload_digest» = x4 .id })
+        all-read ok4 = says-then (names-of i line) (says-as said1 (not-false ok1 so1)) (record { said = λ k. rw (← part2, ← read2, ok2, ← part3, ← read3, ok3, ← part4, ← read4, not-false (x4 .ok) ok4) })
 
 pub read-entry-spec : {M : Type 1} → statement M
+unfolding noEntry
 read-entry-spec =
     tie.close
     (tie.spec
-    (λ c κs. search needs) (λ c κs. search needs) returns (λ c. search needs) (λ c κs. search needs) (λ c κs. search needs)
-    (λ c. search needs) (λ c. search needs) (λ c κs. search needs) returns-2 (λ c. search needs) (λ c κs. search needs)
-    (λ c κs. search needs) (λ c. search needs) (λ c. search needs) (λ c κs. search needs) returns-3 (λ c. search needs)
-    (λ c κs. search needs) (λ c κs. search needs) (λ c κs. search needs) returns-4 returns-5)
+    (λ c κs. search needs) (λ c κs. search needs)
+    (λ c. let a : tie.After-read-names = search in rw (c .no-entry .ensures) (no-names _ _ (a .read-names .ensures) _ (search), refl))
+    (λ c. search needs) (λ c κs. search needs) (λ c κs. search needs) (λ c. search needs) (λ c. search needs) (λ c κs. search needs)
+    (λ c. let b : tie.After-read-decimal = search in let a : tie.After-read-names = search in
+    rw (c .no-entry2 .ensures) (no-time _ _ (a .read-names .ensures) (search) (b .read-decimal .ensures) (search) _ (search), refl))
+    (λ c. search needs) (λ c κs. search needs) (λ c κs. search needs) (λ c. search needs) (λ c. search needs) (λ c κs. search needs)
+    (λ c. let d : tie.After-read-decimal2 = search in let b' : tie.After-fourth = search in let b : tie.After-read-decimal = search in let a : tie.After-read-names = search in
+    rw (c .no-entry3 .ensures) (
+      no-size _ _ (a .read-names .ensures) (search) (b .read-decimal .ensures) (search) (b' .fourth .given .1) (d .read-decimal2 .ensures) (search) _
+          (search),
+      refl,
+    ))
+    (λ c. search needs) (λ c κs. search needs) (λ c κs. search needs) (λ c κs. search needs)
+    (λ c. let f : tie.After-read-id = search in let d' : tie.After-fifth = search in let d : tie.After-read-decimal2 = search in let b' : tie.After-fourth = search in
+    let b : tie.After-read-decimal = search in let a : tie.After-read-names = search in
+    rw (c .no-entry4 .ensures) (
+      no-digest _ _ (a .read-names .ensures) (search) (b .read-decimal .ensures) (search) (b' .fourth .given .1) (d .read-decimal2 .ensures) (search)
+          (d' .fifth .given .1) (f .read-id .ensures) (search) _ (search),
+      refl,
+    ))
+    (λ c. let e : tie.Else2 = search in let f : tie.After-read-id = search in let d' : tie.After-fifth = search in let d : tie.After-read-decimal2 = search in
+    let b' : tie.After-fourth = search in let b : tie.After-read-decimal = search in let a : tie.After-read-names = search in (
+      all-read _ _ (a .read-names .ensures) (search) (b .read-decimal .ensures) (search) (b' .fourth .given .1) (d .read-decimal2 .ensures) (search) (d' .fifth .given .1)
+          (f .read-id .ensures) (search) (e .if2 .left),
+      refl,
+    )))

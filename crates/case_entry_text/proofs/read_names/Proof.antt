@@ -1,87 +1,43 @@
-use Rattle.codec.proofs.Prelude.{refl, true, false, List, ℕ, _+_, now, not-true, not-false, needs}
+use Rattle.codec.proofs.Prelude.{_≡_, List, not, true, false, ℕ, _+_, not-true, not-false, needs}
+use Rattle.text.specs.declared.IdField.{IdField}
 use Rattle.text.specs.Ids.{readId}
-use Rattle.case_text.specs.Fields.{idField, pathField}
-use Rattle.case_text.proofs.Steps.{path-says, path-says-no, field-says, says-then, says-none}
-use Rattle.case_entry_text.specs.Fields.{noNames}
-use Rattle.path.specs.declared.Path.{Path}
+use Rattle.path_text.specs.declared.PathField.{PathField}
+use Rattle.path_text.specs.declared.Found.the-variants as found
+use Rattle.path_text.specs.PathText.{readPathText}
 use Rattle.case_entry_text.specs.declared.Names.{Names}
+use Rattle.case_text.specs.Fields.{field, Says}
+use Rattle.case_entry_text.specs.Fields.{namesField, noNames}
 use Rattle.case_entry_text.proofs.read_names.Statement.{statement}
 use Rattle.case_entry_text.proofs.read_names.Tie as tie
 
--- what comes after each field
-abbrev third-of : List ℕ → List ℕ → Path → (Names → List ℕ) → List ℕ
-third-of n s p k = k (record { «namespace_id» = n; «subspace_id» = s; path = p })
+-- the three fields, one after another
+module _ (i : ℕ) (line : List ℕ) {s1 : List ℕ} {x1 : IdField} (read1 : x1 ≡ readId s1) (part1 : s1 ≡ field i line) where
+  no-namespace : (a : Names) → not (x1 .ok) ≡ true → Says (namesField i line) false a
+  no-namespace a e = record { said = λ k. rw (← part1, ← read1, not-true (x1 .ok) e) }
 
-abbrev second-of : ℕ → List ℕ → List ℕ → List ℕ → (Names → List ℕ) → List ℕ
-second-of i line n s k = pathField (i + 2) line (λ p. third-of n s p k)
+  module _ (ok1 : not (x1 .ok) ≡ false) {s2 : List ℕ} {x2 : IdField} (read2 : x2 ≡ readId s2) (part2 : s2 ≡ field (i + 1) line) where
+    no-subspace : (a : Names) → not (x2 .ok) ≡ true → Says (namesField i line) false a
+    no-subspace a e = record { said = λ k. rw (← part1, ← read1, not-false (x1 .ok) ok1, ← part2, ← read2, not-true (x2 .ok) e) }
 
-abbrev first-of : ℕ → List ℕ → List ℕ → (Names → List ℕ) → List ℕ
-first-of i line n k = idField (i + 1) line (λ s. second-of i line n s k)
+    module _ (ok2 : not (x2 .ok) ≡ false) {s3 : List ℕ} {x3 : PathField} (read3 : x3 ≡ readPathText s3) (part3 : s3 ≡ field (i + 2) line) where
+      no-path : (a : Names) → x3 .found ≡ found.Refused → Says (namesField i line) false a
+      no-path a e = record { said = λ k. rw (← part1, ← read1, not-false (x1 .ok) ok1, ← part2, ← read2, not-false (x2 .ok) ok2, ← part3, ← read3, e) }
 
-returns : tie.Need-returns
-unfolding noNames
-returns c =
-    let after-read-id : tie.After-read-id = search in
-    let after-part : tie.After-part = search in
-    let start : tie.Start = search in
-    let i = start .args .place in
-    let line = now (start .args .line) in
-    rw (c .no-names .ensures) (says-none (first-of i line) _ (field-says readId (λ r. r .ok) (λ r. r .id) i line (after-part .part .ensures) (after-read-id .read-id .ensures) false (not-true _ (c .before .if1 .taken))))
-
-returns-2 : tie.Need-returns-2
-unfolding noNames
-returns-2 c =
-    let after-read-id2 : tie.After-read-id2 = search in
-    let after-part2 : tie.After-part2 = search in
-    let else1 : tie.Else1 = search in
-    let after-read-id : tie.After-read-id = search in
-    let after-part : tie.After-part = search in
-    let start : tie.Start = search in
-    let i = start .args .place in
-    let line = now (start .args .line) in
-    let first = field-says readId (λ r. r .ok) (λ r. r .id) i line (after-part .part .ensures) (after-read-id .read-id .ensures) true (not-false _ (else1 .if1 .left)) in
-    rw (c .no-names2 .ensures) (says-then (first-of i line) first (says-none (second-of i line _) _ (field-says readId (λ r. r .ok) (λ r. r .id) (i + 1) line (after-part2 .part2 .ensures) (after-read-id2 .read-id2 .ensures) false (not-true _ (c .before .if2 .taken)))))
-
-returns-3 : tie.Need-returns-3
-unfolding noNames
-returns-3 c =
-    let after-read-path : tie.After-read-path = search in
-    let after-part3 : tie.After-part3 = search in
-    let else2 : tie.Else2 = search in
-    let after-read-id2 : tie.After-read-id2 = search in
-    let after-part2 : tie.After-part2 = search in
-    let else1 : tie.Else1 = search in
-    let after-read-id : tie.After-read-id = search in
-    let after-part : tie.After-part = search in
-    let start : tie.Start = search in
-    let i = start .args .place in
-    let line = now (start .args .line) in
-    let first = field-says readId (λ r. r .ok) (λ r. r .id) i line (after-part .part .ensures) (after-read-id .read-id .ensures) true (not-false _ (else1 .if1 .left)) in
-    let second = field-says readId (λ r. r .ok) (λ r. r .id) (i + 1) line (after-part2 .part2 .ensures) (after-read-id2 .read-id2 .ensures) true (not-false _ (else2 .if2 .left)) in
-    rw (c .no-names3 .ensures) (says-then (first-of i line) first (says-then (second-of i line _) second (says-none (third-of _ _) _ (path-says-no (i + 2) line (after-part3 .part3 .ensures) (after-read-path .read-path .ensures) (c .before .enum-told2 .given .1)))))
-
-returns-4 : tie.Need-returns-4
-returns-4 c =
-    let after-enum-told : tie.After-enum-told = search in
-    let after-read-path : tie.After-read-path = search in
-    let after-part3 : tie.After-part3 = search in
-    let else2 : tie.Else2 = search in
-    let after-read-id2 : tie.After-read-id2 = search in
-    let after-part2 : tie.After-part2 = search in
-    let else1 : tie.Else1 = search in
-    let after-read-id : tie.After-read-id = search in
-    let after-part : tie.After-part = search in
-    let start : tie.Start = search in
-    let i = start .args .place in
-    let line = now (start .args .line) in
-    let first = field-says readId (λ r. r .ok) (λ r. r .id) i line (after-part .part .ensures) (after-read-id .read-id .ensures) true (not-false _ (else1 .if1 .left)) in
-    let second = field-says readId (λ r. r .ok) (λ r. r .id) (i + 1) line (after-part2 .part2 .ensures) (after-read-id2 .read-id2 .ensures) true (not-false _ (else2 .if2 .left)) in
-    says-then (first-of i line) first (says-then (second-of i line _) second (says-then (third-of _ _) (path-says (i + 2) line (after-part3 .part3 .ensures) (after-read-path .read-path .ensures) (after-enum-told .enum-told .given .1)) (record { said = λ k. refl })))
+      all-read : (ok3 : x3 .found ≡ found.Read) → Says (namesField i line) true (record { «namespace_id» = x1 .id; «subspace_id» = x2 .id; path = x3 .path })
+      all-read ok3 = record { said = λ k. rw (← part1, ← read1, not-false (x1 .ok) ok1, ← part2, ← read2, not-false (x2 .ok) ok2, ← part3, ← read3, ok3) }
 
 pub read-names-spec : {M : Type 1} → statement M
+unfolding noNames
 read-names-spec =
     tie.close
     (tie.spec
-    (λ c κs. search needs) (λ c κs. search needs) (λ c κs. search needs) returns (λ c. search needs) (λ c κs. search needs)
-    (λ c κs. search needs) (λ c κs. search needs) returns-2 (λ c. search needs) (λ c κs. search needs) (λ c κs. search needs)
-    (λ c. search needs) (λ c. search needs) (λ c κs. search needs) returns-3 returns-4)
+    (λ c κs. search needs) (λ c κs. search needs) (λ c κs. search needs)
+    (λ c. let a : tie.After-read-id = search in rw (c .no-names .ensures) (no-namespace _ _ (a .read-id .ensures) (search) _ (search)))
+    (λ c. search needs) (λ c κs. search needs) (λ c κs. search needs) (λ c κs. search needs)
+    (λ c. let b : tie.After-read-id2 = search in let a : tie.After-read-id = search in
+    rw (c .no-names2 .ensures) (no-subspace _ _ (a .read-id .ensures) (search) (search) (b .read-id2 .ensures) (search) _ (search)))
+    (λ c. search needs) (λ c κs. search needs) (λ c κs. search needs) (λ c. search needs) (λ c. search needs) (λ c κs. search needs)
+    (λ c. let d : tie.After-read-path = search in let b : tie.After-read-id2 = search in let a : tie.After-read-id = search in
+    rw (c .no-names3 .ensures) (no-path _ _ (a .read-id .ensures) (search) (search) (b .read-id2 .ensures) (search) (search) (d .read-path .ensures) (search) _ (search)))
+    (λ c. let d : tie.After-read-path = search in let b : tie.After-read-id2 = search in let a : tie.After-read-id = search in
+    all-read _ _ (a .read-id .ensures) (search) (search) (b .read-id2 .ensures) (search) (search) (d .read-path .ensures) (search) (search)))

@@ -1,10 +1,11 @@
-use Rattle.codec.proofs.Prelude.{refl, List, ℕ, _+_, now, not-true, not-false, needs}
-use Rattle.case_text.proofs.Steps.{says-then, says-none, says-as}
-use Rattle.grouping.specs.declared.TimeRange.{TimeRange}
+use Rattle.codec.proofs.Prelude.{_≡_, refl, List, Bool, not, true, false, ℕ, _+_, not-true, not-false, needs}
 use Rattle.range_3d.specs.declared.SubspaceRange.{SubspaceRange}
 use Rattle.range_3d.specs.declared.PathRange.{PathRange}
+use Rattle.grouping.specs.declared.TimeRange.{TimeRange}
 use Rattle.range_3d.specs.declared.Range3d.{Range3d}
-use Rattle.case_range_text.specs.Fields.{pathsField, timesField, noRangeField}
+use Rattle.case_text.specs.Fields.{Says}
+use Rattle.case_text.proofs.Steps.{says-then, says-none, says-as}
+use Rattle.case_range_text.specs.Fields.{subspacesField, pathsField, timesField, rangeField, noRangeField}
 use Rattle.case_range_text.proofs.read_range.Statement.{statement}
 use Rattle.case_range_text.proofs.read_range.Tie as tie
 
@@ -18,55 +19,34 @@ paths-of i line s p k = timesField (i + 4) line (λ t. times-of s p t k)
 abbrev subspaces-of : ℕ → List ℕ → SubspaceRange → (Range3d → List ℕ) → List ℕ
 subspaces-of i line s k = pathsField (i + 2) line (λ p. paths-of i line s p k)
 
-returns : tie.Need-returns
-unfolding noRangeField
-returns c =
-    let after-read-subspaces : tie.After-read-subspaces = search in
-    let start : tie.Start = search in
-    let i = start .args .place in
-    let line = now (start .args .line) in
-    rw (c .no-range .ensures) (says-none (subspaces-of i line) _ (says-as (after-read-subspaces .read-subspaces .ensures) (not-true _ (c .before .if1 .taken))), refl)
+-- the three parts, one after another
+module _ (i : ℕ) (line : List ℕ) {ok1 : Bool} {x1 : SubspaceRange} (said1 : Says (subspacesField i line) ok1 x1) where
+  no-subspaces : (a : Range3d) → not ok1 ≡ true → Says (rangeField i line) false a
+  no-subspaces a e = says-none (subspaces-of i line) a (says-as said1 (not-true ok1 e))
 
-returns-2 : tie.Need-returns-2
-unfolding noRangeField
-returns-2 c =
-    let after-read-paths : tie.After-read-paths = search in
-    let else1 : tie.Else1 = search in
-    let after-read-subspaces : tie.After-read-subspaces = search in
-    let start : tie.Start = search in
-    let i = start .args .place in
-    let line = now (start .args .line) in
-    rw (c .no-range2 .ensures) (says-then (subspaces-of i line) (says-as (after-read-subspaces .read-subspaces .ensures) (not-false _ (else1 .if1 .left))) (says-none (paths-of i line _) _ (says-as (after-read-paths .read-paths .ensures) (not-true _ (c .before .if2 .taken)))), refl)
+  module _ (so1 : not ok1 ≡ false) {ok2 : Bool} {x2 : PathRange} (said2 : Says (pathsField (i + 2) line) ok2 x2) where
+    no-paths : (a : Range3d) → not ok2 ≡ true → Says (rangeField i line) false a
+    no-paths a e = says-then (subspaces-of i line) (says-as said1 (not-false ok1 so1)) (says-none (paths-of i line _) a (says-as said2 (not-true ok2 e)))
 
-returns-3 : tie.Need-returns-3
-unfolding noRangeField
-returns-3 c =
-    let after-read-times : tie.After-read-times = search in
-    let else2 : tie.Else2 = search in
-    let after-read-paths : tie.After-read-paths = search in
-    let else1 : tie.Else1 = search in
-    let after-read-subspaces : tie.After-read-subspaces = search in
-    let start : tie.Start = search in
-    let i = start .args .place in
-    let line = now (start .args .line) in
-    rw (c .no-range3 .ensures) (says-then (subspaces-of i line) (says-as (after-read-subspaces .read-subspaces .ensures) (not-false _ (else1 .if1 .left))) (says-then (paths-of i line _) (says-as (after-read-paths .read-paths .ensures) (not-false _ (else2 .if2 .left))) (says-none (times-of _ _) _ (says-as (after-read-times .read-times .ensures) (not-true _ (c .before .if3 .taken))))), refl)
+    module _ (so2 : not ok2 ≡ false) {ok3 : Bool} {x3 : TimeRange} (said3 : Says (timesField (i + 4) line) ok3 x3) where
+      no-times : (a : Range3d) → not ok3 ≡ true → Says (rangeField i line) false a
+      no-times a e = says-then (subspaces-of i line) (says-as said1 (not-false ok1 so1)) (says-then (paths-of i line _) (says-as said2 (not-false ok2 so2)) (says-none (times-of _ _) a (says-as said3 (not-true ok3 e))))
 
-returns-4 : tie.Need-returns-4
-returns-4 c =
-    let else3 : tie.Else3 = search in
-    let after-read-times : tie.After-read-times = search in
-    let else2 : tie.Else2 = search in
-    let after-read-paths : tie.After-read-paths = search in
-    let else1 : tie.Else1 = search in
-    let after-read-subspaces : tie.After-read-subspaces = search in
-    let start : tie.Start = search in
-    let i = start .args .place in
-    let line = now (start .args .line) in
-    (says-then (subspaces-of i line) (says-as (after-read-subspaces .read-subspaces .ensures) (not-false _ (else1 .if1 .left))) (says-then (paths-of i line _) (says-as (after-read-paths .read-paths .ensures) (not-false _ (else2 .if2 .left))) (says-then (times-of _ _) (says-as (after-read-times .read-times .ensures) (not-false _ (else3 .if3 .left))) (record { said = λ k. refl }))), refl)
+      all-read : (so3 : not ok3 ≡ false) → Says (rangeField i line) true (record { subspaces = x1; paths = x2; times = x3 })
+      all-read so3 = says-then (subspaces-of i line) (says-as said1 (not-false ok1 so1)) (says-then (paths-of i line _) (says-as said2 (not-false ok2 so2)) (says-then (times-of _ _) (says-as said3 (not-false ok3 so3)) (record { said = λ k. refl })))
 
 pub read-range-spec : {M : Type 1} → statement M
+unfolding noRangeField
 read-range-spec =
     tie.close
     (tie.spec
-    (λ c κs. search needs) (λ c κs. search needs) returns (λ c. search needs) (λ c κs. search needs) (λ c κs. search needs) returns-2
-    (λ c. search needs) (λ c κs. search needs) (λ c κs. search needs) returns-3 returns-4)
+    (λ c κs. search needs) (λ c κs. search needs)
+    (λ c. let a : tie.After-read-subspaces = search in rw (c .no-range .ensures) (no-subspaces _ _ (a .read-subspaces .ensures) _ (search), refl))
+    (λ c. search needs) (λ c κs. search needs) (λ c κs. search needs)
+    (λ c. let b : tie.After-read-paths = search in let a : tie.After-read-subspaces = search in
+    rw (c .no-range2 .ensures) (no-paths _ _ (a .read-subspaces .ensures) (search) (b .read-paths .ensures) _ (search), refl))
+    (λ c. search needs) (λ c κs. search needs) (λ c κs. search needs)
+    (λ c. let d : tie.After-read-times = search in let b : tie.After-read-paths = search in let a : tie.After-read-subspaces = search in
+    rw (c .no-range3 .ensures) (no-times _ _ (a .read-subspaces .ensures) (search) (b .read-paths .ensures) (search) (d .read-times .ensures) _ (search), refl))
+    (λ c. let d : tie.After-read-times = search in let b : tie.After-read-paths = search in let a : tie.After-read-subspaces = search in
+    (all-read _ _ (a .read-subspaces .ensures) (search) (b .read-paths .ensures) (search) (d .read-times .ensures) (search), refl)))

@@ -1,62 +1,34 @@
-use Rattle.codec.proofs.Prelude.{refl, true, false, List, ℕ, _+_, now, not-true, not-false, needs}
+use Rattle.codec.proofs.Prelude.{_≡_, List, not, true, false, ℕ, _+_, not-true, not-false, needs}
+use Rattle.text.specs.declared.IdField.{IdField}
 use Rattle.text.specs.Ids.{readId}
+use Rattle.area_text.specs.declared.SubspaceField.{SubspaceField}
 use Rattle.area_text.specs.AreaText.{readSubspaceText}
-use Rattle.case_text.specs.Fields.{field, onField}
-use Rattle.case_text.proofs.Steps.{field-says, says-then, says-none}
-use Rattle.grouping.specs.declared.AreaSubspace.{AreaSubspace}
 use Rattle.range_3d.specs.declared.SubspaceRange.{SubspaceRange}
-use Rattle.case_range_text.specs.Fields.{noSubspacesField}
+use Rattle.case_text.specs.Fields.{field, Says}
+use Rattle.case_range_text.specs.Fields.{subspacesField, noSubspacesField}
 use Rattle.case_range_text.proofs.read_subspaces.Statement.{statement}
 use Rattle.case_range_text.proofs.read_subspaces.Tie as tie
 
--- what comes after each field
-abbrev end-of : List ℕ → AreaSubspace → (SubspaceRange → List ℕ) → List ℕ
-end-of start end k = k (record { start = start; «end_open» = end .any; end = end .id })
+-- the two fields, one after the other
+module _ (i : ℕ) (line : List ℕ) {s1 : List ℕ} {x1 : IdField} (read1 : x1 ≡ readId s1) (part1 : s1 ≡ field i line) where
+  no-start : (a : SubspaceRange) → not (x1 .ok) ≡ true → Says (subspacesField i line) false a
+  no-start a e = record { said = λ k. rw (← part1, ← read1, not-true (x1 .ok) e) }
 
-abbrev start-of : ℕ → List ℕ → List ℕ → (SubspaceRange → List ℕ) → List ℕ
-start-of i line start k = onField (readSubspaceText (field (i + 1) line) .ok) (readSubspaceText (field (i + 1) line) .subspace) (λ end. end-of start end k)
+  module _ (ok1 : not (x1 .ok) ≡ false) {s2 : List ℕ} {x2 : SubspaceField} (read2 : x2 ≡ readSubspaceText s2) (part2 : s2 ≡ field (i + 1) line) where
+    no-end : (a : SubspaceRange) → not (x2 .ok) ≡ true → Says (subspacesField i line) false a
+    no-end a e = record { said = λ k. rw (← part1, ← read1, not-false (x1 .ok) ok1, ← part2, ← read2, not-true (x2 .ok) e) }
 
-returns : tie.Need-returns
-unfolding noSubspacesField
-returns c =
-    let after-read-id : tie.After-read-id = search in
-    let after-part : tie.After-part = search in
-    let start : tie.Start = search in
-    let i = start .args .i in
-    let line = now (start .args .line) in
-    rw (c .no-subspaces .ensures) (says-none (start-of i line) _ (field-says readId (λ r. r .ok) (λ r. r .id) i line (after-part .part .ensures) (after-read-id .read-id .ensures) false (not-true _ (c .before .if1 .taken))))
-
-returns-2 : tie.Need-returns-2
-unfolding noSubspacesField
-returns-2 c =
-    let after-read-subspace : tie.After-read-subspace = search in
-    let after-part2 : tie.After-part2 = search in
-    let else1 : tie.Else1 = search in
-    let after-read-id : tie.After-read-id = search in
-    let after-part : tie.After-part = search in
-    let start : tie.Start = search in
-    let i = start .args .i in
-    let line = now (start .args .line) in
-    let first = field-says readId (λ r. r .ok) (λ r. r .id) i line (after-part .part .ensures) (after-read-id .read-id .ensures) true (not-false _ (else1 .if1 .left)) in
-    rw (c .no-subspaces2 .ensures) (says-then (start-of i line) first (says-none (end-of _) _ (field-says readSubspaceText (λ r. r .ok) (λ r. r .subspace) (i + 1) line (after-part2 .part2 .ensures) (after-read-subspace .read-subspace .ensures) false (not-true _ (c .before .if2 .taken)))))
-
-returns-3 : tie.Need-returns-3
-returns-3 c =
-    let else2 : tie.Else2 = search in
-    let after-read-subspace : tie.After-read-subspace = search in
-    let after-part2 : tie.After-part2 = search in
-    let else1 : tie.Else1 = search in
-    let after-read-id : tie.After-read-id = search in
-    let after-part : tie.After-part = search in
-    let start : tie.Start = search in
-    let i = start .args .i in
-    let line = now (start .args .line) in
-    let first = field-says readId (λ r. r .ok) (λ r. r .id) i line (after-part .part .ensures) (after-read-id .read-id .ensures) true (not-false _ (else1 .if1 .left)) in
-    says-then (start-of i line) first (says-then (end-of _) (field-says readSubspaceText (λ r. r .ok) (λ r. r .subspace) (i + 1) line (after-part2 .part2 .ensures) (after-read-subspace .read-subspace .ensures) true (not-false _ (else2 .if2 .left))) (record { said = λ k. refl }))
+    all-read : (ok2 : not (x2 .ok) ≡ false) → Says (subspacesField i line) true (record { start = x1 .id; «end_open» = x2 .subspace .any; end = x2 .subspace .id })
+    all-read ok2 = record { said = λ k. rw (← part1, ← read1, not-false (x1 .ok) ok1, ← part2, ← read2, not-false (x2 .ok) ok2) }
 
 pub read-subspaces-spec : {M : Type 1} → statement M
+unfolding noSubspacesField
 read-subspaces-spec =
     tie.close
     (tie.spec
-    (λ c κs. search needs) (λ c κs. search needs) (λ c κs. search needs) returns (λ c. search needs) (λ c κs. search needs)
-    (λ c κs. search needs) (λ c κs. search needs) returns-2 returns-3)
+    (λ c κs. search needs) (λ c κs. search needs) (λ c κs. search needs)
+    (λ c. let a : tie.After-read-id = search in rw (c .no-subspaces .ensures) (no-start _ _ (a .read-id .ensures) (search) _ (search)))
+    (λ c. search needs) (λ c κs. search needs) (λ c κs. search needs) (λ c κs. search needs)
+    (λ c. let b : tie.After-read-subspace = search in let a : tie.After-read-id = search in
+    rw (c .no-subspaces2 .ensures) (no-end _ _ (a .read-id .ensures) (search) (search) (b .read-subspace .ensures) (search) _ (search)))
+    (λ c. let b : tie.After-read-subspace = search in let a : tie.After-read-id = search in all-read _ _ (a .read-id .ensures) (search) (search) (b .read-subspace .ensures) (search) (search)))

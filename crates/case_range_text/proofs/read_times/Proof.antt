@@ -1,59 +1,36 @@
-use Rattle.codec.proofs.Prelude.{refl, true, false, List, ℕ, _+_, now, not-true, not-false, needs}
+use Rattle.codec.proofs.Prelude.{_≡_, List, not, true, false, ℕ, _+_, not-true, not-false, needs}
+use Rattle.decimal.specs.Decimal.{readDecimal}
+use Rattle.decimal.specs.declared.Decimal.{Decimal}
+use Rattle.decimal.specs.declared.Decimal.the-variants as decimal
+use Rattle.area_text.specs.declared.EndField.{EndField}
 use Rattle.area_text.specs.AreaText.{readEndText}
-use Rattle.case_text.specs.Fields.{field, onField}
-use Rattle.case_text.proofs.Steps.{decimal-says, decimal-says-no, field-says, says-then, says-none}
-use Rattle.grouping.specs.declared.RangeEnd.{RangeEnd}
 use Rattle.grouping.specs.declared.TimeRange.{TimeRange}
-use Rattle.case_range_text.specs.Fields.{noTimesField}
+use Rattle.case_text.specs.Fields.{field, Says}
+use Rattle.case_range_text.specs.Fields.{timesField, noTimesField}
 use Rattle.case_range_text.proofs.read_times.Statement.{statement}
 use Rattle.case_range_text.proofs.read_times.Tie as tie
 
--- what comes after each field
-abbrev end-of : ℕ → RangeEnd → (TimeRange → List ℕ) → List ℕ
-end-of start end k = k (record { start = start; end = end })
+-- the two fields, one after the other
+module _ (i : ℕ) (line : List ℕ) {s1 : List ℕ} {x1 : Decimal} (read1 : x1 ≡ readDecimal s1) (part1 : s1 ≡ field i line) where
+  no-start : (a : TimeRange) → x1 ≡ decimal.Refused → Says (timesField i line) false a
+  no-start a e = record { said = λ k. rw (← part1, ← read1, e) }
 
-abbrev start-of : ℕ → List ℕ → ℕ → (TimeRange → List ℕ) → List ℕ
-start-of i line start k = onField (readEndText (field (i + 1) line) .ok) (readEndText (field (i + 1) line) .end) (λ end. end-of start end k)
+  module _ {v1 : ℕ} (ok1 : x1 ≡ decimal.Value v1) {s2 : List ℕ} {x2 : EndField} (read2 : x2 ≡ readEndText s2) (part2 : s2 ≡ field (i + 1) line) where
+    no-end : (a : TimeRange) → not (x2 .ok) ≡ true → Says (timesField i line) false a
+    no-end a e = record { said = λ k. rw (← part1, ← read1, ok1, ← part2, ← read2, not-true (x2 .ok) e) }
 
-returns : tie.Need-returns
-unfolding noTimesField
-returns c =
-    let after-read-decimal : tie.After-read-decimal = search in
-    let after-part : tie.After-part = search in
-    let start : tie.Start = search in
-    let i = start .args .i in
-    let line = now (start .args .line) in
-    rw (c .no-times .ensures) (says-none (start-of i line) _ (decimal-says-no i line (after-part .part .ensures) (after-read-decimal .read-decimal .ensures) (c .before .enum-told .given .1)))
-
-returns-2 : tie.Need-returns-2
-unfolding noTimesField
-returns-2 c =
-    let after-read-end : tie.After-read-end = search in
-    let after-part2 : tie.After-part2 = search in
-    let after-first : tie.After-first = search in
-    let after-read-decimal : tie.After-read-decimal = search in
-    let after-part : tie.After-part = search in
-    let start : tie.Start = search in
-    let i = start .args .i in
-    let line = now (start .args .line) in
-    let first = decimal-says i line (after-part .part .ensures) (after-read-decimal .read-decimal .ensures) (after-first .first .given .1) in
-    rw (c .no-times2 .ensures) (says-then (start-of i line) first (says-none (end-of _) _ (field-says readEndText (λ r. r .ok) (λ r. r .end) (i + 1) line (after-part2 .part2 .ensures) (after-read-end .read-end .ensures) false (not-true _ (c .before .if1 .taken)))))
-
-returns-3 : tie.Need-returns-3
-returns-3 c =
-    let after-part2 : tie.After-part2 = search in
-    let after-first : tie.After-first = search in
-    let after-read-decimal : tie.After-read-decimal = search in
-    let after-part : tie.After-part = search in
-    let start : tie.Start = search in
-    let i = start .args .i in
-    let line = now (start .args .line) in
-    let first = decimal-says i line (after-part .part .ensures) (after-read-decimal .read-decimal .ensures) (after-first .first .given .1) in
-    says-then (start-of i line) first (says-then (end-of _) (field-says readEndText (λ r. r .ok) (λ r. r .end) (i + 1) line (after-part2 .part2 .ensures) (c .before .before .read-end .ensures) true (not-false _ (c .if1 .left))) (record { said = λ k. refl }))
+    all-read : (ok2 : not (x2 .ok) ≡ false) → Says (timesField i line) true (record { start = v1; end = x2 .end })
+    all-read ok2 = record { said = λ k. rw (← part1, ← read1, ok1, ← part2, ← read2, not-false (x2 .ok) ok2) }
 
 pub read-times-spec : {M : Type 1} → statement M
+unfolding noTimesField
 read-times-spec =
     tie.close
     (tie.spec
-    (λ c κs. search needs) (λ c κs. search needs) (λ c. search needs) (λ c. search needs) (λ c κs. search needs) returns (λ c. search needs)
-    (λ c κs. search needs) (λ c κs. search needs) (λ c κs. search needs) returns-2 returns-3)
+    (λ c κs. search needs) (λ c κs. search needs) (λ c. search needs) (λ c. search needs) (λ c κs. search needs)
+    (λ c. let a : tie.After-read-decimal = search in rw (c .no-times .ensures) (no-start _ _ (a .read-decimal .ensures) (search) _ (search)))
+    (λ c. search needs) (λ c κs. search needs) (λ c κs. search needs) (λ c κs. search needs)
+    (λ c. let b : tie.After-read-end = search in let a' : tie.After-first = search in let a : tie.After-read-decimal = search in
+    rw (c .no-times2 .ensures) (no-end _ _ (a .read-decimal .ensures) (search) (a' .first .given .1) (b .read-end .ensures) (search) _ (search)))
+    (λ c. let b : tie.After-read-end = search in let a' : tie.After-first = search in let a : tie.After-read-decimal = search in
+    all-read _ _ (a .read-decimal .ensures) (search) (a' .first .given .1) (b .read-end .ensures) (search) (search)))

@@ -1,3 +1,4 @@
+-- The invariant: the first i numbers of the field are in their form and stand in `lengths`, and the field has 20.
 use Rattle.codec.proofs.Prelude.{_-_, _≤_, refl, _∙_, sym, now, arith, needs}
 use Rattle.case_paths.proofs.RawSteps.{LengthsRead, lengths-few, lengths-refused, lengths-next, lengths-all, number-said}
 use Rattle.case_paths.proofs.raw.read_lengths.Statement.{statement}
