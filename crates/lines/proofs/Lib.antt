@@ -3,3 +3,4 @@ pub mod Fitting
 pub mod Keeping
 pub mod Stream
 pub mod Answering
+pub mod Draining
