@@ -79,7 +79,8 @@ module _ {room at r : ℕ} {l l' : List ℕ} where
     pub read-refused : x ≡ message.Refused → Put room at l l' r six → Put room at l l' r (readLine print reader i line)
     read-refused e = message-not read _ e
 
-    pub read-answer : {s n : ℕ} {y : Answer A} → x ≡ message.Message s n → y ≡ reader (drop s (take n buffer)) → Put room at l l' r (readText print y) → Put room at l l' r (readLine print reader i line)
+    pub read-answer : {s n : ℕ} {y : Answer A} → x ≡ message.Message s n → y ≡ reader (drop s (take n buffer))
+        → Put room at l l' r (readText print y) → Put room at l l' r (readLine print reader i line)
     read-answer e h p = message-so read _ e (rw (← h) p)
 
     -- with the value already printed
