@@ -27,7 +27,8 @@ use Rattle.area_area.specs.Answers.{emptyArea, GivesArea, refusal, early
 use Rattle.area_area.proofs.Area.{parts-bounded}
 
 -- ---- a refusal before the path of the reference is tested
-pub gives-early : (p : Path) (d : Decoded) (k : ℕ) (x : Answer Area) → answerOf d emptyArea ≡ refused k → (wellFormed p ≡ false → x ≡ refused 5) → (wellFormed p ≡ true → x ≡ refused k) → GivesArea (earlyRefusal p d) x
+pub gives-early : (p : Path) (d : Decoded) (k : ℕ) (x : Answer Area) → answerOf d emptyArea ≡ refused k → (wellFormed p ≡ false → x ≡ refused 5)
+    → (wellFormed p ≡ true → x ≡ refused k) → GivesArea (earlyRefusal p d) x
 unfolding earlyRefusal refusal
 gives-early p d k x e unformed formed = go (wellFormed p) refl
   where
@@ -83,7 +84,8 @@ module _ (canonic : Bool) (r : Area) (h : Header) (s : List ℕ) where
   unfolding readPartsOf
   parts-inside x n e = formed-bounded (wellFormed (r .path)) _ (mapped-bounded areaFrom _ (parts-bounded (areaOf r) h canonic)) .bound s x n e
 
-  pub parts-subspace : (k : ℕ) → mapped subspaceFrom (readSubspace canonic (subspaceOf (r .subspace)) (h .«id_written»)) s ≡ refused k → wellFormed (r .path) ≡ true → readPartsOf canonic r h s ≡ refused k
+  pub parts-subspace : (k : ℕ) → mapped subspaceFrom (readSubspace canonic (subspaceOf (r .subspace)) (h .«id_written»)) s ≡ refused k
+      → wellFormed (r .path) ≡ true → readPartsOf canonic r h s ≡ refused k
   unfolding readPartsOf readParts
   parts-subspace k e w = rw (w, named-refused subspaceFrom (readSubspace canonic (subspaceOf (r .subspace)) (h .«id_written») s) k e)
 

@@ -101,10 +101,17 @@ module _ (r a : Area) where
       area-full l h = put-full (againstArea r .check a) (againstArea r .encode a) l ok _ (area-long _ refl) (omega arith)
 
       module _ (l : List ℕ) (h : n ≤ length l) where
-        pub area-refused : (why : ℕ) (ys : List ℕ) → writeAnswer (suffixFrom (r .path .count)) (a .path) (length (drop n l)) ≡ denied why → ys ≡ writeBuffer (suffixFrom (r .path .count)) (a .path) (drop n l)
+        pub area-refused : (why : ℕ) (ys : List ℕ) → writeAnswer (suffixFrom (r .path .count)) (a .path) (length (drop n l)) ≡ denied why
+            → ys ≡ writeBuffer (suffixFrom (r .path .count)) (a .path) (drop n l)
             → (denied why ≡ writeAnswer (againstArea r) a (length l)) × (take n l ++ ys ≡ writeBuffer (againstArea r) a l)
-        area-refused why ys e put = rw (ok, area-bytes) (rest-refused (headBytes (subspaceOf (r .subspace)) (r .times) (subspaceOf (a .subspace)) (a .times)) (suffixFrom (r .path .count) .encode (a .path)) l n en h why ys (rw suffix-allowed at e) (rw suffix-allowed at put))
+        area-refused why ys e put =
+            rw (ok, area-bytes) (rest-refused (headBytes (subspaceOf (r .subspace)) (r .times) (subspaceOf (a .subspace)) (a .times))
+            (suffixFrom (r .path .count) .encode (a .path)) l n en h why ys (rw suffix-allowed at e) (rw suffix-allowed at put))
 
-        pub area-written : (m : ℕ) (ys : List ℕ) → writeAnswer (suffixFrom (r .path .count)) (a .path) (length (drop n l)) ≡ wrote m → ys ≡ writeBuffer (suffixFrom (r .path .count)) (a .path) (drop n l)
-            → (wrote (n + m) ≡ writeAnswer (againstArea r) a (length l)) × (over (headBytes (subspaceOf (r .subspace)) (r .times) (subspaceOf (a .subspace)) (a .times)) (take n l ++ ys) ≡ writeBuffer (againstArea r) a l)
-        area-written m ys e put = rw (ok, area-bytes) (rest-written (headBytes (subspaceOf (r .subspace)) (r .times) (subspaceOf (a .subspace)) (a .times)) (suffixFrom (r .path .count) .encode (a .path)) l n en h m ys (rw suffix-allowed at e) (rw suffix-allowed at put))
+        pub area-written : (m : ℕ) (ys : List ℕ) → writeAnswer (suffixFrom (r .path .count)) (a .path) (length (drop n l)) ≡ wrote m
+            → ys ≡ writeBuffer (suffixFrom (r .path .count)) (a .path) (drop n l)
+            → (wrote (n + m) ≡ writeAnswer (againstArea r) a (length l))
+            × (over (headBytes (subspaceOf (r .subspace)) (r .times) (subspaceOf (a .subspace)) (a .times)) (take n l ++ ys) ≡ writeBuffer (againstArea r) a l)
+        area-written m ys e put =
+            rw (ok, area-bytes) (rest-written (headBytes (subspaceOf (r .subspace)) (r .times) (subspaceOf (a .subspace)) (a .times))
+            (suffixFrom (r .path .count) .encode (a .path)) l n en h m ys (rw suffix-allowed at e) (rw suffix-allowed at put))

@@ -101,7 +101,8 @@ is-open : (end : RangeEnd) → isOpen end ≡ true → end ≡ Open
 is-open (Closed x) e = absurd (false≢true e)
 is-open Open e = refl
 
-end-inside : (r t : TimeRange) → TypedRange r → includesRange r t ≡ true → (opens : Bool) → isOpen (t .end) ≡ opens → (opens ≡ false → bounds r (endValue (t .end)) ≡ true) → bounds r (endValue (t .end)) ≡ true
+end-inside : (r t : TimeRange) → TypedRange r → includesRange r t ≡ true → (opens : Bool) → isOpen (t .end) ≡ opens
+    → (opens ≡ false → bounds r (endValue (t .end)) ≡ true) → bounds r (endValue (t .end)) ≡ true
 end-inside r t ty i true o f = open-inside r t ty i (is-open (t .end) o)
 end-inside r t ty i false o f = f refl
 

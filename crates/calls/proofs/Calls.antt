@@ -28,7 +28,8 @@ encodes-of f er ev e t = rw (er, ev) at (encodes {f = f _} {v = _} e t)
 
 -- ---- reading
 module _ {A B : Type 0} (store : A → B) (a : A) {lent : B} where
-  pub stores-refused : (d : Decoded) → OneOf (1 ∷ 2 ∷ 3 ∷ []) (declared.tagOf Rattle.codec.proofs.Decoded.the-type d) → {r : ℕ} → r ≡ readCode (answerOf {A = ℕ} d 0) → Stores store (answerOf d a) lent lent r 0
+  pub stores-refused : (d : Decoded) → OneOf (1 ∷ 2 ∷ 3 ∷ []) (declared.tagOf Rattle.codec.proofs.Decoded.the-type d) → {r : ℕ}
+      → r ≡ readCode (answerOf {A = ℕ} d 0) → Stores store (answerOf d a) lent lent r 0
   stores-refused d h e = let v = no-value d h in record { code = e ∙ rw (v .beside a, v .beside {A = ℕ} 0); count = rw (v .beside a); value = rw (v .beside a) }
 
   pub stores-accepted : (d : Decoded) (n : ℕ) → d ≡ decoded.Consumed n → {left : B} → left ≡ store a → Stores store (answerOf d a) lent left 0 n

@@ -13,4 +13,14 @@ pub names-few : (e : Entry) → TypedEntry e → length (namesText e) ≤ 2000
 names-few e t =
     let n = hexText (e .«namespace_id») in
     let s = hexText (e .«subspace_id») in
-    omega (arith, hexText-long (e .«namespace_id»), t .namespace .0, hexText-long (e .«subspace_id»), t .subspace .0, path-text-laws .path-few (e .path) (t .path), length-append n (afterTab s), length-append (n ++ afterTab s) (afterTab (pathTextOf (e .path))))
+    omega (
+      arith,
+      hexText-long (e .«namespace_id»),
+      t .namespace .0,
+      hexText-long (e .«subspace_id»),
+      t .subspace .0,
+      path-text-laws .path-few (e .path)
+          (t .path),
+      length-append n (afterTab s),
+      length-append (n ++ afterTab s) (afterTab (pathTextOf (e .path))),
+    )

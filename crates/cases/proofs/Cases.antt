@@ -33,4 +33,5 @@ use Rattle.cases.specs.Cases.{AllHold, cases}
 
 pub cases-hold : AllHold cases
 unfolding putAnswer minTag encodingWidth numberBytes numberSaid readNumber pathFrom wellFormed componentBytes sizesBytes suffixBytes readSizes readSized readLast readComponents readSuffix readPath joinOk readAgainst readAgainstPath readExtension bounds includesRange includesArea liesInside areaFrom wellFormedSubspace wellFormedArea differenceOf timeAt isNearest readTime spareBits headerOf timesBytes areaBytes readSubspace readEnd readTimes readParts readArea readAgainstArea isPrefix includesTime readIncluded isIncluded entryFrom wellFormedEntry liesInsideArea ends.headerOf entries.entryBytes ends.readEnd entries.readRest entries.readParts entries.readEntry readAgainstNamespaceArea subspacesFrom pathsFrom rangeFrom wellFormedSubspaces wellFormedPaths wellFormedRange3d nearestOf readFrom subspaces.sourceOf subspaces.sourcesOf subspaces.idBytes subspaces.subspacesBytes subspaces.readSubspaces paths.sidesOf paths.pathBytes paths.pathsBytes paths.readPaths times.headerOf times.timesBytes times.readEnd times.readTimes ranges.headerOf ranges.rangeBytes ranges.readParts ranges.readRange readAgainstRange
-cases-hold = ((refl, refl), ((refl, refl), ((refl, refl), ((refl, refl), ((refl, refl), ((refl, refl), ((refl, refl), ((refl, refl), ((refl, refl), ((refl, refl), ((refl, refl), ((refl, refl), ((refl, refl), ((refl, refl), ((refl, refl), ((refl, refl), ((refl, refl), ((refl, refl), ((refl, refl), ((refl, refl), (refl, ((refl, refl), tt))))))))))))))))))))))
+cases-hold =
+    ((refl, refl), ((refl, refl), ((refl, refl), ((refl, refl), ((refl, refl), ((refl, refl), ((refl, refl), ((refl, refl), ((refl, refl), ((refl, refl), ((refl, refl), ((refl, refl), ((refl, refl), ((refl, refl), ((refl, refl), ((refl, refl), ((refl, refl), ((refl, refl), ((refl, refl), ((refl, refl), (refl, ((refl, refl), tt))))))))))))))))))))))

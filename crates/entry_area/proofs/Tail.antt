@@ -38,10 +38,12 @@ module _ (x y l : List ℕ) {z : ℕ} (ez : z ≡ length y) where
           let post = drop (length l - z) l in
           let inside : length x ≤ length place = omega (arith, w .long, w .fits) in
           let there : ys ≡ over x place = put ∙ put-over x place inside in
-          let tail : drop (length x) place ++ post ≡ drop (length x) l = sym (drop-append-le (length x) place post inside) ∙ ap (λ (t : List ℕ). drop (length x) t) (take-append-drop (length l - z) l) in
+          let tail : drop (length x) place ++ post ≡ drop (length x) l = sym (drop-append-le (length x) place post inside)
+          ∙ ap (λ (t : List ℕ). drop (length x) t) (take-append-drop (length l - z) l) in
           ap (λ (t : List ℕ). t ++ post) there ∙ append-assoc x (drop (length x) place) post ∙ ap (λ (t : List ℕ). x ++ t) tail
 
-      pub both-written : (wrote (n + z) ≡ putAnswer allowed (x ++ y) (length l)) × (take n (ys ++ drop (length l - z) l) ++ over y (drop n (ys ++ drop (length l - z) l)) ≡ putBuffer allowed (x ++ y) l)
+      pub both-written : (wrote (n + z) ≡ putAnswer allowed (x ++ y) (length l))
+          × (take n (ys ++ drop (length l - z) l) ++ over y (drop n (ys ++ drop (length l - z) l)) ≡ putBuffer allowed (x ++ y) l)
       both-written =
           let whole = put-fits allowed (x ++ y) l refl _ (both-long n (before-fits .0)) (before-fits .1) in
           (whole .0, rw (before-over, before-fits .0) (over-then l x y) ∙ whole .1)

@@ -128,7 +128,14 @@ module _ (r : Entry) (s : List ℕ) (i : ℕ) where
           go false f = let z : _≡_ {A = ℕ} 0 1 = cc in absurd (omega arith)
 
       pub path-inside : i + a + b ≤ length s
-      path-inside = omega (arith, head-inside (r .«namespace_id») (r .«subspace_id») (r .timestamp) s i h a e, against-bounded (componentsOf (r .path)) false .bound (drop (i + a) s) _ _ (formed .2), length-drop (i + a) s)
+      path-inside =
+          omega (
+            arith,
+            head-inside (r .«namespace_id») (r .«subspace_id») (r .timestamp) s i h a e,
+            against-bounded (componentsOf (r .path)) false .bound
+                (drop (i + a) s) _ _ (formed .2),
+            length-drop (i + a) s,
+          )
 
       pub entry-digest : (k : ℕ) → someBytes 32 (drop (i + a + b) s) ≡ refused k → readAgainstEntry r (drop i s) ≡ refused k
       unfolding readAgainstEntry readEntry wellFormedEntry

@@ -42,7 +42,8 @@ module _ (r v : EntryValue) (t : TypedEntryValue v) where
   head-as : U64 (r .time) → ReadsAs (readHead (r .namespace) (r .subspace) (r .time)) head (packHeader (entryHeader r v) ∷ (idsBytes r v ++ numbersBytes (r .time) (v .time) (v .size)))
   unfolding readHead
   head-as k =
-      then-as (one-of (header-reads HeaderFits unpackHeader packHeader header-layout .back) (header-fits (idWritten (r .namespace) (v .namespace)) (idWritten (r .subspace) (v .subspace)) (r .time) (v .time) (v .size), refl))
+      then-as (one-of (header-reads HeaderFits unpackHeader packHeader header-layout .back)
+      (header-fits (idWritten (r .namespace) (v .namespace)) (idWritten (r .subspace) (v .subspace)) (r .time) (v .time) (v .size), refl))
       (λ h. andThen (readIds (r .namespace) (r .subspace) h) (λ i. mapped (headFrom i) (readNumbers (r .time) h)))
       (then-as ids-as (λ i. mapped (headFrom i) (readNumbers (r .time) (entryHeader r v)))
       (mapped-as (numbers-as (r .time) (v .time) (v .size) k (t .time) (t .size) _ _) (headFrom (idsFrom (v .namespace) (v .subspace)))))

@@ -47,4 +47,14 @@ module _ (r e : Entry) where
       → 1 + (length (idsWith (fieldsOf r) (fieldsOf e)) + (length (numbersBytes (r .timestamp) (e .timestamp) (e .«payload_length»)) + (p + 32))) ≡ length (againstEntry r .encode e)
   unfolding entryBytes
   entry-long p ep ed =
-      omega (arith, ep, ed, length-append (idsWith (fieldsOf r) (fieldsOf e)) (restWith (fieldsOf r) (fieldsOf e) (againstPath (r .path) .encode (e .path))), length-append (numbersBytes (r .timestamp) (e .timestamp) (e .«payload_length»)) (againstPath (r .path) .encode (e .path) ++ e .«payload_digest»), length-append (againstBytes (componentsOf (r .path)) (componentsOf (e .path))) (e .«payload_digest»))
+      omega (
+        arith,
+        ep,
+        ed,
+        length-append (idsWith (fieldsOf r) (fieldsOf e))
+            (restWith (fieldsOf r) (fieldsOf e) (againstPath (r .path) .encode (e .path))),
+        length-append
+            (numbersBytes (r .timestamp) (e .timestamp) (e .«payload_length»)) (againstPath (r .path) .encode (e .path) ++ e .«payload_digest»),
+        length-append
+            (againstBytes (componentsOf (r .path)) (componentsOf (e .path))) (e .«payload_digest»),
+      )

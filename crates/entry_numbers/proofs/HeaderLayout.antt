@@ -28,7 +28,14 @@ header-apart h f =
     let x = parts (bit (h .«namespace_written»)) (bit (h .«subspace_written»)) (bit (h .«time_added»)) (h .«time_tag») (h .«length_tag»)
     (bit-small (h .«namespace_written»)) (bit-small (h .«subspace_written»)) (bit-small (h .«time_added»)) (f .time) (f .length) in (
       x .byte,
-      rw (flag-of namespaceWrittenAt p (h .«namespace_written») (x .n-is), flag-of subspaceWrittenAt p (h .«subspace_written») (x .s-is), flag-of timeAddedAt p (h .«time_added») (x .added-is), x .t-is, x .l-is),
+      rw (
+        flag-of namespaceWrittenAt p (h .«namespace_written») (x .n-is),
+        flag-of subspaceWrittenAt p (h .«subspace_written»)
+            (x .s-is),
+        flag-of timeAddedAt p (h .«time_added») (x .added-is),
+        x .t-is,
+        x .l-is,
+      ),
     )
 
 pub header-layout : Layout HeaderFits unpackHeader packHeader

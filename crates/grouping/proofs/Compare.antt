@@ -47,7 +47,8 @@ module _ (r a : Area) where
     pub not-prefix : (x : Compared) → x ≡ prefixOf (r .path) (a .path) → OneOf (1 ∷ 2 ∷ []) (tagOf Rattle.path.proofs.Compared.the-type x) → x ≡ areaIncludes r a
     unfolding areaIncludes wellFormedArea includesArea prefixOf
     not-prefix x e k = rw (wr, wa)
-        (verdict-no x (wellFormed (r .path) && wellFormed (a .path)) (isPrefix (componentsOf (r .path)) (componentsOf (a .path))) (includesArea (areaOf r) (areaOf a)) e k (λ n. rw n (and-false (includesSubspace (subspaceOf (r .subspace)) (subspaceOf (a .subspace))))))
+        (verdict-no x (wellFormed (r .path) && wellFormed (a .path)) (isPrefix (componentsOf (r .path)) (componentsOf (a .path)))
+        (includesArea (areaOf r) (areaOf a)) e k (λ n. rw n (and-false (includesSubspace (subspaceOf (r .subspace)) (subspaceOf (a .subspace))))))
 
     module _ (e : prefixOf (r .path) (a .path) ≡ compared.Yes) where
       abbrev both : (wellFormed (r .path) && wellFormed (a .path) ≡ true) × (isPrefix (componentsOf (r .path)) (componentsOf (a .path)) ≡ true)

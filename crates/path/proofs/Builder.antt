@@ -103,7 +103,8 @@ pub rebuilt : (b : PathBuilder) → length (b .path .bytes) ≡ 600 → length (
 unfolding isBuilder
 rebuilt b long lengths e =
     let path = remade (b .path) long lengths (well-formed (b .path) (and-left _ _ e)) in
-    let total : b .total ≡ totalOf (componentsOf (b .path)) = eqb-true (b .total) _ (and-right (wellFormed (b .path)) _ e) ∙ ap (λ (p : Path). sumOf (used p)) (sym path) ∙ sum-of (componentsOf (b .path)) in
+    let total : b .total ≡ totalOf (componentsOf (b .path)) = eqb-true (b .total) _ (and-right (wellFormed (b .path)) _ e)
+    ∙ ap (λ (p : Path). sumOf (used p)) (sym path) ∙ sum-of (componentsOf (b .path)) in
     λ i. record { path = sym path i; total = total i }
 
 -- appending is pushing, on such a builder

@@ -129,7 +129,8 @@ module _ (ls bs : List ℕ) (is : Parts ls bs) (cs : List (List ℕ)) where
 pub after-bounded : (canonic : Bool) (ls bs : List ℕ) (total count : ℕ) → Bounded (readAfter canonic ls bs total count)
 unfolding readAfter
 after-bounded canonic ls bs total count =
-    formed-bounded (partsOk ls bs) _ (guard-bounded (limits (sumOf ls + total) (length ls + count)) _ (mapped-bounded (λ cs. pathFrom (cutUp ls bs ++ cs)) _ (components-bounded canonic count 0 total)))
+    formed-bounded (partsOk ls bs) _
+    (guard-bounded (limits (sumOf ls + total) (length ls + count)) _ (mapped-bounded (λ cs. pathFrom (cutUp ls bs ++ cs)) _ (components-bounded canonic count 0 total)))
 
 -- after none
 pub after-none : (canonic : Bool) (total count : ℕ) (m : List ℕ)

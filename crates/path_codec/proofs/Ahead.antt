@@ -19,7 +19,16 @@ placed-next cs c r used n eu en h =
     let bytes : take used (over (joined cs) (r .bytes)) ++ over c (drop used (over (joined cs) (r .bytes))) ≡ over (joined (cs ++ (c ∷ []))) (r .bytes) =
     rw (eu, ← (length-joined cs), joined-append cs (c ∷ []), append-nil c) (over-then (r .bytes) (joined cs) c) in
     let lengths : set (over (map length cs) (r .lengths)) n (length c) ≡ over (map length (cs ++ (c ∷ []))) (r .lengths) =
-    rw (map-append length cs (c ∷ []), length-append, k, en, drop-cons (r .lengths) (length cs) 0 (rw (← en) h), set-at l (getD (r .lengths) (length cs) 0) (drop (suc (length cs)) (r .lengths)) (length c) (length cs) k, add-one (length cs))
+    rw (
+      map-append length cs (c ∷ []),
+      length-append,
+      k,
+      en,
+      drop-cons (r .lengths) (length cs) 0 (rw (← en) h),
+      set-at l
+          (getD (r .lengths) (length cs) 0) (drop (suc (length cs)) (r .lengths)) (length c) (length cs) k,
+      add-one (length cs),
+    )
     (sym (append-assoc l (length c ∷ []) (drop (suc (length cs)) (r .lengths)))) in
     λ i. restOf (bytes i) (lengths i)
 

@@ -86,7 +86,9 @@ module _ {canonic : Bool} {m : List ℕ} {count total : ℕ} {first here : Rest}
         h .still ∙ rw one (go (leb used total) refl)
       where
         go : (b : Bool) → leb used total ≡ b → ahead canonic 1 used total first (h .done) at m ≡ lastAhead used total (count - 1) here at m
-        go true f = ahead-last canonic total first (h .done) at m used here (count - 1) (h .kept (leb-true used total f)) (sym (h .sums)) (omega (arith, h .counts, h .more)) (omega (arith, h .counts, h .more, room .counts))
+        go true f =
+            ahead-last canonic total first (h .done) at m used here (count - 1) (h .kept (leb-true used total f)) (sym (h .sums))
+            (omega (arith, h .counts, h .more)) (omega (arith, h .counts, h .more, room .counts))
         go false f =
             let over = leb-false used total f in
             ahead-past canonic total first (h .done) at m used over ∙ sym (last-over used total (count - 1) here at m over)

@@ -37,7 +37,9 @@ module _ (inside : List (List ℕ) → Bool) (encode : List (List ℕ) → List 
 
   -- and what reads back as components reads back as records
   pub back-on-records : (r : Reader (List (List ℕ))) → ReadsBack r (Writes TypedComponents (onComponents inside encode)) → ReadsBack (mapped pathFrom r) (Writes TypedPath (onRecords inside encode))
-  back-on-records r R = back-as _ _ _ (mapped-back pathFrom r _ R) (reshaped-back TypedComponents (onComponents inside encode) TypedPath componentsOf pathFrom (onRecords inside encode .check) record-out record-in)
+  back-on-records r R =
+      back-as _ _ _ (mapped-back pathFrom r _ R)
+      (reshaped-back TypedComponents (onComponents inside encode) TypedPath componentsOf pathFrom (onRecords inside encode .check) record-out record-in)
 
 -- ---- the plain path
 

@@ -56,7 +56,15 @@ against-empty r canonic = refl
 -- how long a path against a path may be
 pub against-short : (r p : List (List ℕ)) → length (againstBytes r p) ≤ 26 + (9 * length p + totalOf p)
 against-short r p =
-    omega (arith, length-append (standaloneBytes (shared r p)) (suffixBytes (drop (shared r p) p)), standalone-short (shared r p), suffix-short (drop (shared r p) p), total-split (shared r p) p, length-drop (shared r p) p)
+    omega (
+      arith,
+      length-append (standaloneBytes (shared r p)) (suffixBytes (drop (shared r p) p)),
+      standalone-short (shared r p),
+      suffix-short
+          (drop (shared r p) p),
+      total-split (shared r p) p,
+      length-drop (shared r p) p,
+    )
 
 module _ (r : List (List ℕ)) (wf : PathOk r) where
   Rel : List (List ℕ) → List ℕ → Type 0

@@ -58,7 +58,9 @@ module _ (canonic : Bool) (r : Path) (w : wellFormed r ≡ true) (s : List ℕ) 
               (λ p n. passed (cond canonic (eqb (shared (componentsOf r) p) k) true) (accepted p n))))
               ≡ shift a (shift b (bind (guard ok (mapped (λ cs. pathFrom (take k (componentsOf r) ++ cs)) (readComponents canonic count 0 total)) (drop (i + a + b) s))
               (λ p n. passed (cond canonic (eqb (shared (componentsOf r) (componentsOf p)) k) true) (accepted p n))))
-          go true (accepted cs n) e = rw (e, components-of (take k (componentsOf r) ++ cs)) (judged (cond canonic (eqb (shared (componentsOf r) (take k (componentsOf r) ++ cs)) k) true) (take k (componentsOf r) ++ cs) n)
+          go true (accepted cs n) e =
+              rw (e, components-of (take k (componentsOf r) ++ cs))
+              (judged (cond canonic (eqb (shared (componentsOf r) (take k (componentsOf r) ++ cs)) k) true) (take k (componentsOf r) ++ cs) n)
           go true (refused k') e = rw e
           go false x e = refl
 
@@ -114,7 +116,8 @@ module _ (canonic : Bool) (r : Path) (w : wellFormed r ≡ true) (s : List ℕ) 
     extends-outside h = rw (w, g, drop-drop) (go (limits total count) (readComponents canonic count 0 total (drop (i + n) s)) refl)
       where
         go : (b : Bool) (x : Answer (List (List ℕ))) → readComponents canonic count 0 total (drop (i + n) s) ≡ x
-            → named pathFrom (bind (named (λ cs. componentsOf r ++ cs) (shift n (guard b (readComponents canonic count 0 total) (drop (i + n) s)))) (λ p n. passed (limits (totalOf p) (length p)) (accepted p n)))
+            → named pathFrom (bind (named (λ cs. componentsOf r ++ cs) (shift n (guard b (readComponents canonic count 0 total) (drop (i + n) s))))
+            (λ p n. passed (limits (totalOf p) (length p)) (accepted p n)))
             ≡ bind (named pathFrom (shift n (guard b (readComponents canonic count 0 total) (drop (i + n) s)))) (λ p n. passed false (accepted p n))
         go true (accepted cs m) e = rw (e, whole cs m e, h)
         go true (refused k) e = rw e
@@ -136,7 +139,8 @@ module _ (canonic : Bool) (r : Path) (w : wellFormed r ≡ true) (s : List ℕ) 
         (go fits (readComponents canonic count 0 total (drop (i + n) s)) refl)
       where
         go : limits (totalOf (componentsOf r) + total) (r .count + count) ≡ true → (x : Answer (List (List ℕ))) → readComponents canonic count 0 total (drop (i + n) s) ≡ x
-            → named pathFrom (bind (named (λ cs. componentsOf r ++ cs) (shift n (readComponents canonic count 0 total (drop (i + n) s)))) (λ p n. passed (limits (totalOf p) (length p)) (accepted p n)))
+            → named pathFrom (bind (named (λ cs. componentsOf r ++ cs) (shift n (readComponents canonic count 0 total (drop (i + n) s))))
+            (λ p n. passed (limits (totalOf p) (length p)) (accepted p n)))
             ≡ shift n (named (λ cs. pathFrom (componentsOf r ++ cs)) (readComponents canonic count 0 total (drop (i + n) s)))
         go fits (accepted cs m) e = rw (e, whole cs m e, fits)
         go fits (refused k) e = rw e

@@ -37,7 +37,8 @@ pub uncommon : (r p : Path) → commonPrefix r p ≡ count.Malformed → (wellFo
 unfolding commonPrefix
 uncommon r p e = go (wellFormed r && wellFormed p) refl e
   where
-    go : (b : Bool) → (wellFormed r && wellFormed p) ≡ b → cond b (count.Components (shared (componentsOf r) (componentsOf p))) count.Malformed ≡ count.Malformed → (wellFormed r && wellFormed p) ≡ false
+    go : (b : Bool) → (wellFormed r && wellFormed p) ≡ b
+        → cond b (count.Components (shared (componentsOf r) (componentsOf p))) count.Malformed ≡ count.Malformed → (wellFormed r && wellFormed p) ≡ false
     go true f g = let z : _≡_ {A = ℕ} 0 1 = cc in absurd (omega arith)
     go false f g = f
 
@@ -148,8 +149,14 @@ module _ (r p : Path) where
   unfolding prefixOf isPrefix
   extends-common e = go (wellFormed r && wellFormed p) (eqb (shared (componentsOf r) (componentsOf p)) (length (componentsOf r))) refl refl e
     where
-      go : (b i : Bool) → (wellFormed r && wellFormed p) ≡ b → eqb (shared (componentsOf r) (componentsOf p)) (length (componentsOf r)) ≡ i → cond b (verdict i) compared.Malformed ≡ compared.Yes → Common r p (r .count)
-      go true true f h g = record { both = f; is = eqb-true (shared (componentsOf r) (componentsOf p)) (length (componentsOf r)) h ∙ count-is r (parts-formed (and-left (wellFormed r) (wellFormed p) f)) }
+      go : (b i : Bool) → (wellFormed r && wellFormed p) ≡ b → eqb (shared (componentsOf r) (componentsOf p)) (length (componentsOf r)) ≡ i
+          → cond b (verdict i) compared.Malformed ≡ compared.Yes → Common r p (r .count)
+      go true true f h g =
+          record {
+            both = f;
+            is = eqb-true (shared (componentsOf r) (componentsOf p)) (length (componentsOf r)) h
+                ∙ count-is r (parts-formed (and-left (wellFormed r) (wellFormed p) f));
+          }
       go true false f h g = let z : _≡_ {A = ℕ} 0 1 = cc in absurd (omega arith)
       go false i f h g = let z : _≡_ {A = ℕ} 0 1 = cc in absurd (omega arith)
 

@@ -80,4 +80,12 @@ pub suffix-short : (cs : List (List ℕ)) → length (suffixBytes cs) ≤ 17 + (
 unfolding suffixBytes sizesBytes
 suffix-short cs =
     let h = sizesOf cs in
-    omega (arith, components-short cs, length-append (sizesBytes (sizesOf cs)) (componentBytes cs), length-append (numberBytes 4 (totalOf cs)) (numberBytes 4 (length cs)), numberBytes-short 4 (totalOf cs), numberBytes-short 4 (length cs))
+    omega (
+      arith,
+      components-short cs,
+      length-append (sizesBytes (sizesOf cs)) (componentBytes cs),
+      length-append (numberBytes 4 (totalOf cs))
+          (numberBytes 4 (length cs)),
+      numberBytes-short 4 (totalOf cs),
+      numberBytes-short 4 (length cs),
+    )

@@ -48,7 +48,8 @@ module _ (ls bs : List ℕ) (i from : ℕ) (h : i < length ls) where
   pub write-turn : (l : List ℕ) (at : ℕ) → at ≤ length l → i + 1 < length ls
       → take at l ++ over (bytesFrom ls bs i from) (drop at l)
       ≡ take (at + length (sizedBytes (take (getD ls i 0) (drop from bs)))) (take at l ++ over (sizedBytes (take (getD ls i 0) (drop from bs))) (drop at l))
-      ++ over (bytesFrom ls bs (i + 1) (from + getD ls i 0)) (drop (at + length (sizedBytes (take (getD ls i 0) (drop from bs)))) (take at l ++ over (sizedBytes (take (getD ls i 0) (drop from bs))) (drop at l)))
+      ++ over (bytesFrom ls bs (i + 1) (from + getD ls i 0))
+      (drop (at + length (sizedBytes (take (getD ls i 0) (drop from bs)))) (take at l ++ over (sizedBytes (take (getD ls i 0) (drop from bs))) (drop at l)))
   write-turn l at inside more = rw (bytes-turn more) (over-turn l (sizedBytes (take (getD ls i 0) (drop from bs))) (bytesFrom ls bs (i + 1) (from + getD ls i 0)) at inside)
 
 -- ---- how long they are

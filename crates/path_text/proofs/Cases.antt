@@ -25,4 +25,5 @@ record Cases : Type 0 where
 
 cases : Cases
 unfolding readPathText readComponentsText readTexts fieldOf pathOk parts isHex unhex hexText hexValue pathText componentsText tailText
-cases = record { dash = refl; empty = refl; slash = refl; two = refl; upper = refl; odd = refl; dash-more = refl; dash-components = refl; long = refl; most = refl; many = refl; many-most = refl; print = refl; print-one = refl; print-none = refl }
+cases =
+    record { dash = refl; empty = refl; slash = refl; two = refl; upper = refl; odd = refl; dash-more = refl; dash-components = refl; long = refl; most = refl; many = refl; many-most = refl; print = refl; print-one = refl; print-none = refl }

@@ -134,7 +134,8 @@ module _ (b : PathBuilder) (cs : List (List ℕ)) (e : b ≡ builderFrom cs) (t 
           → g ≡ cond d (growth appended.Grown (grown b (unhex t))) (growth appended.Outside b) → Took cs t g
       inner true f h q p =
           let r = fitting (b .total) (b .path .count) (length (unhex t)) f in
-          let fit : Fitting (totalOf cs) (length cs) (length (unhex t)) = record { short = r .short; few = omega (arith, built-count b cs e, r .few); fits = omega (arith, built-total b cs e, r .fits) } in
+          let fit : Fitting (totalOf cs) (length cs)
+          (length (unhex t)) = record { short = r .short; few = omega (arith, built-count b cs e, r .few); fits = omega (arith, built-total b cs e, r .fits) } in
           record { hex = h; fits = fit; builder = ap (λ (x : Growth). x .builder) (q ∙ pushed b cs e (unhex t) fit) }
       inner false f h q p = no (ap (λ (x : Growth). x .answer) p)
 

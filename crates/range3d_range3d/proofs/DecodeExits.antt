@@ -29,7 +29,8 @@ use Rattle.range3d_range3d.specs.Records.{rangeWith, readRestOf, readPar
 use Rattle.range3d_range3d.specs.Answers.{GivesRange, refusal, earlyRefusal}
 
 -- ---- a refusal before the paths of the reference are tested
-pub gives-early : (p : PathRange) (d : Decoded) (k : ℕ) (x : Answer Range3d) → answerOf d noRange ≡ refused k → (wellFormedPaths p ≡ false → x ≡ refused 5) → (wellFormedPaths p ≡ true → x ≡ refused k) → GivesRange (earlyRefusal p d) x
+pub gives-early : (p : PathRange) (d : Decoded) (k : ℕ) (x : Answer Range3d) → answerOf d noRange ≡ refused k
+    → (wellFormedPaths p ≡ false → x ≡ refused 5) → (wellFormedPaths p ≡ true → x ≡ refused k) → GivesRange (earlyRefusal p d) x
 unfolding earlyRefusal refusal
 gives-early p d k x e unformed formed = go (wellFormedPaths p) refl
   where
@@ -55,7 +56,8 @@ module _ (r : Range3d) (h : Header) (b : ℕ) (s : List ℕ) where
     unfolding readPartsOf readParts readRestOf readAgainstPaths rangeFrom
     parts-rest = go (wellFormedPaths (r .paths)) refl
       where
-        last : (ids : Range (List ℕ)) (cs : Range (List (List ℕ))) (j : ℕ) (z : Answer TimeRange) → named rangeFrom (shift i (shift j (named (valueFrom ids cs) z))) ≡ shift i (shift j (named (rangeWith (subspacesFrom ids) (pathsFrom cs)) z))
+        last : (ids : Range (List ℕ)) (cs : Range (List (List ℕ))) (j : ℕ) (z : Answer TimeRange)
+            → named rangeFrom (shift i (shift j (named (valueFrom ids cs) z))) ≡ shift i (shift j (named (rangeWith (subspacesFrom ids) (pathsFrom cs)) z))
         last ids cs j (accepted t n) = refl
         last ids cs j (refused k) = refl
 
@@ -123,5 +125,6 @@ module _ (r : Range3d) (ids : wellFormedSubspaces (r .subspaces) ≡ true) (s : 
       go : (c : Bool) → wellFormedPaths (r .paths) ≡ c → readAgainstRange r (drop i s) ≡ shift 2 (readPartsOf r (unpackHeader (getD s i 0)) (getD s (i + 1) 0) (drop (i + 1 + 1) s))
       go true w =
           let h : i < length s = omega (arith, k) in
-          rw (ids, w, drop-cons s i 0 h, ← (add-one i), drop-cons s (i + 1) 0 k, ← (add-one (i + 1))) (twice (readParts (rangeOf r) (unpackHeader (getD s i 0)) (getD s (i + 1) 0) (drop (i + 1 + 1) s)))
+          rw (ids, w, drop-cons s i 0 h, ← (add-one i), drop-cons s (i + 1) 0 k, ← (add-one (i + 1)))
+          (twice (readParts (rangeOf r) (unpackHeader (getD s i 0)) (getD s (i + 1) 0) (drop (i + 1 + 1) s)))
       go false w = rw (ids, w)

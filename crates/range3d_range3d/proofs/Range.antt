@@ -37,7 +37,9 @@ module _ (r v : Range3dValue) (paths : Both PathOk (r .paths)) (times : TypedRan
   parts-as =
       let h = headerOf r v in
       let b = packTimes (timesHeader (r .times) (v .times)) in
-      then-as (subspaces-as (r .subspaces) (v .subspaces) ids) (λ x. andThen (readPaths (r .paths) (h .«path_end_open») (sidesIn h)) (λ y. mapped (valueFrom x y) (readTimes (r .times) (h .«times_end_open») (unpackTimes b)))) (
+      then-as (subspaces-as (r .subspaces) (v .subspaces) ids)
+      (λ x. andThen (readPaths (r .paths) (h .«path_end_open») (sidesIn h)) (λ y. mapped (valueFrom x y) (readTimes (r .times) (h .«times_end_open») (unpackTimes b))))
+      (
       then-as (paths-as (r .paths) (v .paths) paths ok) (λ y. mapped (valueFrom (v .subspaces) y) (readTimes (r .times) (h .«times_end_open») (unpackTimes b))) (
       mapped-as (times-here (r .times) (v .times) times typed) (valueFrom (v .subspaces) (v .paths))))
 

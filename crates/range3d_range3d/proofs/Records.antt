@@ -20,7 +20,8 @@ module _ (r : Range3d) (t : TypedRange3d r) (w : wellFormedRange3d r ≡ true) w
   one-back : (v : Range3d) → TypedRange3d v → wellFormedRange3d v ≡ true → ReadsAs (readAgainstRange r) v (rangeBytes (rangeOf r) (rangeOf v))
   unfolding readAgainstRange
   one-back v u wv =
-      let read = mapped-as (range-as (rangeOf r) (rangeOf v) (paths-ok (r .paths) (t .paths) (paths-formed r w)) (t .times) (typed-ids (v .subspaces) (u .subspaces)) (paths-ok (v .paths) (u .paths) (paths-formed v wv)) (u .times)) rangeFrom in
+      let read = mapped-as (range-as (rangeOf r) (rangeOf v) (paths-ok (r .paths) (t .paths) (paths-formed r w)) (t .times)
+      (typed-ids (v .subspaces) (u .subspaces)) (paths-ok (v .paths) (u .paths) (paths-formed v wv)) (u .times)) rangeFrom in
       rw w (rw (made-range v u wv) at read)
 
   pub range-back : ReadsBack (readAgainstRange r) (Writes TypedRange3d (againstRange r))

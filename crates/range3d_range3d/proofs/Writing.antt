@@ -76,11 +76,15 @@ module _ (r v : Range3d) where
   unfolding measureIn wellFormedRange3d
   unmeasured e = go (wellFormedSubspaces (r .subspaces) && wellFormedSubspaces (v .subspaces)) refl e
     where
-      barred-by : ((wellFormedSubspaces (r .subspaces) && wellFormedPaths (r .paths)) && (wellFormedSubspaces (v .subspaces) && wellFormedPaths (v .paths))) ≡ false → againstRange r .check v ≡ barred 5
+      barred-by : ((wellFormedSubspaces (r .subspaces) && wellFormedPaths (r .paths)) && (wellFormedSubspaces (v .subspaces) && wellFormedPaths (v .paths))) ≡ false
+          → againstRange r .check v ≡ barred 5
       barred-by f = rw f
 
-      go : (c : Bool) → (wellFormedSubspaces (r .subspaces) && wellFormedSubspaces (v .subspaces)) ≡ c → cond c (measurePaths (r .paths) (v .paths)) measured.Malformed ≡ measured.Malformed → againstRange r .check v ≡ barred 5
-      go true f g = barred-by (inner-fails (wellFormedSubspaces (r .subspaces)) (wellFormedPaths (r .paths)) (wellFormedSubspaces (v .subspaces)) (wellFormedPaths (v .paths)) (untold (r .paths) (v .paths) g))
+      go : (c : Bool) → (wellFormedSubspaces (r .subspaces) && wellFormedSubspaces (v .subspaces)) ≡ c
+          → cond c (measurePaths (r .paths) (v .paths)) measured.Malformed ≡ measured.Malformed → againstRange r .check v ≡ barred 5
+      go true f g =
+          barred-by (inner-fails (wellFormedSubspaces (r .subspaces)) (wellFormedPaths (r .paths)) (wellFormedSubspaces (v .subspaces))
+          (wellFormedPaths (v .paths)) (untold (r .paths) (v .paths) g))
       go false f g = barred-by (outer-fails (wellFormedSubspaces (r .subspaces)) (wellFormedPaths (r .paths)) (wellFormedSubspaces (v .subspaces)) (wellFormedPaths (v .paths)) f)
 
   module _ (a : Bool) (i : ℕ) (b : Bool) (j n : ℕ) where
@@ -92,7 +96,14 @@ module _ (r v : Range3d) where
     unfolding wellFormedRange3d
     both-told f t = record {
       allows =
-          rw (and-left (wellFormedSubspaces (r .subspaces)) (wellFormedSubspaces (v .subspaces)) f, and-right (wellFormedSubspaces (r .subspaces)) (wellFormedSubspaces (v .subspaces)) f, and-left (wellFormedPaths (r .paths)) (wellFormedPaths (v .paths)) (t .both), and-right (wellFormedPaths (r .paths)) (wellFormedPaths (v .paths)) (t .both));
+          rw (
+            and-left (wellFormedSubspaces (r .subspaces)) (wellFormedSubspaces (v .subspaces)) f,
+            and-right (wellFormedSubspaces (r .subspaces))
+                (wellFormedSubspaces (v .subspaces)) f,
+            and-left (wellFormedPaths (r .paths)) (wellFormedPaths (v .paths)) (t .both),
+            and-right
+                (wellFormedPaths (r .paths)) (wellFormedPaths (v .paths)) (t .both),
+          );
       shares = told-shares (r .paths) (v .paths) a i b j n t;
       long = sym (ap length (told-bytes (r .paths) (v .paths) a i b j n t) ∙ t .long);
       short = told-short (r .paths) (v .paths) a i b j n t;
@@ -103,25 +114,31 @@ module _ (r v : Range3d) where
     unfolding measureIn
     measures e = go (wellFormedSubspaces (r .subspaces) && wellFormedSubspaces (v .subspaces)) refl e
       where
-        go : (c : Bool) → (wellFormedSubspaces (r .subspaces) && wellFormedSubspaces (v .subspaces)) ≡ c → cond c (measurePaths (r .paths) (v .paths)) measured.Malformed ≡ measured.Paths a i b j n → Measures r v a i b j n
+        go : (c : Bool) → (wellFormedSubspaces (r .subspaces) && wellFormedSubspaces (v .subspaces)) ≡ c
+            → cond c (measurePaths (r .paths) (v .paths)) measured.Malformed ≡ measured.Paths a i b j n → Measures r v a i b j n
         go true f g = both-told f (told (r .paths) (v .paths) a i b j n g)
         go false f g = let z : _≡_ {A = ℕ} 0 1 = cc in absurd (omega arith)
 
 -- ---- the parts of what is written
 module _ (known : SubspaceRange) (r : TimeRange) (v : Range3d) (a : Bool) (i : ℕ) (b : Bool) (j : ℕ) where
-  pub measured-long : (s n t : ℕ) → s ≡ length (subspacesBytes (subspacesOf known) (subspacesOf (v .subspaces))) → n ≡ length (bothBytes (v .paths) i j) → t ≡ length (timesBytes r (v .times)) → 2 + (s + (n + t)) ≡ length (measuredBytes known r v a i b j)
+  pub measured-long : (s n t : ℕ) → s ≡ length (subspacesBytes (subspacesOf known) (subspacesOf (v .subspaces))) → n ≡ length (bothBytes (v .paths) i j)
+      → t ≡ length (timesBytes r (v .times)) → 2 + (s + (n + t)) ≡ length (measuredBytes known r v a i b j)
   measured-long s n t es en et =
       let subspaces = subspacesBytes (subspacesOf known) (subspacesOf (v .subspaces)) in
       let times = timesBytes r (v .times) in
       omega (arith, es, en, et, length-append subspaces (bothBytes (v .paths) i j ++ times), length-append (bothBytes (v .paths) i j) times)
 
-  pub measured-parts : ((headWith known (v .subspaces) a (v .paths .«end_open») b r (v .times) ++ subspacesBytes (subspacesOf known) (subspacesOf (v .subspaces))) ++ bothBytes (v .paths) i j) ++ timesBytes r (v .times) ≡ measuredBytes known r v a i b j
+  pub measured-parts : ((headWith known (v .subspaces) a (v .paths .«end_open») b r (v .times) ++ subspacesBytes (subspacesOf known) (subspacesOf (v .subspaces)))
+      ++ bothBytes (v .paths) i j)
+      ++ timesBytes r (v .times) ≡ measuredBytes known r v a i b j
   measured-parts =
       let head = headWith known (v .subspaces) a (v .paths .«end_open») b r (v .times) in
       let subspaces = subspacesBytes (subspacesOf known) (subspacesOf (v .subspaces)) in
       append-assoc (head ++ subspaces) (bothBytes (v .paths) i j) (timesBytes r (v .times)) ∙ append-assoc head subspaces (bothBytes (v .paths) i j ++ timesBytes r (v .times))
 
-pub range-long : (r v : Range3d) {a : Bool} {i : ℕ} {b : Bool} {j n : ℕ} (m : Measures r v a i b j n) (s t : ℕ) → s ≡ length (subspacesBytes (subspacesOf (r .subspaces)) (subspacesOf (v .subspaces))) → t ≡ length (timesBytes (r .times) (v .times)) → 2 + (s + (n + t)) ≡ length (againstRange r .encode v)
+pub range-long : (r v : Range3d) {a : Bool} {i : ℕ} {b : Bool} {j n : ℕ} (m : Measures r v a i b j n) (s t : ℕ)
+    → s ≡ length (subspacesBytes (subspacesOf (r .subspaces)) (subspacesOf (v .subspaces))) → t ≡ length (timesBytes (r .times) (v .times))
+    → 2 + (s + (n + t)) ≡ length (againstRange r .encode v)
 range-long r v {a} {i} {b} {j} {n} m s t es et = measured-long (r .subspaces) (r .times) v a i b j s n t es (m .long) et ∙ ap length (m .bytes)
 
 -- both paths

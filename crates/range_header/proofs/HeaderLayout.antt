@@ -41,8 +41,10 @@ parts s t a b d e i j k l m n =
 header-apart : (h : Header) → (packHeader h < 256) × (unpackHeader (packHeader h) ≡ h)
 header-apart h =
     let p = packHeader h in
-    let x = parts (sourceBits (h .«subspace_start»)) (sourceBits (h .«subspace_end»)) (bit (h .«path_start_from_start»)) (bit (h .«path_end_open»)) (bit (h .«path_end_from_start»)) (bit (h .«times_end_open»))
-    (bits-small (h .«subspace_start»)) (bits-small (h .«subspace_end»)) (bit-small (h .«path_start_from_start»)) (bit-small (h .«path_end_open»)) (bit-small (h .«path_end_from_start»)) (bit-small (h .«times_end_open»)) in (
+    let x = parts (sourceBits (h .«subspace_start»)) (sourceBits (h .«subspace_end»)) (bit (h .«path_start_from_start»)) (bit (h .«path_end_open»))
+    (bit (h .«path_end_from_start»)) (bit (h .«times_end_open»))
+    (bits-small (h .«subspace_start»)) (bits-small (h .«subspace_end»)) (bit-small (h .«path_start_from_start»)) (bit-small (h .«path_end_open»))
+    (bit-small (h .«path_end_from_start»)) (bit-small (h .«times_end_open»)) in (
       x .byte,
       rw (
         source-of (field subspaceStartAt 2 p) (h .«subspace_start») (x .s-is),

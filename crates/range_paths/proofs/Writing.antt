@@ -78,11 +78,33 @@ module _ (r : PathRange) (p : Path) where
     module _ (a b : ℕ) (c : Common (r .start) p a) (d : Common (r .end) p b) where
       pub near-start : b ≤ a → near.At true a ≡ nearIn r p
       unfolding nearIn wellFormedPaths
-      near-start h = rw (o, and-left (wellFormed (r .start)) (wellFormed p) (c .both), and-left (wellFormed (r .end)) (wellFormed p) (d .both), and-right (wellFormed (r .start)) (wellFormed p) (c .both), c .is, d .is, le-leb b a h) (ap (near.At true) (sym (c .is)))
+      near-start h =
+          rw (
+            o,
+            and-left (wellFormed (r .start)) (wellFormed p) (c .both),
+            and-left (wellFormed (r .end)) (wellFormed p) (d .both),
+            and-right
+                (wellFormed (r .start)) (wellFormed p) (c .both),
+            c .is,
+            d .is,
+            le-leb b a h,
+          )
+          (ap (near.At true) (sym (c .is)))
 
       pub near-end : a < b → near.At false b ≡ nearIn r p
       unfolding nearIn wellFormedPaths
-      near-end h = rw (o, and-left (wellFormed (r .start)) (wellFormed p) (c .both), and-left (wellFormed (r .end)) (wellFormed p) (d .both), and-right (wellFormed (r .start)) (wellFormed p) (c .both), c .is, d .is, lt-leb b a h) (ap (near.At false) (sym (d .is)))
+      near-end h =
+          rw (
+            o,
+            and-left (wellFormed (r .start)) (wellFormed p) (c .both),
+            and-left (wellFormed (r .end)) (wellFormed p) (d .both),
+            and-right
+                (wellFormed (r .start)) (wellFormed p) (c .both),
+            c .is,
+            d .is,
+            lt-leb b a h,
+          )
+          (ap (near.At false) (sym (d .is)))
 
 -- what an answer tells
 pub record Nears (r : PathRange) (p : Path) (a : Bool) (k : ℕ) : Type 0 where
@@ -94,7 +116,8 @@ pub nears : (r : PathRange) (p : Path) (a : Bool) (k : ℕ) → nearIn r p ≡ n
 unfolding nearIn
 nears r p a k e = go (wellFormedPaths r && wellFormed p) refl e
   where
-    go : (b : Bool) → (wellFormedPaths r && wellFormed p) ≡ b → cond b (near.At (fromStart (pathsOf r) (componentsOf p)) (sharedWith (pathsOf r) (componentsOf p))) near.Malformed ≡ near.At a k → Nears r p a k
+    go : (b : Bool) → (wellFormedPaths r && wellFormed p) ≡ b
+        → cond b (near.At (fromStart (pathsOf r) (componentsOf p)) (sharedWith (pathsOf r) (componentsOf p))) near.Malformed ≡ near.At a k → Nears r p a k
     go true f g = record { both = f; side = cc; is = cc }
     go false f g = let z : _≡_ {A = ℕ} 0 1 = cc in absurd (omega arith)
 
@@ -102,7 +125,9 @@ not-near : (r : PathRange) (p : Path) → nearIn r p ≡ near.Malformed → (wel
 unfolding nearIn
 not-near r p e = go (wellFormedPaths r && wellFormed p) refl e
   where
-    go : (b : Bool) → (wellFormedPaths r && wellFormed p) ≡ b → cond b (near.At (fromStart (pathsOf r) (componentsOf p)) (sharedWith (pathsOf r) (componentsOf p))) near.Malformed ≡ near.Malformed → (wellFormedPaths r && wellFormed p) ≡ false
+    go : (b : Bool) → (wellFormedPaths r && wellFormed p) ≡ b
+        → cond b (near.At (fromStart (pathsOf r) (componentsOf p)) (sharedWith (pathsOf r) (componentsOf p))) near.Malformed ≡ near.Malformed
+        → (wellFormedPaths r && wellFormed p) ≡ false
     go true f g = let z : _≡_ {A = ℕ} 0 1 = cc in absurd (omega arith)
     go false f g = f
 
@@ -174,7 +199,11 @@ module _ (r v : PathRange) where
   untold e = go (wellFormedPaths r && wellFormedPaths v) refl e
     where
       go : (c : Bool) → (wellFormedPaths r && wellFormedPaths v) ≡ c
-          → cond c (measured.Paths (sidesOf (pathsOf r) (pathsOf v) .«start_from_start») (sharedWith (pathsOf r) (componentsOf (v .start))) (sidesOf (pathsOf r) (pathsOf v) .«end_from_start») (endShared (pathsOf r) (pathsOf v .end)) (length (pathsBytes (pathsOf r) (pathsOf v)))) measured.Malformed ≡ measured.Malformed
+          → cond c
+          (measured.Paths (sidesOf (pathsOf r) (pathsOf v) .«start_from_start») (sharedWith (pathsOf r) (componentsOf (v .start)))
+          (sidesOf (pathsOf r) (pathsOf v) .«end_from_start») (endShared (pathsOf r) (pathsOf v .end))
+          (length (pathsBytes (pathsOf r) (pathsOf v)))) measured.Malformed
+          ≡ measured.Malformed
           → (wellFormedPaths r && wellFormedPaths v) ≡ false
       go true f g = let z : _≡_ {A = ℕ} 0 1 = cc in absurd (omega arith)
       go false f g = f
@@ -185,7 +214,11 @@ module _ (r v : PathRange) where
     told e = go (wellFormedPaths r && wellFormedPaths v) refl e
       where
         go : (c : Bool) → (wellFormedPaths r && wellFormedPaths v) ≡ c
-            → cond c (measured.Paths (sidesOf (pathsOf r) (pathsOf v) .«start_from_start») (sharedWith (pathsOf r) (componentsOf (v .start))) (sidesOf (pathsOf r) (pathsOf v) .«end_from_start») (endShared (pathsOf r) (pathsOf v .end)) (length (pathsBytes (pathsOf r) (pathsOf v)))) measured.Malformed ≡ measured.Paths a i b j n
+            → cond c
+            (measured.Paths (sidesOf (pathsOf r) (pathsOf v) .«start_from_start») (sharedWith (pathsOf r) (componentsOf (v .start)))
+            (sidesOf (pathsOf r) (pathsOf v) .«end_from_start») (endShared (pathsOf r) (pathsOf v .end))
+            (length (pathsBytes (pathsOf r) (pathsOf v)))) measured.Malformed
+            ≡ measured.Paths a i b j n
             → Told r v a i b j n
         go true f g = record { both = f; start = cc; end = cc; first = cc; last = cc; long = cc }
         go false f g = let z : _≡_ {A = ℕ} 0 1 = cc in absurd (omega arith)
@@ -204,13 +237,22 @@ module _ (r v : PathRange) where
       unfolding pathsBytes pathBytes
       told-bytes = rw (t .first) (ap (λ (bs : List ℕ). sharedFrom i .encode (v .start) ++ bs) (go (v .«end_open») (t .last)))
         where
-          go : (o : Bool) → endShared (pathsOf r) (cond o none (some (componentsOf (v .end)))) ≡ j → cond o [] (sharedFrom j .encode (v .end)) ≡ endBytes (pathsOf r) (cond o none (some (componentsOf (v .end))))
+          go : (o : Bool) → endShared (pathsOf r) (cond o none (some (componentsOf (v .end)))) ≡ j
+              → cond o [] (sharedFrom j .encode (v .end)) ≡ endBytes (pathsOf r) (cond o none (some (componentsOf (v .end))))
           go true e = refl
           go false e = rw e
 
       pub told-short : n ≤ 1800
       told-short =
-          omega (arith, t .long, ap length told-bytes, length-append (sharedFrom i .encode (v .start)) (cond (v .«end_open») [] (sharedFrom j .encode (v .end))), shared-short (v .start) i (formed-paths v formed .start), go (v .«end_open»))
+          omega (
+            arith,
+            t .long,
+            ap length told-bytes,
+            length-append (sharedFrom i .encode (v .start))
+                (cond (v .«end_open») [] (sharedFrom j .encode (v .end))),
+            shared-short (v .start) i (formed-paths v formed .start),
+            go (v .«end_open»),
+          )
         where
           go : (o : Bool) → length (cond o [] (sharedFrom j .encode (v .end))) ≤ 900
           go true = omega arith

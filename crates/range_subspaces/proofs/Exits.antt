@@ -17,7 +17,8 @@ not-written Start h = refl
 not-written End h = refl
 not-written Written h = absurd (⊎-elim (λ e. omega arith) (⊎-elim (λ e. omega arith) (λ e. omega arith)) h)
 
-some-end : (r : Range (List ℕ)) (x : IdSource) (s : List ℕ) → OneOf (1 ∷ 2 ∷ 3 ∷ []) (declared.tagOf Rattle.range_subspaces.proofs.IdSource.the-type x) → readEnd r x s ≡ mapped some (readId r x) s
+some-end : (r : Range (List ℕ)) (x : IdSource) (s : List ℕ)
+    → OneOf (1 ∷ 2 ∷ 3 ∷ []) (declared.tagOf Rattle.range_subspaces.proofs.IdSource.the-type x) → readEnd r x s ≡ mapped some (readId r x) s
 some-end r Nowhere s h = absurd (⊎-elim (λ e. omega arith) (⊎-elim (λ e. omega arith) (λ e. omega arith)) h)
 some-end r Start s h = refl
 some-end r End s h = refl

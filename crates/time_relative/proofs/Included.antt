@@ -56,7 +56,8 @@ says-difference r t true d h e = go (leb (r .start + d - r .start) (endValue (r 
     go false f q = let z : false ≡ true = rw f at q in absurd (false≢true z)
 says-difference r t false d h e = go (leb (endValue (r .end) - d - r .start) (endValue (r .end) - (endValue (r .end) - d))) refl e
   where
-    go : (b : Bool) → leb (endValue (r .end) - d - r .start) (endValue (r .end) - (endValue (r .end) - d)) ≡ b → differenceOf r (endValue (r .end) - d) .added ≡ false → differenceOf r (endValue (r .end) - d) .difference ≡ d
+    go : (b : Bool) → leb (endValue (r .end) - d - r .start) (endValue (r .end) - (endValue (r .end) - d)) ≡ b
+        → differenceOf r (endValue (r .end) - d) .added ≡ false → differenceOf r (endValue (r .end) - d) .difference ≡ d
     go true f q = let z : true ≡ false = rw f at q in absurd (true≢false z)
     go false f q = rw f (omega (arith, h))
 
@@ -115,7 +116,8 @@ module _ (r : TimeRange) (added : Bool) (tag : ℕ) where
   unfolding readIncluded
   included-relaxes =
       mapped-relaxes (timeAt r added) _ _ (
-      checked-relaxes (λ d. isIncluded true r added d (timeAt r added d)) (λ d. isIncluded false r added d (timeAt r added d)) _ _ (λ d. included-relaxes' r added d (timeAt r added d)) (number-relaxes 2 tag))
+      checked-relaxes (λ d. isIncluded true r added d (timeAt r added d)) (λ d. isIncluded false r added d (timeAt r added d)) _ _
+      (λ d. included-relaxes' r added d (timeAt r added d)) (number-relaxes 2 tag))
 
   pub included-bounded : (canonic : Bool) → Bounded (readIncluded canonic r added tag)
   unfolding readIncluded

@@ -111,7 +111,8 @@ module _ (r : TimeRange) (added : Bool) (tag : ℕ) where
   unfolding readTime
   time-relaxes =
       mapped-relaxes (timeAt r added) _ _ (
-      checked-relaxes (λ d. isNearest true r added d (timeAt r added d)) (λ d. isNearest false r added d (timeAt r added d)) _ _ (λ d. nearest-relaxes r added d (timeAt r added d)) (number-relaxes 2 tag))
+      checked-relaxes (λ d. isNearest true r added d (timeAt r added d)) (λ d. isNearest false r added d (timeAt r added d)) _ _
+      (λ d. nearest-relaxes r added d (timeAt r added d)) (number-relaxes 2 tag))
 
   pub time-bounded : (canonic : Bool) → Bounded (readTime canonic r added tag)
   unfolding readTime

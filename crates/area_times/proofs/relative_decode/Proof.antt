@@ -18,39 +18,47 @@ start-is c =
     sym (after-relative-decode .relative-decode .ensures) ∙ ap numberAnswer (c .before .first .given .1)
 
 end-is : (c : tie.After-known-told2) → let a = c .before .before .before .before .before .before .before .before .before .args in
-    readEnd (a .canonic) (a .reference) (a .header) (drop (c .before .before .before .before .before .first .given .0 .1 .0) (now (a .message))) ≡ accepted (c .before .before .before .decode-end .result .end) (c .before .answer .given .0 .0)
+    readEnd (a .canonic) (a .reference) (a .header) (drop (c .before .before .before .before .before .first .given .0 .1 .0) (now (a .message)))
+    ≡ accepted (c .before .before .before .decode-end .result .end) (c .before .answer .given .0 .0)
 end-is c =
     let after-decode-end : tie.After-decode-end = search in
     sym (after-decode-end .decode-end .ensures) ∙ ap (λ (d : Decoded). answerOf d (after-decode-end .decode-end .result .end)) (c .before .answer .given .1)
 
-times-are : (c : tie.Else1) → let a = c .before .before .before .before .before .before .before .before .before .before .before .args in let x = c .before .before .before .before .before .before .before .first .given .0 in
-    readTimes (a .canonic) (a .reference) (a .header) (now (a .message)) ≡ accepted (timesFrom (x .0) (c .before .before .before .before .before .decode-end .result .end)) (x .1 .0 + c .before .before .before .answer .given .0 .0)
+times-are : (c : tie.Else1) → let a = c .before .before .before .before .before .before .before .before .before .before .before .args in
+    let x = c .before .before .before .before .before .before .before .first .given .0 in
+    readTimes (a .canonic) (a .reference) (a .header) (now (a .message))
+    ≡ accepted (timesFrom (x .0) (c .before .before .before .before .before .decode-end .result .end)) (x .1 .0 + c .before .before .before .answer .given .0 .0)
 times-are c =
     let after-known-told : tie.After-known-told = search in
     let start : tie.Start = search in
     let a = start .args in
-    times-read (a .canonic) (a .reference) (a .header) (now (a .message)) _ _ (start-is after-known-told) _ _ (end-is (c .before .before)) (sym (c .before .includes-range .ensures) ∙ not-false _ (c .if1 .left))
+    times-read (a .canonic) (a .reference) (a .header) (now (a .message)) _ _ (start-is after-known-told) _ _ (end-is (c .before .before))
+    (sym (c .before .includes-range .ensures) ∙ not-false _ (c .if1 .left))
 
 returns : tie.Need-returns
 returns c =
     let start : tie.Start = search in
     let a = start .args in
     let x = refused-number (a .reference) (c .before .before .relative-decode .result) (c .before .match .keys2) in
-    rw (c .refusal .ensures) (gives-refused (x .why) (x .whole) (times-start (a .canonic) (a .reference) (a .header) (now (a .message)) (x .why) (sym (c .before .before .relative-decode .ensures) ∙ x .number)))
+    rw (c .refusal .ensures) (gives-refused (x .why) (x .whole)
+    (times-start (a .canonic) (a .reference) (a .header) (now (a .message)) (x .why) (sym (c .before .before .relative-decode .ensures) ∙ x .number)))
 
 returns-2 : tie.Need-returns-2
 returns-2 c =
     let start : tie.Start = search in
     let a = start .args in
     let x = no-value (c .before .decode-end .result .answer) (c .match2 .keys2) in
-    gives-refused (x .why) (x .beside (a .reference)) (times-end (a .canonic) (a .reference) (a .header) (now (a .message)) _ _ (start-is (c .before .before)) (x .why) (sym (c .before .decode-end .ensures) ∙ x .beside (c .before .decode-end .result .end)))
+    gives-refused (x .why) (x .beside (a .reference))
+    (times-end (a .canonic) (a .reference) (a .header) (now (a .message)) _ _ (start-is (c .before .before)) (x .why)
+    (sym (c .before .decode-end .ensures) ∙ x .beside (c .before .decode-end .result .end)))
 
 returns-3 : tie.Need-returns-3
 returns-3 c =
     let after-known-told : tie.After-known-told = search in
     let start : tie.Start = search in
     let a = start .args in
-    gives-refused 2 refl (times-outside (a .canonic) (a .reference) (a .header) (now (a .message)) _ _ (start-is after-known-told) _ _ (end-is (c .before .before)) (sym (c .before .includes-range .ensures) ∙ not-true _ (c .if1 .taken)))
+    gives-refused 2 refl (times-outside (a .canonic) (a .reference) (a .header) (now (a .message)) _ _ (start-is after-known-told) _ _
+    (end-is (c .before .before)) (sym (c .before .includes-range .ensures) ∙ not-true _ (c .if1 .taken)))
 
 add-t17 : tie.Need-add-t17
 add-t17 c =

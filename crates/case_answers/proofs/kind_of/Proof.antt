@@ -46,7 +46,9 @@ returns-6 c =
     let c3 = c4 .before .before .before in
     let c2 = c3 .before .before .before in
     let c1 = c2 .before .before .before in
-    rw (← (c1 .before .same-bytes .ensures), c1 .if1 .left, ← (c2 .before .same-bytes2 .ensures), c2 .if2 .left, ← (c3 .before .same-bytes3 .ensures), c3 .if3 .left, ← (c4 .before .same-bytes4 .ensures), c4 .if4 .left, ← (c5 .before .same-bytes5 .ensures), c5 .if5 .left) (c .record-kind .ensures)
+    rw
+    (← (c1 .before .same-bytes .ensures), c1 .if1 .left, ← (c2 .before .same-bytes2 .ensures), c2 .if2 .left, ← (c3 .before .same-bytes3 .ensures), c3 .if3 .left, ← (c4 .before .same-bytes4 .ensures), c4 .if4 .left, ← (c5 .before .same-bytes5 .ensures), c5 .if5 .left)
+    (c .record-kind .ensures)
 
 pub kind-of-spec : {M : Type 1} → statement M
 kind-of-spec =

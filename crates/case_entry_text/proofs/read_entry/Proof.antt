@@ -34,11 +34,15 @@ module _ (i : ℕ) (line : List ℕ) {ok1 : Bool} {x1 : Names} (said1 : Says (na
 
       module _ {v3 : ℕ} (ok3 : x3 ≡ decimal.Value v3) {s4 : List ℕ} {x4 : IdField} (read4 : x4 ≡ readId s4) (part4 : s4 ≡ field (i + 5) line) where
         no-digest : (a : Entry) → not (x4 .ok) ≡ true → Says (entryField i line) false a
-        no-digest a e = says-then (names-of i line) (says-as said1 (not-false ok1 so1)) (record { said = λ k. rw (← part2, ← read2, ok2, ← part3, ← read3, ok3, ← part4, ← read4, not-true (x4 .ok) e) })
+        no-digest a e =
+            says-then (names-of i line) (says-as said1 (not-false ok1 so1))
+            (record { said = λ k. rw (← part2, ← read2, ok2, ← part3, ← read3, ok3, ← part4, ← read4, not-true (x4 .ok) e) })
 
         all-read : (ok4 : not (x4 .ok) ≡ false) → Says (entryField i line) true
             (record { «namespace_id» = x1 .«namespace_id»; «subspace_id» = x1 .«subspace_id»; path = x1 .path; timestamp = v2; «payload_length» = v3; «payload_digest» = x4 .id })
-        all-read ok4 = says-then (names-of i line) (says-as said1 (not-false ok1 so1)) (record { said = λ k. rw (← part2, ← read2, ok2, ← part3, ← read3, ok3, ← part4, ← read4, not-false (x4 .ok) ok4) })
+        all-read ok4 =
+            says-then (names-of i line) (says-as said1 (not-false ok1 so1))
+            (record { said = λ k. rw (← part2, ← read2, ok2, ← part3, ← read3, ok3, ← part4, ← read4, not-false (x4 .ok) ok4) })
 
 pub read-entry-spec : {M : Type 1} → statement M
 unfolding noEntry

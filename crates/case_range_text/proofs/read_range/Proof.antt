@@ -31,7 +31,8 @@ module _ (i : ℕ) (line : List ℕ) {ok1 : Bool} {x1 : SubspaceRange} (said1 : 
     module _ (so2 : not ok2 ≡ false) {ok3 : Bool} {x3 : TimeRange} (said3 : Says (timesField (i + 4) line) ok3 x3) where
       no-times : (a : Range3d) → not ok3 ≡ true → Says (rangeField i line) false a
       no-times a e =
-          says-then (subspaces-of i line) (says-as said1 (not-false ok1 so1)) (says-then (paths-of i line _) (says-as said2 (not-false ok2 so2)) (says-none (times-of _ _) a (says-as said3 (not-true ok3 e))))
+          says-then (subspaces-of i line) (says-as said1 (not-false ok1 so1))
+          (says-then (paths-of i line _) (says-as said2 (not-false ok2 so2)) (says-none (times-of _ _) a (says-as said3 (not-true ok3 e))))
 
       all-read : (so3 : not ok3 ≡ false) → Says (rangeField i line) true (record { subspaces = x1; paths = x2; times = x3 })
       all-read so3 =

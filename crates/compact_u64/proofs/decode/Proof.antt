@@ -11,7 +11,9 @@ use Rattle.compact_u64.proofs.decode.Tie as tie
 abbrev relative-decode-start : tie.After-relative-decode → tie.Start
 relative-decode-start c = c .before .before .before .before
 
-told : (c : tie.After-relative-decode) → readStandalone (relative-decode-start c .args .canonic) (drop (relative-decode-start c .args .start) (now (relative-decode-start c .args .message))) ≡ shift 1 (numberAnswer (c .relative-decode .result))
+told : (c : tie.After-relative-decode)
+    → readStandalone (relative-decode-start c .args .canonic) (drop (relative-decode-start c .args .start) (now (relative-decode-start c .args .message)))
+    ≡ shift 1 (numberAnswer (c .relative-decode .result))
 told c =
     let start : tie.Start = search in
     let a = start .args in standalone-some (a .canonic) (now (a .message)) (a .start) (c .before .before .if1 .left) ∙ ap (shift 1) (sym (c .relative-decode .ensures))

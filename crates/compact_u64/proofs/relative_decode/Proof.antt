@@ -8,20 +8,31 @@ use Rattle.compact_u64.proofs.relative_decode.Statement.{statement}
 use Rattle.compact_u64.proofs.relative_decode.Tie as tie
 
 -- how many bytes follow the tag
-follows : (c : tie.After-two-to) → c .two-to .result ≡ 2 ^ (c .before .before .before .before .before .before .args .tag - inlineLimit (bits (c .before .before .before .before .before .before .args .width)))
+follows : (c : tie.After-two-to)
+    → c .two-to .result ≡ 2 ^ (c .before .before .before .before .before .before .args .tag - inlineLimit (bits (c .before .before .before .before .before .before .args .width)))
 follows c =
     let after-wide : tie.After-wide = search in
     let after-inline-limit : tie.After-inline-limit = search in
     rw (← (after-inline-limit .inline-limit .ensures .0), ← (after-wide .wide .ensures .0)) (c .two-to .ensures .0)
 
 -- they are there: what strict reading asks of them
-judged : (c : tie.After-big-endian) → readNumber (c .before .before .before .before .before .before .before .before .before .args .canonic) (bits (c .before .before .before .before .before .before .before .before .before .args .width)) (c .before .before .before .before .before .before .before .before .before .args .tag) (drop (c .before .before .before .before .before .before .before .before .before .args .start) (now (c .before .before .before .before .before .before .before .before .before .args .message)))
-    ≡ passed (cond (c .before .before .before .before .before .before .before .before .before .args .canonic) (eqb (minTag (bits (c .before .before .before .before .before .before .before .before .before .args .width)) (c .big-endian .result)) (c .before .before .before .before .before .before .before .before .before .args .tag)) true) (accepted (c .big-endian .result) (c .before .before .before .two-to .result))
+judged : (c : tie.After-big-endian) → readNumber (c .before .before .before .before .before .before .before .before .before .args .canonic)
+    (bits (c .before .before .before .before .before .before .before .before .before .args .width))
+    (c .before .before .before .before .before .before .before .before .before .args .tag)
+    (drop (c .before .before .before .before .before .before .before .before .before .args .start)
+    (now (c .before .before .before .before .before .before .before .before .before .args .message)))
+    ≡ passed
+    (cond (c .before .before .before .before .before .before .before .before .before .args .canonic)
+    (eqb (minTag (bits (c .before .before .before .before .before .before .before .before .before .args .width)) (c .big-endian .result))
+    (c .before .before .before .before .before .before .before .before .before .args .tag)) true)
+    (accepted (c .big-endian .result) (c .before .before .before .two-to .result))
 judged c =
     let after-two-to : tie.After-two-to = search in
     let start : tie.Start = search in
     let a = start .args in
-    rw (c .big-endian .ensures) (read-bytes _ _ _ (drop (a .start) (now (a .message))) (omega arith) (omega (arith, four-tags (a .width))) (after-two-to .two-to .result) (follows after-two-to) (simp length-drop (omega arith)))
+    rw (c .big-endian .ensures)
+    (read-bytes _ _ _ (drop (a .start) (now (a .message))) (omega arith) (omega (arith, four-tags (a .width))) (after-two-to .two-to .result)
+    (follows after-two-to) (simp length-drop (omega arith)))
 
 returns : tie.Need-returns
 returns c = rw (c .before .wide .ensures .0) (sym (read-inline _ _ _ _ (omega arith)))
@@ -42,7 +53,8 @@ returns-4 : tie.Need-returns-4
 returns-4 c =
     let start : tie.Start = search in
     let a = start .args in
-    sym (read-short _ _ _ (drop (a .start) (now (a .message))) (omega arith) (omega (arith, four-tags (a .width))) (c .before .before .two-to .result) (follows (c .before .before)) (simp length-drop (omega arith)))
+    sym (read-short _ _ _ (drop (a .start) (now (a .message))) (omega arith) (omega (arith, four-tags (a .width))) (c .before .before .two-to .result)
+    (follows (c .before .before)) (simp length-drop (omega arith)))
 
 returns-5 : tie.Need-returns-5
 returns-5 c =

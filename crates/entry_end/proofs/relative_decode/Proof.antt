@@ -34,12 +34,15 @@ known-told3-first c = c .before .before .before .before .before .before .before 
 abbrev known-told3-start : tie.After-known-told3 → tie.Start
 known-told3-start c = c .before .before .before .before .before .before .before .before .before .before .before .before .before
 
-digest-is : (c : tie.After-known-told3) → someBytes 32 (drop (known-told3-first c .first .given .0 .1 .0 + known-told3-second c .second .given .0 .1 .0) (now (known-told3-start c .args .message))) ≡ accepted (c .before .before .before .decode-id .result .id) (c .before .answer .given .0 .0)
+digest-is : (c : tie.After-known-told3)
+    → someBytes 32 (drop (known-told3-first c .first .given .0 .1 .0 + known-told3-second c .second .given .0 .1 .0) (now (known-told3-start c .args .message)))
+    ≡ accepted (c .before .before .before .decode-id .result .id) (c .before .answer .given .0 .0)
 digest-is c =
     let after-decode-id : tie.After-decode-id = search in
     sym (after-decode-id .decode-id .ensures .answer) ∙ ap (λ (d : Decoded). answerOf d (after-decode-id .decode-id .result .id)) (c .before .answer .given .1)
 
-inside : (c : tie.After-known-told3) → known-told3-first c .first .given .0 .1 .0 + (known-told3-second c .second .given .0 .1 .0 + c .before .answer .given .0 .0) ≤ length (now (known-told3-start c .args .message))
+inside : (c : tie.After-known-told3)
+    → known-told3-first c .first .given .0 .1 .0 + (known-told3-second c .second .given .0 .1 .0 + c .before .answer .given .0 .0) ≤ length (now (known-told3-start c .args .message))
 inside c =
     let after-known-told2 : tie.After-known-told2 = search in
     let after-known-told : tie.After-known-told = search in
@@ -53,7 +56,8 @@ returns c =
     let start : tie.Start = search in
     let a = start .args in
     let x = refused-number noEnd (after-decode-included .decode-included .result) (c .before .before .match .keys2) in
-    rw (c .refuse .ensures .0, c .refuse .ensures .1, c .before .refusal .ensures) (gives-refused (x .why) (x .whole) (end-time (a .canonic) (a .times) (a .header) (now (a .message)) (x .why) (sym (after-decode-included .decode-included .ensures) ∙ x .number)))
+    rw (c .refuse .ensures .0, c .refuse .ensures .1, c .before .refusal .ensures)
+    (gives-refused (x .why) (x .whole) (end-time (a .canonic) (a .times) (a .header) (now (a .message)) (x .why) (sym (after-decode-included .decode-included .ensures) ∙ x .number)))
 
 returns-2 : tie.Need-returns-2
 returns-2 c =
@@ -62,7 +66,9 @@ returns-2 c =
     let start : tie.Start = search in
     let a = start .args in
     let x = refused-number noEnd (after-relative-decode .relative-decode .result) (c .before .before .match2 .keys2) in
-    rw (c .refuse2 .ensures .0, c .refuse2 .ensures .1, c .before .refusal2 .ensures) (gives-refused (x .why) (x .whole) (end-size (a .canonic) (a .times) (a .header) (now (a .message)) _ _ (time-is after-known-told) (x .why) (sym (after-relative-decode .relative-decode .ensures) ∙ x .number)))
+    rw (c .refuse2 .ensures .0, c .refuse2 .ensures .1, c .before .refusal2 .ensures)
+    (gives-refused (x .why) (x .whole)
+    (end-size (a .canonic) (a .times) (a .header) (now (a .message)) _ _ (time-is after-known-told) (x .why) (sym (after-relative-decode .relative-decode .ensures) ∙ x .number)))
 
 add-at : tie.Need-add-at
 add-at c =
@@ -78,7 +84,10 @@ returns-3 c =
     let start : tie.Start = search in
     let a = start .args in
     let x = no-value (c .before .before .decode-id .result .answer) (c .before .match3 .keys2) in
-    rw (c .refuse3 .ensures .0, c .refuse3 .ensures .1) (gives-refused (x .why) (x .beside _) (end-digest (a .canonic) (a .times) (a .header) (now (a .message)) _ _ (time-is after-known-told) _ _ (size-is after-known-told2) (x .why) (sym (c .before .before .decode-id .ensures .answer) ∙ x .beside _)))
+    rw (c .refuse3 .ensures .0, c .refuse3 .ensures .1)
+    (gives-refused (x .why) (x .beside _)
+    (end-digest (a .canonic) (a .times) (a .header) (now (a .message)) _ _ (time-is after-known-told) _ _ (size-is after-known-told2) (x .why)
+    (sym (c .before .before .decode-id .ensures .answer) ∙ x .beside _)))
 
 add-t19 : tie.Need-add-t19
 add-t19 c = omega (arith, inside (c .before))

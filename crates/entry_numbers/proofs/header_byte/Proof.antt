@@ -5,7 +5,9 @@ use Rattle.entry_numbers.proofs.header_byte.Statement.{statement}
 use Rattle.entry_numbers.proofs.header_byte.Tie as tie
 
 pack-requires : tie.Need-pack-requires
-pack-requires c κs = rw (c .header-of .ensures) (header-fits (c .before .args .namespace-written) (c .before .args .subspace-written) (c .before .args .reference) (c .before .args .time) (c .before .args .size))
+pack-requires c κs =
+    rw (c .header-of .ensures)
+    (header-fits (c .before .args .namespace-written) (c .before .args .subspace-written) (c .before .args .reference) (c .before .args .time) (c .before .args .size))
 
 returns : tie.Need-returns
 returns c = c .pack .ensures ∙ ap packHeader (c .before .header-of .ensures)

@@ -29,7 +29,8 @@ returns c =
     let start : tie.Start = search in
     let a = start .args in
     let x = refused-number noNumbers (after-relative-decode .relative-decode .result) (c .before .before .match .keys2) in
-    rw (c .refuse .ensures .0, c .refuse .ensures .1, c .before .refusal .ensures) (gives-refused (x .why) (x .whole) (numbers-first (a .reference) (a .header) (now (a .message)) (x .why) (sym (after-relative-decode .relative-decode .ensures) ∙ x .number)))
+    rw (c .refuse .ensures .0, c .refuse .ensures .1, c .before .refusal .ensures)
+    (gives-refused (x .why) (x .whole) (numbers-first (a .reference) (a .header) (now (a .message)) (x .why) (sym (after-relative-decode .relative-decode .ensures) ∙ x .number)))
 
 returns-2 : tie.Need-returns-2
 returns-2 c =
@@ -38,7 +39,9 @@ returns-2 c =
     let start : tie.Start = search in
     let a = start .args in
     let x = refused-number noNumbers (after-relative-decode2 .relative-decode2 .result) (c .before .before .match2 .keys2) in
-    rw (c .refuse2 .ensures .0, c .refuse2 .ensures .1, c .before .refusal2 .ensures) (gives-refused (x .why) (x .whole) (numbers-second (a .reference) (a .header) (now (a .message)) _ _ (time-is after-known-told) (x .why) (sym (after-relative-decode2 .relative-decode2 .ensures) ∙ x .number)))
+    rw (c .refuse2 .ensures .0, c .refuse2 .ensures .1, c .before .refusal2 .ensures)
+    (gives-refused (x .why) (x .whole)
+    (numbers-second (a .reference) (a .header) (now (a .message)) _ _ (time-is after-known-told) (x .why) (sym (after-relative-decode2 .relative-decode2 .ensures) ∙ x .number)))
 
 add-t14 : tie.Need-add-t14
 add-t14 c =

@@ -21,7 +21,8 @@ inside c =
     let d : tie.After-abs-diff = search in
     let e : tie.Else1 = search in
     let a = e .before .before .before .args in
-    pair-inside (numberBytes 2 (d .abs-diff .result)) (numberBytes 3 (a .size)) (now (a .buffer)) (bytes d) (fits e) (n .relative-len-of-encoding2 .ensures .0) (c .before .before .relative-encode .kept .0)
+    pair-inside (numberBytes 2 (d .abs-diff .result)) (numberBytes 3 (a .size)) (now (a .buffer)) (bytes d) (fits e)
+    (n .relative-len-of-encoding2 .ensures .0) (c .before .before .relative-encode .kept .0)
 
 returns : tie.Need-returns
 returns c =
@@ -41,7 +42,8 @@ returns-2 c =
     let n = e .before .relative-len-of-encoding in
     let x = numberBytes 2 (d .abs-diff .result) in (
       put-fits allowed (numbersBytes (a .reference) (a .time) (a .size)) l refl (n .result) (n .ensures .0) (omega (arith, e .if1 .left)) .0,
-      pair-put x (numberBytes 3 (a .size)) l (bytes d) (fits e) (m .relative-len-of-encoding2 .ensures .0) (p .relative-encode .ensures .1) (p .relative-encode .kept .0) (c .before .before .relative-encode2 .ensures .1),
+      pair-put x (numberBytes 3 (a .size)) l (bytes d) (fits e) (m .relative-len-of-encoding2 .ensures .0) (p .relative-encode .ensures .1)
+          (p .relative-encode .kept .0) (c .before .before .relative-encode2 .ensures .1),
     )
 
 pub relative-encode-spec : {M : Type 1} → statement M

@@ -29,7 +29,8 @@ begins c =
     sizes-inside (a .canonic) (now (a .message)) (a .start) _ _ (sizes-are c)
 
 -- the components, read after none
-components-are : (c : tie.After-decode-after) → let a = c .before .before .before .before .before .before .before .before .before .args in let h = c .before .before .before .before .before .sizes .given .0 in
+components-are : (c : tie.After-decode-after) → let a = c .before .before .before .before .before .before .before .before .before .args in
+    let h = c .before .before .before .before .before .sizes .given .0 in
     GivesPath (c .decode-after .result) (readAfter (a .canonic) [] [] (h .0) (h .1 .0) (drop (a .start + h .1 .1 .0) (now (a .message))))
 components-are c =
     let after-sizes : tie.After-sizes = search in
@@ -44,7 +45,8 @@ returns c =
     let start : tie.Start = search in
     let a = start .args in
     let x = no-sizes (after-decode-sizes .decode-sizes .result) (c .before .before .match .keys2) in
-    rw (c .refuse .ensures, c .before .sizes-refusal .ensures) (gives-refused (x .why) (x .path) (path-refused (a .canonic) (now (a .message)) (a .start) (x .why) (sym (after-decode-sizes .decode-sizes .ensures) ∙ x .sizes)))
+    rw (c .refuse .ensures, c .before .sizes-refusal .ensures)
+    (gives-refused (x .why) (x .path) (path-refused (a .canonic) (now (a .message)) (a .start) (x .why) (sym (after-decode-sizes .decode-sizes .ensures) ∙ x .sizes)))
 
 add-at : tie.Need-add-at
 add-at c = omega (arith, begins c)

@@ -31,7 +31,8 @@ abbrev loop-start : tie.After-loop Inv-loop μ-loop → tie.Start Inv-loop μ-lo
 loop-start c = at-loop-start (c .before)
 
 -- what is left fits, and the next component stands in the bytes
-fits : (c : tie.At-loop Inv-loop μ-loop) → c .loop .at + length (bytesFrom (now (at-loop-start c .args .lengths)) (now (at-loop-start c .args .bytes)) (c .loop .i) (c .loop .from)) ≤ length (c .loop .buffer)
+fits : (c : tie.At-loop Inv-loop μ-loop)
+    → c .loop .at + length (bytesFrom (now (at-loop-start c .args .lengths)) (now (at-loop-start c .args .bytes)) (c .loop .i) (c .loop .from)) ≤ length (c .loop .buffer)
 fits c =
     let start : tie.Start Inv-loop μ-loop = search in
     omega (arith, c .loop .inv .2, c .loop .inv .3, start .pre .1)
@@ -119,7 +120,8 @@ loop-again c =
       omega (arith, sum-next (now (a .lengths)) (l .i) (omega arith), l .inv .1),
       put-end-long (l .at) (l .buffer) (w .last .0) inside (w .kept .0) ∙ l .inv .2,
       omega (arith, n, room in-loop, l .inv .3),
-      l .inv .4 ∙ rw (put-end (l .at) (l .buffer) (w .last .0), bytes, n) (write-turn (now (a .lengths)) (now (a .bytes)) (l .i) (l .from) (omega arith) (l .buffer) (l .at) inside (in-loop .loop-test .taken)),
+      l .inv .4 ∙ rw (put-end (l .at) (l .buffer) (w .last .0), bytes, n)
+          (write-turn (now (a .lengths)) (now (a .bytes)) (l .i) (l .from) (omega arith) (l .buffer) (l .at) inside (in-loop .loop-test .taken)),
     )
 
 mul-to-2 : tie.Need-mul-to-2 Inv-loop μ-loop

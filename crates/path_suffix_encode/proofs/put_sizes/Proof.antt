@@ -27,18 +27,31 @@ first-long c =
     put-end-long 1 (headed after-pack-tags) (c .before .before .relative-encode .last .0) (simp length-set (omega (arith, room start))) (c .before .before .relative-encode .kept .0) ∙ simp length-set
 
 first-is : (c : tie.After-slice-known2)
-    → first c ≡ over (packTags (tagsOf (sizesFrom (c .before .before .before .before .before .before .before .before .before .before .args .total) (c .before .before .before .before .before .before .before .before .before .before .args .count))) ∷ numberBytes 4 (c .before .before .before .before .before .before .before .before .before .before .args .total)) (now (c .before .before .before .before .before .before .before .before .before .before .args .buffer))
+    → first c ≡ over
+    (packTags
+    (tagsOf (sizesFrom (c .before .before .before .before .before .before .before .before .before .before .args .total)
+    (c .before .before .before .before .before .before .before .before .before .before .args .count))) ∷ numberBytes 4
+    (c .before .before .before .before .before .before .before .before .before .before .args .total))
+    (now (c .before .before .before .before .before .before .before .before .before .before .args .buffer))
 first-is c =
     let a = c .before .before .before .before .before .before .before .before .before .before .args in
     let w = c .before .before .relative-encode in
     let number = rw (to-end 1 (headed (c .before .before .before .before))) at (w .ensures .1) in
-    let tags : c .before .before .before .before .pack-tags .result ≡ packTags (tagsOf (sizesFrom (a .total) (a .count))) = c .before .before .before .before .pack-tags .ensures ∙ rw (c .before .before .before .before .before .before .min-tag .ensures, c .before .before .before .before .before .min-tag2 .ensures) in
-    put-end 1 (headed (c .before .before .before .before)) (w .last .0) ∙ rw (number, ← tags) (cons-put (now (a .buffer)) (numberBytes 4 (a .total)) (c .before .before .before .before .pack-tags .result) (omega (arith, room (c .before .before .before .before .before .before .before .before .before .before))))
+    let tags : c .before .before .before .before .pack-tags .result
+    ≡ packTags (tagsOf (sizesFrom (a .total) (a .count))) = c .before .before .before .before .pack-tags .ensures
+    ∙ rw (c .before .before .before .before .before .before .min-tag .ensures, c .before .before .before .before .before .min-tag2 .ensures) in
+    put-end 1 (headed (c .before .before .before .before)) (w .last .0) ∙ rw (number, ← tags)
+    (cons-put (now (a .buffer)) (numberBytes 4 (a .total)) (c .before .before .before .before .pack-tags .result)
+    (omega (arith, room (c .before .before .before .before .before .before .before .before .before .before))))
 
 pack-tags-requires : tie.Need-pack-tags-requires
 pack-tags-requires c κs =
     let start : tie.Start = search in
-    record { total = omega (arith, c .before .min-tag .ensures, min-tag-fits 4 (start .args .total) (omega arith)); count = omega (arith, c .min-tag2 .ensures, min-tag-fits 4 (start .args .count) (omega arith)) }
+    record {
+      total = omega (arith, c .before .min-tag .ensures, min-tag-fits 4 (start .args .total) (omega arith));
+      count = omega
+          (arith, c .min-tag2 .ensures, min-tag-fits 4 (start .args .count) (omega arith));
+    }
 
 slice-write-buffer : tie.Need-slice-write-buffer
 slice-write-buffer c =

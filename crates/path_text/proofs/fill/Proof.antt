@@ -71,9 +71,15 @@ loop-again c =
     let rest = tailText (drop (l .i + 1) (componentsOf p)) in
     let few = text-few s in
     let fit : l .place + length ((47 ∷ hexText (bytesAt p (l .i))) ++ rest) ≤ length (l .out) = omega (arith, ap length t, l .inv .2, l .inv .3, few, s .pre .1) in
-    let place = turn-place (l .out) (after-put-bytes .put-bytes .last .0) (c .before .before .put-hex .last .0) (l .place) (after-put-bytes .put-bytes .result) (c .before .before .put-hex .result) (bytesAt p (l .i)) rest fit (after-put-bytes .put-bytes .ensures .0) (after-put-bytes .put-bytes .ensures .1) e2 n2 in
-    let long = turn-long (l .out) (after-put-bytes .put-bytes .last .0) (c .before .before .put-hex .last .0) (l .place) (after-put-bytes .put-bytes .result) (c .before .before .put-hex .result) (bytesAt p (l .i)) rest fit (after-put-bytes .put-bytes .ensures .0) (after-put-bytes .put-bytes .ensures .1) e2 n2 in
-    let over = turn-over (l .out) (after-put-bytes .put-bytes .last .0) (c .before .before .put-hex .last .0) (l .place) (after-put-bytes .put-bytes .result) (c .before .before .put-hex .result) (bytesAt p (l .i)) rest fit (after-put-bytes .put-bytes .ensures .0) (after-put-bytes .put-bytes .ensures .1) e2 n2 in (
+    let place = turn-place (l .out) (after-put-bytes .put-bytes .last .0) (c .before .before .put-hex .last .0) (l .place)
+    (after-put-bytes .put-bytes .result) (c .before .before .put-hex .result) (bytesAt p (l .i)) rest fit (after-put-bytes .put-bytes .ensures .0)
+    (after-put-bytes .put-bytes .ensures .1) e2 n2 in
+    let long = turn-long (l .out) (after-put-bytes .put-bytes .last .0) (c .before .before .put-hex .last .0) (l .place)
+    (after-put-bytes .put-bytes .result) (c .before .before .put-hex .result) (bytesAt p (l .i)) rest fit (after-put-bytes .put-bytes .ensures .0)
+    (after-put-bytes .put-bytes .ensures .1) e2 n2 in
+    let over = turn-over (l .out) (after-put-bytes .put-bytes .last .0) (c .before .before .put-hex .last .0) (l .place)
+    (after-put-bytes .put-bytes .result) (c .before .before .put-hex .result) (bytesAt p (l .i)) rest fit (after-put-bytes .put-bytes .ensures .0)
+    (after-put-bytes .put-bytes .ensures .1) e2 n2 in (
       omega arith,
       omega (arith, next-start p f (l .i) h, l .inv .1, len),
       long ∙ l .inv .2,

@@ -13,7 +13,8 @@ hex-here c =
     let after-read-hex : tie.After-read-hex = search in
     sym (c .before .got .given .1) ∙ after-read-hex .read-hex .ensures .0
 
-bytes-here : (c : tie.After-known-told) → take (c .before .got .given .0 .0) (c .before .before .before .before .read-hex .last .1 .0) ≡ unhex (now (c .before .before .before .before .before .before .before .args .t))
+bytes-here : (c : tie.After-known-told)
+    → take (c .before .got .given .0 .0) (c .before .before .before .before .read-hex .last .1 .0) ≡ unhex (now (c .before .before .before .before .before .before .before .args .t))
 bytes-here c =
     let after-read-hex : tie.After-read-hex = search in
     rw (after-read-hex .read-hex .ensures .1) (bytes-are _ _ _ (hex-here c))

@@ -24,14 +24,17 @@ returns-2 c =
     let after-enum-told : tie.After-enum-told = search in
     let start : tie.Start = search in
     let a = start .args in
-    rw (c .no-id .ensures) (sym (written-named (subspacesOf (a .reference)) (now (a .message)) _ _ (id-is after-enum-told) (ap isWritten (sym (c .before .before .source .ensures)) ∙ not-written (c .before .before .source .result) (c .before .match2 .keys2))))
+    rw (c .no-id .ensures) (sym
+    (written-named (subspacesOf (a .reference)) (now (a .message)) _ _ (id-is after-enum-told)
+    (ap isWritten (sym (c .before .before .source .ensures)) ∙ not-written (c .before .before .source .result) (c .before .match2 .keys2))))
 
 returns-3 : tie.Need-returns-3
 returns-3 c =
     let after-enum-told : tie.After-enum-told = search in
     let start : tie.Start = search in
     let a = start .args in
-    rw (after-enum-told .enum-told .given .1) (sym (written-read (subspacesOf (a .reference)) (now (a .message)) _ _ (id-is after-enum-told) (ap isWritten (sym (c .before .before .source .ensures) ∙ c .enum-told2 .given .1))))
+    rw (after-enum-told .enum-told .given .1)
+    (sym (written-read (subspacesOf (a .reference)) (now (a .message)) _ _ (id-is after-enum-told) (ap isWritten (sym (c .before .before .source .ensures) ∙ c .enum-told2 .given .1))))
 
 pub decode-written-spec : {M : Type 1} → statement M
 decode-written-spec =

@@ -24,7 +24,10 @@ inside c =
     let a = start .args in id-bounded (subspacesOf (a .reference)) (a .sources .start) .bound (now (a .message)) _ _ (start-is (c .before .before))
 
 both-are : (c : tie.After-end) → let a = c .before .before .before .before .before .before .before .before .before .before .before .before .before .args in
-    mapped subspacesFrom (readSubspaces (subspacesOf (a .reference)) (a .sources)) (now (a .message)) ≡ accepted (subspacesFrom (subspacesUpTo (c .before .before .before .before .before .before .before .before .before .before .before .decode-id .result .id) (some (c .before .before .before .before .decode-id2 .result .id)))) (c .before .before .before .before .before .before .before .before .before .first-answer .given .0 .0 + c .before .before .second-answer .given .0 .0)
+    mapped subspacesFrom (readSubspaces (subspacesOf (a .reference)) (a .sources)) (now (a .message)) ≡ accepted
+    (subspacesFrom (subspacesUpTo (c .before .before .before .before .before .before .before .before .before .before .before .decode-id .result .id)
+    (some (c .before .before .before .before .decode-id2 .result .id))))
+    (c .before .before .before .before .before .before .before .before .before .first-answer .given .0 .0 + c .before .before .second-answer .given .0 .0)
 both-are c =
     let after-decode-id2 : tie.After-decode-id2 = search in
     let at-match2-keys2 : tie.At-match2-keys2 = search in
@@ -32,7 +35,8 @@ both-are c =
     let after-first-answer : tie.After-first-answer = search in
     let start : tie.Start = search in
     let a = start .args in
-    let e = rw (to-end (after-first-answer .first-answer .given .0 .0) (now (a .message))) at (sym (after-decode-id2 .decode-id2 .ensures) ∙ ap (λ (d : Decoded). answerOf d (after-decode-id2 .decode-id2 .result .id)) (c .before .before .second-answer .given .1)) in
+    let e = rw (to-end (after-first-answer .first-answer .given .0 .0) (now (a .message))) at
+    (sym (after-decode-id2 .decode-id2 .ensures) ∙ ap (λ (d : Decoded). answerOf d (after-decode-id2 .decode-id2 .result .id)) (c .before .before .second-answer .given .1)) in
     both-read (subspacesOf (a .reference)) (a .sources) (now (a .message)) _ _ (start-is after-known-told) (at-match2-keys2 .match2 .keys2) _ _ e
 
 returns : tie.Need-returns
@@ -40,7 +44,9 @@ returns c =
     let start : tie.Start = search in
     let a = start .args in
     let x = no-value (c .before .before .decode-id .result .answer) (c .before .match .keys2) in
-    rw (c .refuse .ensures .0, c .refuse .ensures .1) (gives-refused (x .why) (x .beside noSubspaces) (start-refused (subspacesOf (a .reference)) (a .sources) (now (a .message)) (x .why) (sym (c .before .before .decode-id .ensures) ∙ x .beside _)))
+    rw (c .refuse .ensures .0, c .refuse .ensures .1)
+    (gives-refused (x .why) (x .beside noSubspaces)
+    (start-refused (subspacesOf (a .reference)) (a .sources) (now (a .message)) (x .why) (sym (c .before .before .decode-id .ensures) ∙ x .beside _)))
 
 returns-2 : tie.Need-returns-2
 unfolding subspacesFrom
@@ -65,7 +71,9 @@ returns-3 c =
     let a = start .args in
     let x = no-value (c .before .before .decode-id2 .result .answer) (c .before .match3 .keys2) in
     let e = rw (to-end (after-first-answer .first-answer .given .0 .0) (now (a .message))) at (sym (c .before .before .decode-id2 .ensures) ∙ x .beside _) in
-    rw (c .refuse2 .ensures .0, c .refuse2 .ensures .1) (gives-refused (x .why) (x .beside noSubspaces) (end-refused (subspacesOf (a .reference)) (a .sources) (now (a .message)) _ _ (start-is after-known-told) (at-match2-keys2 .match2 .keys2) (x .why) e))
+    rw (c .refuse2 .ensures .0, c .refuse2 .ensures .1)
+    (gives-refused (x .why) (x .beside noSubspaces)
+    (end-refused (subspacesOf (a .reference)) (a .sources) (now (a .message)) _ _ (start-is after-known-told) (at-match2-keys2 .match2 .keys2) (x .why) e))
 
 add-t18 : tie.Need-add-t18
 add-t18 c =

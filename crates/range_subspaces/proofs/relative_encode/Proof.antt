@@ -21,7 +21,15 @@ inside c =
     let after-relative-len-of-encoding : tie.After-relative-len-of-encoding = search in
     let start : tie.Start = search in
     let a = start .args in
-    omega (arith, else1 .if1 .left, after-relative-len-of-encoding .relative-len-of-encoding .ensures .0, start-inside (subspacesOf (a .reference)) (subspacesOf (a .subspaces)), after-put-id .put-id .ensures .0, after-put-id .put-id .kept .0)
+    omega (
+      arith,
+      else1 .if1 .left,
+      after-relative-len-of-encoding .relative-len-of-encoding .ensures .0,
+      start-inside (subspacesOf (a .reference))
+          (subspacesOf (a .subspaces)),
+      after-put-id .put-id .ensures .0,
+      after-put-id .put-id .kept .0,
+    )
 
 -- and there is room for the end's
 room : (c : tie.After-end) → let a = c .before .before .before .before .before .before .before .before .before .before .args in
@@ -32,13 +40,24 @@ room c =
     let after-relative-len-of-encoding : tie.After-relative-len-of-encoding = search in
     let start : tie.Start = search in
     let a = start .args in
-    rw length-drop (omega (arith, else1 .if1 .left, after-relative-len-of-encoding .relative-len-of-encoding .ensures .0, ap length (bytes c), length-append (idBytes (subspacesOf (a .reference)) (a .subspaces .start)) (idBytes (subspacesOf (a .reference)) (a .subspaces .end)), after-put-id .put-id .ensures .0, after-put-id .put-id .kept .0))
+    rw length-drop (omega (
+      arith,
+      else1 .if1 .left,
+      after-relative-len-of-encoding .relative-len-of-encoding .ensures .0,
+      ap length
+          (bytes c),
+      length-append (idBytes (subspacesOf (a .reference)) (a .subspaces .start))
+          (idBytes (subspacesOf (a .reference)) (a .subspaces .end)),
+      after-put-id .put-id .ensures .0,
+      after-put-id .put-id .kept .0,
+    ))
 
 returns : tie.Need-returns
 returns c =
     let start : tie.Start = search in
     let a = start .args in
-    put-full allowed (subspacesBytes (subspacesOf (a .reference)) (subspacesOf (a .subspaces))) (now (a .buffer)) refl (c .before .relative-len-of-encoding .result) (c .before .relative-len-of-encoding .ensures .0) (c .if1 .taken)
+    put-full allowed (subspacesBytes (subspacesOf (a .reference)) (subspacesOf (a .subspaces))) (now (a .buffer)) refl
+    (c .before .relative-len-of-encoding .result) (c .before .relative-len-of-encoding .ensures .0) (c .if1 .taken)
 
 put-id-requires : tie.Need-put-id-requires
 put-id-requires c κs =
@@ -56,7 +75,9 @@ returns-2 c =
     let a = start .args in
     let l = now (a .buffer) in
     let e = open-bytes (subspacesOf (a .reference)) (subspacesOf (a .subspaces)) (rw (c .if2 .taken)) in
-    let fits = put-fits allowed (subspacesBytes (subspacesOf (a .reference)) (subspacesOf (a .subspaces))) l refl (after-relative-len-of-encoding .relative-len-of-encoding .result) (after-relative-len-of-encoding .relative-len-of-encoding .ensures .0) (omega (arith, else1 .if1 .left)) in
+    let fits = put-fits allowed (subspacesBytes (subspacesOf (a .reference)) (subspacesOf (a .subspaces))) l refl
+    (after-relative-len-of-encoding .relative-len-of-encoding .result) (after-relative-len-of-encoding .relative-len-of-encoding .ensures .0)
+    (omega (arith, else1 .if1 .left)) in
     (fits .0, after-put-id .put-id .ensures .1 ∙ ap (λ (bs : List ℕ). over bs l) (sym e) ∙ fits .1)
 
 sub-put-id : tie.Need-sub-put-id
@@ -83,7 +104,9 @@ returns-3 c =
     let q = c .before .before .put-id2 in
     let x = idBytes (subspacesOf (a .reference)) (a .subspaces .start) in
     let y = idBytes (subspacesOf (a .reference)) (a .subspaces .end) in
-    let fits = put-fits allowed (subspacesBytes (subspacesOf (a .reference)) (subspacesOf (a .subspaces))) l refl (after-relative-len-of-encoding .relative-len-of-encoding .result) (after-relative-len-of-encoding .relative-len-of-encoding .ensures .0) (omega (arith, else1 .if1 .left)) in
+    let fits = put-fits allowed (subspacesBytes (subspacesOf (a .reference)) (subspacesOf (a .subspaces))) l refl
+    (after-relative-len-of-encoding .relative-len-of-encoding .result) (after-relative-len-of-encoding .relative-len-of-encoding .ensures .0)
+    (omega (arith, else1 .if1 .left)) in
     let rest = rw (to-end (p .result) (p .last .0)) at (q .ensures .1) in (
       fits .0,
       put-end (p .result) (p .last .0) (q .last .0) ∙ rw (rest, p .ensures .1, p .ensures .0) (over-then l x y) ∙ ap (λ (bs : List ℕ). over bs l) (sym (bytes after-end)) ∙ fits .1,

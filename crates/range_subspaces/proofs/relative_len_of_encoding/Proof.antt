@@ -16,8 +16,12 @@ returns-2 c =
     let start : tie.Start = search in
     let a = start .args in
     let first = after-id-len .id-len .ensures in
-    let last = c .id-len2 .ensures in
-    (rw (closed-bytes (subspacesOf (a .reference)) (subspacesOf (a .subspaces)) (a .subspaces .end) (rw (c .before .before .if1 .left)), length-append, ← (first .0), ← (last .0)), omega (arith, first .1, last .1))
+    let last = c .id-len2 .ensures in (
+      rw
+          (closed-bytes (subspacesOf (a .reference)) (subspacesOf (a .subspaces)) (a .subspaces .end) (rw (c .before .before .if1 .left)), length-append, ← (first .0), ← (last .0)),
+      omega
+          (arith, first .1, last .1),
+    )
 
 pub relative-len-of-encoding-spec : {M : Type 1} → statement M
 relative-len-of-encoding-spec = tie.close (tie.spec (λ c κs. search needs) returns (λ c κs. search needs) (λ c. search needs) returns-2)

@@ -21,15 +21,18 @@ start-is c =
     let after-unpack : tie.After-unpack = search in
     rw (after-side .side .ensures, after-unpack .unpack .ensures) at (sym (after-relative-decode .relative-decode .ensures) ∙ ap numberAnswer (c .before .first .given .1))
 
-times-are : (c : tie.After-known-told2) → let a = c .before .before .before .before .before .before .before .before .before .before .before .args in let x = c .before .before .before .before .before .first .given .0 in
-    readTimes (a .reference) (a .end-open) (unpackHeader (a .header)) (now (a .message)) ≡ accepted (timesFrom (x .0) (c .before .before .before .decode-end .result .end)) (x .1 .0 + c .before .answer .given .0 .0)
+times-are : (c : tie.After-known-told2) → let a = c .before .before .before .before .before .before .before .before .before .before .before .args in
+    let x = c .before .before .before .before .before .first .given .0 in
+    readTimes (a .reference) (a .end-open) (unpackHeader (a .header)) (now (a .message))
+    ≡ accepted (timesFrom (x .0) (c .before .before .before .decode-end .result .end)) (x .1 .0 + c .before .answer .given .0 .0)
 times-are c =
     let after-decode-end : tie.After-decode-end = search in
     let after-known-told : tie.After-known-told = search in
     let after-unpack : tie.After-unpack = search in
     let start : tie.Start = search in
     let a = start .args in
-    let e = rw (after-unpack .unpack .ensures) at (sym (after-decode-end .decode-end .ensures) ∙ ap (λ (d : Decoded). answerOf d (after-decode-end .decode-end .result .end)) (c .before .answer .given .1)) in
+    let e = rw (after-unpack .unpack .ensures) at
+    (sym (after-decode-end .decode-end .ensures) ∙ ap (λ (d : Decoded). answerOf d (after-decode-end .decode-end .result .end)) (c .before .answer .given .1)) in
     times-read (a .reference) (a .end-open) (unpackHeader (a .header)) (now (a .message)) _ _ (start-is after-known-told) _ _ e
 
 returns : tie.Need-returns
@@ -41,7 +44,8 @@ returns c =
     let a = start .args in
     let x = refused-number noTimes (after-relative-decode .relative-decode .result) (c .before .before .match .keys2) in
     let e = rw (after-side .side .ensures, after-unpack .unpack .ensures) at (sym (after-relative-decode .relative-decode .ensures) ∙ x .number) in
-    rw (c .refuse .ensures .0, c .refuse .ensures .1, c .before .refusal .ensures) (gives-refused (x .why) (x .whole) (times-start (a .reference) (a .end-open) (unpackHeader (a .header)) (now (a .message)) (x .why) e))
+    rw (c .refuse .ensures .0, c .refuse .ensures .1, c .before .refusal .ensures)
+    (gives-refused (x .why) (x .whole) (times-start (a .reference) (a .end-open) (unpackHeader (a .header)) (now (a .message)) (x .why) e))
 
 returns-2 : tie.Need-returns-2
 returns-2 c =
@@ -51,7 +55,8 @@ returns-2 c =
     let a = start .args in
     let x = no-value (c .before .before .decode-end .result .answer) (c .before .match2 .keys2) in
     let e = rw (after-unpack .unpack .ensures) at (sym (c .before .before .decode-end .ensures) ∙ x .beside (c .before .before .decode-end .result .end)) in
-    rw (c .refuse2 .ensures .0, c .refuse2 .ensures .1) (gives-refused (x .why) (x .beside noTimes) (times-end (a .reference) (a .end-open) (unpackHeader (a .header)) (now (a .message)) _ _ (start-is after-known-told) (x .why) e))
+    rw (c .refuse2 .ensures .0, c .refuse2 .ensures .1)
+    (gives-refused (x .why) (x .beside noTimes) (times-end (a .reference) (a .end-open) (unpackHeader (a .header)) (now (a .message)) _ _ (start-is after-known-told) (x .why) e))
 
 add-t15 : tie.Need-add-t15
 add-t15 c =

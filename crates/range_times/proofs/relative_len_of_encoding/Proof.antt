@@ -7,8 +7,11 @@ returns : tie.Need-returns
 returns c =
     let after-nearest : tie.After-nearest = search in
     let start : tie.Start = search in
-    let a = start .args in
-    (rw (times-open (a .reference) (a .times) (c .enum-told .given .1), ← (after-nearest .nearest .ensures)) (c .before .before .relative-len-of-encoding .ensures .0), omega (arith, c .before .before .relative-len-of-encoding .ensures .1))
+    let a = start .args in (
+      rw (times-open (a .reference) (a .times) (c .enum-told .given .1), ← (after-nearest .nearest .ensures))
+          (c .before .before .relative-len-of-encoding .ensures .0),
+      omega (arith, c .before .before .relative-len-of-encoding .ensures .1),
+    )
 
 returns-2 : tie.Need-returns-2
 returns-2 c =
@@ -18,8 +21,19 @@ returns-2 c =
     let start : tie.Start = search in
     let a = start .args in
     let first = after-relative-len-of-encoding .relative-len-of-encoding .ensures in
-    let last = c .relative-len-of-encoding2 .ensures in
-    (rw (times-closed (a .reference) (a .times) _ (after-end .end .given .1), length-append, ← (after-nearest .nearest .ensures), ← (c .before .nearest2 .ensures), ← (first .0), ← (last .0)), omega (arith, first .1, last .1))
+    let last = c .relative-len-of-encoding2 .ensures in (
+      rw (
+        times-closed (a .reference) (a .times) _
+            (after-end .end .given .1),
+        length-append,
+        ← (after-nearest .nearest .ensures),
+        ← (c .before .nearest2 .ensures),
+        ← (first .0),
+        ← (last .0),
+      ),
+      omega
+          (arith, first .1, last .1),
+    )
 
 pub relative-len-of-encoding-spec : {M : Type 1} → statement M
 relative-len-of-encoding-spec =

@@ -33,7 +33,8 @@ loop-again c =
       omega arith,
       rw (length-set, length-set) (l .inv .1),
       omega arith,
-      rw (a, b) (l .inv .3 ∙ rw (hexText-next s (l .i) (omega arith)) (overAt-next (l .p) _ _ (l .out) (omega arith) ∙ overAt-next (l .p + 1) _ (hexText (drop (l .i + 1) s)) (set (l .out) (l .p) _) (rw length-set (omega arith)))),
+      rw (a, b) (l .inv .3 ∙ rw (hexText-next s (l .i) (omega arith))
+          (overAt-next (l .p) _ _ (l .out) (omega arith) ∙ overAt-next (l .p + 1) _ (hexText (drop (l .i + 1) s)) (set (l .out) (l .p) _) (rw length-set (omega arith)))),
     )
 
 same-length : tie.Need-same-length Inv-loop μ-loop

@@ -33,7 +33,8 @@ returns-3 c =
     let start : tie.Start Inv-loop μ-loop = search in
     let a = after-hex-value .hex-value in
     let b = c .before .hex-value2 in
-    sym (at-loop .loop .inv .1 ∙ isHex-next (now (start .args .s)) (at-loop .loop .i) (omega arith) ∙ rw (← (a .ensures .0), lt-ltb (a .result) 16 (omega arith), ← (b .ensures .0), le-ltb (b .result) 16 (omega arith)))
+    sym (at-loop .loop .inv .1 ∙ isHex-next (now (start .args .s)) (at-loop .loop .i) (omega arith)
+    ∙ rw (← (a .ensures .0), lt-ltb (a .result) 16 (omega arith), ← (b .ensures .0), le-ltb (b .result) 16 (omega arith)))
 
 loop-again : tie.Need-loop-again Inv-loop μ-loop
 loop-again c =
@@ -43,7 +44,8 @@ loop-again c =
     let a = after-hex-value .hex-value in
     let b = c .before .hex-value2 in (
       omega arith,
-      at-loop .loop .inv .1 ∙ isHex-next (now (start .args .s)) (at-loop .loop .i) (omega arith) ∙ rw (← (a .ensures .0), lt-ltb (a .result) 16 (omega arith), ← (b .ensures .0), lt-ltb (b .result) 16 (omega arith)),
+      at-loop .loop .inv .1 ∙ isHex-next (now (start .args .s)) (at-loop .loop .i) (omega arith)
+          ∙ rw (← (a .ensures .0), lt-ltb (a .result) 16 (omega arith), ← (b .ensures .0), lt-ltb (b .result) 16 (omega arith)),
     )
 
 returns-4 : tie.Need-returns-4 Inv-loop μ-loop

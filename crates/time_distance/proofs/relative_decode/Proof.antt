@@ -31,7 +31,8 @@ returns-3 c =
     let start : tie.Start = search in
     let a = start .args in
     let e = sym (after-relative-decode .relative-decode .ensures) ∙ ap numberAnswer (after-number .number .given .1) in
-    sym (from-fault (a .from) (a .added) (a .tag) (drop (a .start) (now (a .message))) _ _ e (rw (after-from .from .given .1, c .before .if1 .taken) (lt-leb (after-from .from .given .0 .0 + after-number .number .given .0 .0) top (omega (arith, c .if2 .taken)))))
+    sym (from-fault (a .from) (a .added) (a .tag) (drop (a .start) (now (a .message))) _ _ e
+    (rw (after-from .from .given .1, c .before .if1 .taken) (lt-leb (after-from .from .given .0 .0 + after-number .number .given .0 .0) top (omega (arith, c .if2 .taken)))))
 
 returns-4 : tie.Need-returns-4
 returns-4 c =
@@ -43,7 +44,8 @@ returns-4 c =
     let e = sym (after-relative-decode .relative-decode .ensures) ∙ ap numberAnswer (after-number .number .given .1) in
     let x = after-from .from .given .0 .0 in
     let is : timeFrom (a .from) (a .added) (after-number .number .given .0 .0) ≡ x + after-number .number .given .0 .0 = rw (after-from .from .given .1, c .before .if1 .taken) in
-    rw (← is) (sym (from-read (a .from) (a .added) (a .tag) (drop (a .start) (now (a .message))) _ _ e (rw (after-from .from .given .1, c .before .if1 .taken) (le-leb (x + after-number .number .given .0 .0) top (omega (arith, c .if2 .left))))))
+    rw (← is) (sym (from-read (a .from) (a .added) (a .tag) (drop (a .start) (now (a .message))) _ _ e
+    (rw (after-from .from .given .1, c .before .if1 .taken) (le-leb (x + after-number .number .given .0 .0) top (omega (arith, c .if2 .left))))))
 
 returns-5 : tie.Need-returns-5
 returns-5 c =

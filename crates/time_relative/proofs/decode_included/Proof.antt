@@ -36,7 +36,8 @@ returns-3 c =
     let a = start .args in
     let s = drop (a .start) (now (a .message)) in
     let e = sym (after-relative-decode .relative-decode .ensures) ∙ ap numberAnswer (after-number .number .given .1) in
-    sym (included-told (a .canonic) (a .range) (a .added) (a .tag) s _ _ e (omega (arith, after-reach .reach .ensures, else1 .if1 .left)) false (rw (c .before .before .time-at .ensures) at (sym (c .before .is-included .ensures) ∙ not-true _ (c .if2 .taken))))
+    sym (included-told (a .canonic) (a .range) (a .added) (a .tag) s _ _ e (omega (arith, after-reach .reach .ensures, else1 .if1 .left)) false
+    (rw (c .before .before .time-at .ensures) at (sym (c .before .is-included .ensures) ∙ not-true _ (c .if2 .taken))))
 
 returns-4 : tie.Need-returns-4
 returns-4 c =
@@ -48,7 +49,9 @@ returns-4 c =
     let a = start .args in
     let s = drop (a .start) (now (a .message)) in
     let e = sym (after-relative-decode .relative-decode .ensures) ∙ ap numberAnswer (after-number .number .given .1) in
-    rw (c .before .before .time-at .ensures) (sym (included-told (a .canonic) (a .range) (a .added) (a .tag) s _ _ e (omega (arith, after-reach .reach .ensures, else1 .if1 .left)) true (rw (c .before .before .time-at .ensures) at (sym (c .before .is-included .ensures) ∙ not-false _ (c .if2 .left)))))
+    rw (c .before .before .time-at .ensures)
+    (sym (included-told (a .canonic) (a .range) (a .added) (a .tag) s _ _ e (omega (arith, after-reach .reach .ensures, else1 .if1 .left)) true
+    (rw (c .before .before .time-at .ensures) at (sym (c .before .is-included .ensures) ∙ not-false _ (c .if2 .left)))))
 
 pub decode-included-spec : {M : Type 1} → statement M
 decode-included-spec =

@@ -20,7 +20,13 @@ returns-3 c =
     let else1 : tie.Else1 = search in
     let after-bounds : tie.After-bounds = search in
     let start : tie.Start = search in
-    rw ((sym (after-bounds .bounds .ensures) ∙ not-false _ (else1 .if1 .left)), ← (after-difference .difference .ensures), eq-eqb _ _ (c .before .if2 .left), not-true (start .args .canonic) (c .if3 .taken))
+    rw (
+      (sym (after-bounds .bounds .ensures) ∙ not-false _ (else1 .if1 .left)),
+      ← (after-difference .difference .ensures),
+      eq-eqb _ _
+          (c .before .if2 .left),
+      not-true (start .args .canonic) (c .if3 .taken),
+    )
 
 returns-4 : tie.Need-returns-4
 unfolding isNearest
@@ -29,7 +35,14 @@ returns-4 c =
     let else1 : tie.Else1 = search in
     let after-bounds : tie.After-bounds = search in
     let start : tie.Start = search in
-    rw ((sym (after-bounds .bounds .ensures) ∙ not-false _ (else1 .if1 .left)), ← (after-difference .difference .ensures), eq-eqb _ _ (c .before .before .if2 .left), not-false (start .args .canonic) (c .before .if3 .left), c .if4 .taken)
+    rw (
+      (sym (after-bounds .bounds .ensures) ∙ not-false _ (else1 .if1 .left)),
+      ← (after-difference .difference .ensures),
+      eq-eqb _ _
+          (c .before .before .if2 .left),
+      not-false (start .args .canonic) (c .before .if3 .left),
+      c .if4 .taken,
+    )
 
 returns-5 : tie.Need-returns-5
 unfolding isNearest
@@ -38,7 +51,14 @@ returns-5 c =
     let else1 : tie.Else1 = search in
     let after-bounds : tie.After-bounds = search in
     let start : tie.Start = search in
-    rw ((sym (after-bounds .bounds .ensures) ∙ not-false _ (else1 .if1 .left)), ← (after-difference .difference .ensures), eq-eqb _ _ (c .before .before .if2 .left), not-false (start .args .canonic) (c .before .if3 .left), c .if4 .left)
+    rw (
+      (sym (after-bounds .bounds .ensures) ∙ not-false _ (else1 .if1 .left)),
+      ← (after-difference .difference .ensures),
+      eq-eqb _ _
+          (c .before .before .if2 .left),
+      not-false (start .args .canonic) (c .before .if3 .left),
+      c .if4 .left,
+    )
 
 pub is-nearest-spec : {M : Type 1} → statement M
 is-nearest-spec = tie.close (tie.spec (λ c κs. search needs) returns (λ c κs. search needs) returns-2 returns-3 returns-4 returns-5)

@@ -22,7 +22,8 @@ returns-2 c =
     let a = start .args in
     let s = drop (a .start) (now (a .message)) in
     let e = sym (after-relative-decode .relative-decode .ensures) ∙ ap numberAnswer (after-number .number .given .1) in
-    sym (time-fault (a .canonic) (a .range) (a .added) (a .tag) s _ _ e (past-reach (a .canonic) (a .range) (typed-range (a .range) (start .good .1 .1 .1 .0)) (a .added) _ (omega (arith, c .before .reach .ensures, c .if1 .taken))))
+    sym (time-fault (a .canonic) (a .range) (a .added) (a .tag) s _ _ e
+    (past-reach (a .canonic) (a .range) (typed-range (a .range) (start .good .1 .1 .1 .0)) (a .added) _ (omega (arith, c .before .reach .ensures, c .if1 .taken))))
 
 time-at-requires : tie.Need-time-at-requires
 time-at-requires c κs = omega (arith, c .before .reach .ensures, c .if1 .left)
@@ -45,7 +46,8 @@ returns-4 c =
     let a = start .args in
     let s = drop (a .start) (now (a .message)) in
     let e = sym (after-relative-decode .relative-decode .ensures) ∙ ap numberAnswer (after-number .number .given .1) in
-    rw (c .before .before .time-at .ensures) (sym (time-read (a .canonic) (a .range) (a .added) (a .tag) s _ _ e (rw (c .before .before .time-at .ensures) at (sym (c .before .is-nearest .ensures) ∙ not-false _ (c .if2 .left)))))
+    rw (c .before .before .time-at .ensures)
+    (sym (time-read (a .canonic) (a .range) (a .added) (a .tag) s _ _ e (rw (c .before .before .time-at .ensures) at (sym (c .before .is-nearest .ensures) ∙ not-false _ (c .if2 .left)))))
 
 pub relative-decode-spec : {M : Type 1} → statement M
 relative-decode-spec =

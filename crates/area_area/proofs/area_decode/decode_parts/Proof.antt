@@ -45,7 +45,8 @@ abbrev times-start : tie.After-times → tie.Start
 times-start c = known-told2-start (c .before .before .before .before .before .before .before .before)
 
 subspace-is : (c : tie.After-known-told) → let a = known-told-start c .args in
-    mapped subspaceFrom (readSubspace (a .canonic) (subspaceOf (a .of-subspace)) (a .header .«id_written»)) (now (a .message)) ≡ accepted (c .before .before .before .decode-subspace .result .subspace) (c .before .first-answer .given .0 .0)
+    mapped subspaceFrom (readSubspace (a .canonic) (subspaceOf (a .of-subspace)) (a .header .«id_written»)) (now (a .message))
+    ≡ accepted (c .before .before .before .decode-subspace .result .subspace) (c .before .first-answer .given .0 .0)
 subspace-is c =
     let after-decode-subspace : tie.After-decode-subspace = search in
     sym (after-decode-subspace .decode-subspace .ensures) ∙ ap (λ (d : Decoded). answerOf d (after-decode-subspace .decode-subspace .result .subspace)) (c .before .first-answer .given .1)
@@ -57,14 +58,16 @@ subspace-inside c =
     mapped-bounded subspaceFrom _ (subspace-bounded (subspaceOf (a .of-subspace)) (a .header .«id_written») (a .canonic)) .bound (now (a .message)) _ _ (subspace-is c)
 
 times-told : (c : tie.After-relative-decode) → let a = c .before .before .before .before .before .before .before .before .before .args in
-    answerOf (c .relative-decode .result .answer) (c .relative-decode .result .times) ≡ readTimes (a .canonic) (a .of-times) (a .header) (drop (c .before .before .before .first-answer .given .0 .0) (now (a .message)))
+    answerOf (c .relative-decode .result .answer) (c .relative-decode .result .times)
+    ≡ readTimes (a .canonic) (a .of-times) (a .header) (drop (c .before .before .before .first-answer .given .0 .0) (now (a .message)))
 times-told c =
     let after-first-answer : tie.After-first-answer = search in
     let start : tie.Start = search in
     rw (to-end (after-first-answer .first-answer .given .0 .0) (now (start .args .message))) at (c .relative-decode .ensures .answer)
 
 times-are : (c : tie.After-known-told2) → let a = known-told2-start c .args in
-    readTimes (a .canonic) (a .of-times) (a .header) (drop (known-told2-first-answer c .first-answer .given .0 .0) (now (a .message))) ≡ accepted (c .before .before .before .relative-decode .result .times) (c .before .second-answer .given .0 .0)
+    readTimes (a .canonic) (a .of-times) (a .header) (drop (known-told2-first-answer c .first-answer .given .0 .0) (now (a .message)))
+    ≡ accepted (c .before .before .before .relative-decode .result .times) (c .before .second-answer .given .0 .0)
 times-are c =
     let after-relative-decode : tie.After-relative-decode = search in
     sym (times-told after-relative-decode) ∙ ap (λ (d : Decoded). answerOf d (after-relative-decode .relative-decode .result .times)) (c .before .second-answer .given .1)
@@ -78,7 +81,9 @@ times-inside c =
     let n = after-first-answer .first-answer .given .0 .0 in
     omega (arith, subspace-inside after-known-told, times-bounded (a .of-times) (a .header) (a .canonic) .bound (drop n (now (a .message))) _ _ (times-are c), length-drop n (now (a .message)))
 
-path-told : (c : tie.After-decode-path-extends-path) → let s = c .before .before .before .before .before .before .before .before .before .before .before .before .before .before in let at = c .before .before .before .before .before .before .before .before .first-answer .given .0 .0 + c .before .before .before .second-answer .given .0 .0 in
+path-told : (c : tie.After-decode-path-extends-path)
+    → let s = c .before .before .before .before .before .before .before .before .before .before .before .before .before .before in
+    let at = c .before .before .before .before .before .before .before .before .first-answer .given .0 .0 + c .before .before .before .second-answer .given .0 .0 in
     answerOf (c .decode-path-extends-path .result .answer) (c .decode-path-extends-path .result .path) ≡ readExtendsPath (s .args .canonic) (reference s .path) (drop at (now (s .args .message)))
 path-told c =
     let after-second-answer : tie.After-second-answer = search in
@@ -87,7 +92,11 @@ path-told c =
     rw (to-end (after-first-answer .first-answer .given .0 .0 + after-second-answer .second-answer .given .0 .0) (now (start .args .message))) at (c .decode-path-extends-path .ensures .answer)
 
 abbrev read-area : tie.After-times → Area
-read-area c = areaWith (c .before .before .before .before .before .before .before .before .before .before .before .before .before .before .before .before .decode-subspace .result .subspace) (c .before .before .before .before .before .before .decode-path-extends-path .result .path) (c .before .before .before .before .before .before .before .before .before .before .before .relative-decode .result .times)
+read-area c =
+    areaWith
+    (c .before .before .before .before .before .before .before .before .before .before .before .before .before .before .before .before .decode-subspace .result .subspace)
+    (c .before .before .before .before .before .before .decode-path-extends-path .result .path)
+    (c .before .before .before .before .before .before .before .before .before .before .before .relative-decode .result .times)
 
 area-is : (c : tie.After-times) → let s = times-start c in
     readPartsOf (s .args .canonic) (reference s) (s .args .header) (now (s .args .message))
@@ -98,9 +107,14 @@ area-is c =
     let after-known-told2 : tie.After-known-told2 = search in
     let after-known-told : tie.After-known-told = search in
     let s : tie.Start = search in
-    parts-read (s .args .canonic) (reference s) (s .args .header) (now (s .args .message)) _ _ (subspace-is after-known-told) _ _ (times-are after-known-told2) _ _ (sym (path-told after-decode-path-extends-path) ∙ ap (λ (d : Decoded). answerOf d (after-decode-path-extends-path .decode-path-extends-path .result .path)) (after-third-answer .third-answer .given .1))
+    parts-read (s .args .canonic) (reference s) (s .args .header) (now (s .args .message)) _ _ (subspace-is after-known-told) _ _
+    (times-are after-known-told2) _ _
+    (sym (path-told after-decode-path-extends-path)
+    ∙ ap (λ (d : Decoded). answerOf d (after-decode-path-extends-path .decode-path-extends-path .result .path)) (after-third-answer .third-answer .given .1))
 
-inside : (c : tie.After-times) → times-first-answer c .first-answer .given .0 .0 + (times-second-answer c .second-answer .given .0 .0 + times-third-answer c .third-answer .given .0 .0) ≤ length (now (times-start c .args .message))
+inside : (c : tie.After-times)
+    → times-first-answer c .first-answer .given .0 .0 + (times-second-answer c .second-answer .given .0 .0 + times-third-answer c .third-answer .given .0 .0)
+    ≤ length (now (times-start c .args .message))
 inside c =
     let s : tie.Start = search in
     parts-inside (s .args .canonic) (reference s) (s .args .header) (now (s .args .message)) _ _ (area-is c)
@@ -115,7 +129,10 @@ returns c =
     let s : tie.Start = search in
     let x = no-value (c .before .before .decode-subspace .result .answer) (c .before .match .keys2) in
     let e = sym (c .before .before .decode-subspace .ensures) ∙ x .beside _ in
-    rw (c .refuse-early .ensures) (gives-early (reference s .path) _ (x .why) _ (x .beside _) (λ w. rw (parts-malformed (s .args .canonic) (reference s) (s .args .header) (now (s .args .message)) w)) (λ w. rw (parts-subspace (s .args .canonic) (reference s) (s .args .header) (now (s .args .message)) (x .why) e w)))
+    rw (c .refuse-early .ensures)
+    (gives-early (reference s .path) _ (x .why) _ (x .beside _)
+    (λ w. rw (parts-malformed (s .args .canonic) (reference s) (s .args .header) (now (s .args .message)) w))
+    (λ w. rw (parts-subspace (s .args .canonic) (reference s) (s .args .header) (now (s .args .message)) (x .why) e w)))
 
 sub-relative-decode : tie.Need-sub-relative-decode
 sub-relative-decode c = omega (arith, subspace-inside c)
@@ -128,7 +145,11 @@ returns-2 c =
     let after-known-told : tie.After-known-told = search in
     let s : tie.Start = search in
     let x = no-value (c .before .before .relative-decode .result .answer) (c .before .match2 .keys2) in
-    rw (c .refuse-early2 .ensures) (gives-early (reference s .path) _ (x .why) _ (x .beside _) (λ w. rw (parts-malformed (s .args .canonic) (reference s) (s .args .header) (now (s .args .message)) w)) (λ w. rw (parts-times (s .args .canonic) (reference s) (s .args .header) (now (s .args .message)) _ _ (subspace-is after-known-told) (x .why) (sym (times-told (c .before .before)) ∙ x .beside _) w)))
+    rw (c .refuse-early2 .ensures)
+    (gives-early (reference s .path) _ (x .why) _ (x .beside _)
+    (λ w. rw (parts-malformed (s .args .canonic) (reference s) (s .args .header) (now (s .args .message)) w))
+    (λ w. rw (parts-times (s .args .canonic) (reference s) (s .args .header) (now (s .args .message)) _ _ (subspace-is after-known-told) (x .why)
+    (sym (times-told (c .before .before)) ∙ x .beside _) w)))
 
 add-at : tie.Need-add-at
 add-at c = omega (arith, times-inside c)
@@ -146,7 +167,9 @@ returns-3 c =
     let after-known-told : tie.After-known-told = search in
     let s : tie.Start = search in
     let x = no-value (c .before .before .decode-path-extends-path .result .answer) (c .before .match3 .keys2) in
-    rw (c .refuse .ensures) (gives-refused (x .why) (x .beside _) (rw (parts-path (s .args .canonic) (reference s) (s .args .header) (now (s .args .message)) _ _ (subspace-is after-known-told) _ _ (times-are after-known-told2) (x .why) (sym (path-told (c .before .before)) ∙ x .beside _))))
+    rw (c .refuse .ensures) (gives-refused (x .why) (x .beside _)
+    (rw (parts-path (s .args .canonic) (reference s) (s .args .header) (now (s .args .message)) _ _ (subspace-is after-known-told) _ _
+    (times-are after-known-told2) (x .why) (sym (path-told (c .before .before)) ∙ x .beside _))))
 
 add-t23 : tie.Need-add-t23
 add-t23 c =

@@ -27,7 +27,8 @@ returns-2 c =
     let start : tie.Start = search in
     let a = start .args in
     let x = no-value (c .before .decode-id .result .answer) (c .match .keys2) in
-    x .beside _ ∙ sym (subspace-refused (a .canonic) (a .reference) (a .written) (now (a .message)) (not-false _ (c .before .before .if1 .left)) (x .why) (sym (c .before .decode-id .ensures .answer) ∙ x .beside _))
+    x .beside _ ∙ sym (subspace-refused (a .canonic) (a .reference) (a .written) (now (a .message)) (not-false _ (c .before .before .if1 .left)) (x .why)
+    (sym (c .before .decode-id .ensures .answer) ∙ x .beside _))
 
 returns-3 : tie.Need-returns-3
 returns-3 c =
@@ -39,12 +40,16 @@ returns-4 c =
     let else2 : tie.Else2 = search in
     let after-includes-area-subspace : tie.After-includes-area-subspace = search in
     let i : tie.After-enum-told = search in
-    sym (subspace-known _ _ _ _ (written i) _ _ (id-is i) (sym (after-includes-area-subspace .includes-area-subspace .ensures) ∙ not-false _ (else2 .if2 .left)) (c .before .before .if3 .taken) (not-true _ (c .if4 .taken)))
+    sym (subspace-known _ _ _ _ (written i) _ _ (id-is i)
+    (sym (after-includes-area-subspace .includes-area-subspace .ensures) ∙ not-false _ (else2 .if2 .left)) (c .before .before .if3 .taken)
+    (not-true _ (c .if4 .taken)))
 
 returns-5 : tie.Need-returns-5
 returns-5 c =
     let i : tie.After-enum-told = search in
-    rw (i .enum-told .given .1) (sym (subspace-read _ _ _ _ (written i) _ _ (id-is i) (sym (c .before .before .includes-area-subspace .ensures) ∙ not-false _ (c .before .if2 .left)) (⊎-elim (λ w. inr (not-false _ (w .2 .left))) (λ w. inl (w .left)) (c .if3 .came))))
+    rw (i .enum-told .given .1)
+    (sym (subspace-read _ _ _ _ (written i) _ _ (id-is i) (sym (c .before .before .includes-area-subspace .ensures) ∙ not-false _ (c .before .if2 .left))
+    (⊎-elim (λ w. inr (not-false _ (w .2 .left))) (λ w. inl (w .left)) (c .if3 .came))))
 
 pub decode-subspace-spec : {M : Type 1} → statement M
 decode-subspace-spec =

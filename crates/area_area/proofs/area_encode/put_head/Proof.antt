@@ -8,7 +8,9 @@ use Rattle.area_area.proofs.area_encode.put_head.Statement.{statement}
 use Rattle.area_area.proofs.area_encode.put_head.Tie as tie
 
 -- the parts fit
-parts : (c : tie.Start) → let a = c .args in length (startOf (subspaceOf (a .reference)) (a .within) (subspaceOf (a .subspace)) (a .times)) + length (timesBytes (a .within) (a .times)) ≤ length (now (a .buffer))
+parts : (c : tie.Start) → let a = c .args in
+    length (startOf (subspaceOf (a .reference)) (a .within) (subspaceOf (a .subspace)) (a .times)) + length (timesBytes (a .within) (a .times))
+    ≤ length (now (a .buffer))
 parts c = let a = c .args in omega (arith, c .pre, length-append (startOf (subspaceOf (a .reference)) (a .within) (subspaceOf (a .subspace)) (a .times)) (timesBytes (a .within) (a .times)))
 
 -- the header and the id are in the buffer

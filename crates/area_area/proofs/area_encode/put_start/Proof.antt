@@ -54,7 +54,8 @@ returns c =
     let s = subspaceBytes (subspaceOf (a .reference)) (subspaceOf (a .subspace)) in
     let rest = rw (to-end 1 (set l 0 (h .result))) at (w .ensures .1) in (
       omega (arith, w .ensures .0),
-      put-end 1 (set l 0 (h .result)) (w .last .0) ∙ rw rest (over-cons l s (h .result) (omega (arith, start .pre))) ∙ ap (λ (b : ℕ). over (b ∷ s) l) (h .ensures ∙ ap (λ (w : Bool). packHeader (headerOf w (a .within) (a .times))) (after-id-written .id-written .ensures)),
+      put-end 1 (set l 0 (h .result)) (w .last .0) ∙ rw rest (over-cons l s (h .result) (omega (arith, start .pre)))
+          ∙ ap (λ (b : ℕ). over (b ∷ s) l) (h .ensures ∙ ap (λ (w : Bool). packHeader (headerOf w (a .within) (a .times))) (after-id-written .id-written .ensures)),
     )
 
 pub put-start-spec : {M : Type 1} → statement M

@@ -37,7 +37,10 @@ returns c =
 returns-2 : tie.Need-returns-2
 returns-2 c =
     let s : tie.Start = search in
-    rw (c .refuse-early .ensures) (gives-early (reference s .path) _ 1 _ refl (no-path (s .args .canonic) (reference s) (well (c .before .before)) (now (s .args .message)) (s .args .start)) (area-none (s .args .canonic) (reference s) (well (c .before .before)) (now (s .args .message)) (s .args .start) (omega (arith, c .before .if2 .taken))))
+    rw (c .refuse-early .ensures)
+    (gives-early (reference s .path) _ 1 _ refl
+    (no-path (s .args .canonic) (reference s) (well (c .before .before)) (now (s .args .message)) (s .args .start))
+    (area-none (s .args .canonic) (reference s) (well (c .before .before)) (now (s .args .message)) (s .args .start) (omega (arith, c .before .if2 .taken))))
 
 returns-3 : tie.Need-returns-3
 returns-3 c =
@@ -47,7 +50,10 @@ returns-3 c =
     let else1 : tie.Else1 = search in
     let s : tie.Start = search in
     let k = well else1 in
-    rw (c .refuse-early2 .ensures) (gives-early (reference s .path) _ 2 _ refl (no-path (s .args .canonic) (reference s) k (now (s .args .message)) (s .args .start)) (area-spare (s .args .canonic) (reference s) k (now (s .args .message)) (s .args .start) (omega (arith, else2 .if2 .left)) (then3 .if3 .taken) (rw (after-unpack .unpack .ensures) at (sym (c .before .before .spare-bits .ensures) ∙ c .before .if4 .taken))))
+    rw (c .refuse-early2 .ensures)
+    (gives-early (reference s .path) _ 2 _ refl (no-path (s .args .canonic) (reference s) k (now (s .args .message)) (s .args .start))
+    (area-spare (s .args .canonic) (reference s) k (now (s .args .message)) (s .args .start) (omega (arith, else2 .if2 .left)) (then3 .if3 .taken)
+    (rw (after-unpack .unpack .ensures) at (sym (c .before .before .spare-bits .ensures) ∙ c .before .if4 .taken))))
 
 decode-parts-requires : tie.Need-decode-parts-requires
 decode-parts-requires c κs =
@@ -62,7 +68,9 @@ returns-4 c =
     let else2 : tie.Else2 = search in
     let else1 : tie.Else1 = search in
     let s : tie.Start = search in
-    rw (area-parts (s .args .canonic) (reference s) (well else1) (now (s .args .message)) (s .args .start) (omega (arith, else2 .if2 .left)) (unspared (c .before .before))) (rw (after-unpack .unpack .ensures, to-end (s .args .start + 1) (now (s .args .message))) at (c .decode-parts .ensures))
+    rw
+    (area-parts (s .args .canonic) (reference s) (well else1) (now (s .args .message)) (s .args .start) (omega (arith, else2 .if2 .left)) (unspared (c .before .before)))
+    (rw (after-unpack .unpack .ensures, to-end (s .args .start + 1) (now (s .args .message))) at (c .decode-parts .ensures))
 
 pub relative-decode-spec : {M : Type 1} → statement M
 relative-decode-spec =

@@ -23,7 +23,10 @@ allows c =
     contained (reference s) (area s) (sym (c .before .before .contains .ensures) ∙ c .enum-told .given .1)
 
 -- what the suffix was answered
-answer-of : (c : tie.After-known-told) → let s = c .before .before .before .before .before .before .before .before .before .before .before .before .before .before .before .before .before in writeAnswer (suffixFrom (s .args .of-count)) (area s .path) (length (drop (c .before .before .before .before .before .before .before .before .head-len .result) (now (s .args .buffer)))) ≡ wrote (c .before .suffix .given .0 .0)
+answer-of : (c : tie.After-known-told)
+    → let s = c .before .before .before .before .before .before .before .before .before .before .before .before .before .before .before .before .before in
+    writeAnswer (suffixFrom (s .args .of-count)) (area s .path) (length (drop (c .before .before .before .before .before .before .before .before .head-len .result) (now (s .args .buffer))))
+    ≡ wrote (c .before .suffix .given .0 .0)
 answer-of c =
     let after-encode-suffix : tie.After-encode-suffix = search in
     let after-head-len : tie.After-head-len = search in
@@ -44,7 +47,8 @@ returns-2 c =
     let none = no-length (w .result) (c .match2 .keys2) in
     let answer = rw (to-end (n .result) l) at (w .ensures .0) in
     let bytes = rw (to-end (n .result) l) at (w .ensures .1) in
-    let done = area-refused (reference s) (area s) (allows (c .before .before .before .before .before .before .before)) (n .result) (n .ensures .0) l (c .before .before .before .before .before .if1 .left) (none .why) (w .last .0) (sym answer ∙ none .is) bytes in
+    let done = area-refused (reference s) (area s) (allows (c .before .before .before .before .before .before .before)) (n .result) (n .ensures .0) l
+    (c .before .before .before .before .before .if1 .left) (none .why) (w .last .0) (sym answer ∙ none .is) bytes in
     (none .is ∙ done .0, put-end (n .result) l (w .last .0) ∙ done .1)
 
 add-t17 : tie.Need-add-t17
@@ -54,7 +58,13 @@ add-t17 c =
     let after-enum-told : tie.After-enum-told = search in
     let s : tie.Start = search in
     let f = suffixFrom (s .args .of-count) in
-    omega (arith, put-wrote (f .check (area s .path)) (f .encode (area s .path)) _ _ (answer-of after-known-told) .long, suffix-short (reference s) (area s) (allows after-enum-told), after-head-len .head-len .ensures .1)
+    omega (
+      arith,
+      put-wrote (f .check (area s .path)) (f .encode (area s .path)) _ _ (answer-of after-known-told) .long,
+      suffix-short (reference s)
+          (area s) (allows after-enum-told),
+      after-head-len .head-len .ensures .1,
+    )
 
 returns-3 : tie.Need-returns-3
 returns-3 c =
@@ -63,7 +73,10 @@ returns-3 c =
     let l = now (s .args .buffer) in
     let w = c .before .before .before .before .before .before .before .before .before .encode-suffix in
     let bytes = rw (to-end (n .result) l) at (w .ensures .1) in
-    let done = area-written (reference s) (area s) (allows (c .before .before .before .before .before .before .before .before .before .before .before .before .before)) (n .result) (n .ensures .0) l (c .before .before .before .before .before .before .before .before .before .before .before .if1 .left) _ (w .last .0) (answer-of (c .before .before .before .before)) bytes in
+    let done = area-written (reference s) (area s)
+    (allows (c .before .before .before .before .before .before .before .before .before .before .before .before .before)) (n .result) (n .ensures .0) l
+    (c .before .before .before .before .before .before .before .before .before .before .before .if1 .left) _ (w .last .0)
+    (answer-of (c .before .before .before .before)) bytes in
     (done .0, rw (put-end (n .result) l (w .last .0)) at (c .before .before .put-head .ensures) ∙ done .1)
 
 returns-4 : tie.Need-returns-4

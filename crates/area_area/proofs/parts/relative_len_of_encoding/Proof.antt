@@ -22,7 +22,8 @@ allows c =
     let s : tie.Start = search in
     contained (reference s) (area s) (sym (c .before .before .contains .ensures) ∙ c .enum-told .given .1)
 
-suffix-is : (c : tie.After-known-told) → let s = c .before .before .before .before .before .before .before .before .before .before .before in c .before .suffix .given .0 .0 ≡ length (suffixFrom (s .args .of-count) .encode (area s .path))
+suffix-is : (c : tie.After-known-told) → let s = c .before .before .before .before .before .before .before .before .before .before .before in
+    c .before .suffix .given .0 .0 ≡ length (suffixFrom (s .args .of-count) .encode (area s .path))
 suffix-is c =
     let after-suffix-len : tie.After-suffix-len = search in
     let s : tie.Start = search in
@@ -32,7 +33,8 @@ returns : tie.Need-returns
 returns c =
     let s : tie.Start = search in
     let none = no-length (c .before .suffix-len .result) (c .match2 .keys2) in
-    absurd (length-not-denied (suffixFrom (s .args .of-count)) (area s .path) (none .why) (suffix-allowed (reference s) (area s) (allows (c .before .before))) (sym (c .before .suffix-len .ensures) ∙ none .is))
+    absurd (length-not-denied (suffixFrom (s .args .of-count)) (area s .path) (none .why)
+    (suffix-allowed (reference s) (area s) (allows (c .before .before))) (sym (c .before .suffix-len .ensures) ∙ none .is))
 
 add-t16 : tie.Need-add-t16
 add-t16 c =

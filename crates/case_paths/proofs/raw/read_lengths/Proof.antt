@@ -37,8 +37,11 @@ loop-again c =
     let after-part : tie.After-part Inv-loop μ-loop = search in
     let at-loop : tie.At-loop Inv-loop μ-loop = search in
     let start : tie.Start Inv-loop μ-loop = search in
-    let field = now (start .args .field) in
-    (omega arith, lengths-next field (at-loop .loop .inv .1) (c .before .number .given .0 .0) (omega arith) (number-said field (at-loop .loop .i) (after-part .part .ensures) (after-read-decimal .read-decimal .ensures) (c .before .number .given .1)))
+    let field = now (start .args .field) in (
+      omega arith,
+      lengths-next field (at-loop .loop .inv .1) (c .before .number .given .0 .0) (omega arith)
+          (number-said field (at-loop .loop .i) (after-part .part .ensures) (after-read-decimal .read-decimal .ensures) (c .before .number .given .1)),
+    )
 
 returns-3 : tie.Need-returns-3 Inv-loop μ-loop
 returns-3 c =

@@ -18,7 +18,8 @@ returns-2 c =
     let after-put-bytes : tie.After-put-bytes = search in
     let s : tie.Start = search in
     let l = now (s .args .bytes) in
-    puts-two (9 ∷ []) (take (s .args .n) l) 8192 (omega (arith, length-take-le (s .args .n) l (omega arith), s .pre .1)) (s .pre .0) (after-put-bytes .put-bytes .ensures) (c .before .before .put-bytes3 .ensures)
+    puts-two (9 ∷ []) (take (s .args .n) l) 8192 (omega (arith, length-take-le (s .args .n) l (omega arith), s .pre .1)) (s .pre .0)
+    (after-put-bytes .put-bytes .ensures) (c .before .before .put-bytes3 .ensures)
 
 pub tab-bytes-spec : {M : Type 1} → statement M
 tab-bytes-spec =

@@ -58,7 +58,12 @@ returns-5 c =
     let else2 : tie.Else2 = search in
     let after-same-bytes : tie.After-same-bytes = search in
     let after-enum-told : tie.After-enum-told = search in
-    sym (told after-enum-told ∙ rw ((sym (after-same-bytes .same-bytes .ensures) ∙ not-false _ (else2 .if2 .left)), (sym (after-includes-area-subspace .includes-area-subspace .ensures) ∙ not-false _ (c .before .before .if3 .left)), (sym (c .before .includes .ensures) ∙ not-true _ (c .if4 .taken))))
+    sym (told after-enum-told ∙ rw (
+      (sym (after-same-bytes .same-bytes .ensures) ∙ not-false _ (else2 .if2 .left)),
+      (sym (after-includes-area-subspace .includes-area-subspace .ensures)
+          ∙ not-false _ (c .before .before .if3 .left)),
+      (sym (c .before .includes .ensures) ∙ not-true _ (c .if4 .taken)),
+    ))
 
 returns-6 : tie.Need-returns-6
 unfolding subspaceIncludes
@@ -67,7 +72,12 @@ returns-6 c =
     let else2 : tie.Else2 = search in
     let after-same-bytes : tie.After-same-bytes = search in
     let after-enum-told : tie.After-enum-told = search in
-    sym (told after-enum-told ∙ rw ((sym (after-same-bytes .same-bytes .ensures) ∙ not-false _ (else2 .if2 .left)), (sym (after-includes-area-subspace .includes-area-subspace .ensures) ∙ not-false _ (c .before .before .if3 .left)), (sym (c .before .includes .ensures) ∙ not-false _ (c .if4 .left))))
+    sym (told after-enum-told ∙ rw (
+      (sym (after-same-bytes .same-bytes .ensures) ∙ not-false _ (else2 .if2 .left)),
+      (sym (after-includes-area-subspace .includes-area-subspace .ensures)
+          ∙ not-false _ (c .before .before .if3 .left)),
+      (sym (c .before .includes .ensures) ∙ not-false _ (c .if4 .left)),
+    ))
 
 pub lies-inside-spec : {M : Type 1} → statement M
 lies-inside-spec =

@@ -23,7 +23,10 @@ returns : tie.Need-returns
 returns c =
     let s : tie.Start = search in
     let x = no-value (c .before .before .decode-id .result .answer) (c .before .match .keys2) in
-    rw (c .refuse-early .ensures) (gives-early (area s .path) _ (x .why) _ (x .beside _) (λ w. rw (parts-malformed (s .args .canonic) (s .args .namespace) (area s) (s .args .header) (now (s .args .message)) w)) (λ w. rw (parts-id (s .args .canonic) (s .args .namespace) (area s) (s .args .header) (now (s .args .message)) (x .why) (sym (c .before .before .decode-id .ensures) ∙ x .beside _) w)))
+    rw (c .refuse-early .ensures)
+    (gives-early (area s .path) _ (x .why) _ (x .beside _)
+    (λ w. rw (parts-malformed (s .args .canonic) (s .args .namespace) (area s) (s .args .header) (now (s .args .message)) w))
+    (λ w. rw (parts-id (s .args .canonic) (s .args .namespace) (area s) (s .args .header) (now (s .args .message)) (x .why) (sym (c .before .before .decode-id .ensures) ∙ x .beside _) w)))
 
 decode-rest-requires : tie.Need-decode-rest-requires
 decode-rest-requires c κs =

@@ -51,7 +51,8 @@ digest-start c = known-told2-start (digest-known-told2 c)
 
 -- a path was read, and it is well formed
 path-is : (c : tie.After-known-told) → let a = known-told-start c .args in
-    readAgainstPath (a .canonic) (reference (known-told-start c)) (drop (a .start) (now (a .message))) ≡ accepted (known-told-relative-decode c .relative-decode .result .path) (c .before .answer .given .0 .0)
+    readAgainstPath (a .canonic) (reference (known-told-start c)) (drop (a .start) (now (a .message)))
+    ≡ accepted (known-told-relative-decode c .relative-decode .result .path) (c .before .answer .given .0 .0)
 path-is c =
     let after-relative-decode : tie.After-relative-decode = search in
     sym (path-told after-relative-decode) ∙ ap (λ (d : Decoded). answerOf d (after-relative-decode .relative-decode .result .path)) (c .before .answer .given .1)
@@ -59,7 +60,13 @@ path-is c =
 path-in : (c : tie.After-known-told) → known-told-start c .args .start + c .before .answer .given .0 .0 ≤ length (now (known-told-start c .args .message))
 path-in c =
     let s : tie.Start = search in
-    omega (arith, path-inside (s .args .canonic) (s .args .namespace) (s .args .id) (reference s) (s .args .times) (s .args .header) (drop (s .args .start) (now (s .args .message))) _ _ (path-is c), length-drop (s .args .start) (now (s .args .message)), s .pre .0)
+    omega (
+      arith,
+      path-inside (s .args .canonic) (s .args .namespace) (s .args .id) (reference s) (s .args .times) (s .args .header)
+          (drop (s .args .start) (now (s .args .message))) _ _ (path-is c),
+      length-drop (s .args .start) (now (s .args .message)),
+      s .pre .0,
+    )
 
 reference-well : (c : tie.After-known-told) → wellFormed (reference (known-told-start c)) ≡ true
 reference-well c =
@@ -72,20 +79,28 @@ path-well c =
     let after-shared-slice-known : tie.After-shared-slice-known = search in
     let s : tie.Start = search in
     let f = parts-formed (reference-well c) in
-    against-path-yields (reference s) (record { bytes = f .bytes; lengths = f .lengths; small = λ i. omega (arith, after-shared-slice-known2 .shared-slice-known2 .given i) }) (reference-well c) (s .args .canonic)
-    .holds (drop (s .args .start) (now (s .args .message))) _ _ (AllBytes·drop (s .args .start) (now (s .args .message)) (λ i. omega (arith, after-shared-slice-known .shared-slice-known .given i))) (path-is c) .1
+    against-path-yields (reference s)
+    (record { bytes = f .bytes; lengths = f .lengths; small = λ i. omega (arith, after-shared-slice-known2 .shared-slice-known2 .given i) })
+    (reference-well c) (s .args .canonic)
+    .holds (drop (s .args .start) (now (s .args .message))) _ _
+    (AllBytes·drop (s .args .start) (now (s .args .message)) (λ i. omega (arith, after-shared-slice-known .shared-slice-known .given i))) (path-is c) .1
 
 told : (x : Compared) (t b : Bool) → (t ≡ true → b ≡ true) → x ≡ cond t compared.Yes (verdict b) → x ≡ verdict b
 told x true b f e = rw (f refl) e
 told x false b f e = e
 
 -- whether the area's path is its prefix
-prefixed : (c : tie.After-is-prefix) → c .is-prefix .result ≡ verdict (isPrefix (componentsOf (reference (c .before .before .before .before .before .before .before .before .before .before .before .before .before .before))) (componentsOf (c .before .before .before .before .before .before .before .before .before .relative-decode .result .path)))
+prefixed : (c : tie.After-is-prefix) → c .is-prefix .result ≡ verdict
+    (isPrefix
+    (componentsOf (reference (c .before .before .before .before .before .before .before .before .before .before .before .before .before .before)))
+    (componentsOf (c .before .before .before .before .before .before .before .before .before .relative-decode .result .path)))
 unfolding prefixOf
 prefixed c =
     let k : tie.After-known-told = search in
     let s = known-told-start k in
-    told _ _ _ (shared-prefix (s .args .canonic) (s .args .namespace) (s .args .id) (reference s) (s .args .times) (s .args .header) (drop (s .args .start) (now (s .args .message))) _ _ (path-is k)) (rw (reference-well k, path-well k) at (c .is-prefix .ensures))
+    told _ _ _
+    (shared-prefix (s .args .canonic) (s .args .namespace) (s .args .id) (reference s) (s .args .times) (s .args .header) (drop (s .args .start) (now (s .args .message))) _ _ (path-is k))
+    (rw (reference-well k, path-well k) at (c .is-prefix .ensures))
 
 yes : (b : Bool) → compared.Yes ≡ verdict b → b ≡ true
 yes true e = refl
@@ -97,12 +112,16 @@ not-yes true compared.No e h = let z : _≡_ {A = ℕ} 0 1 = cc in absurd (omega
 not-yes true compared.Malformed e h = let z : _≡_ {A = ℕ} 0 1 = cc in absurd (omega arith)
 not-yes false x e h = refl
 
-is-prefix : (c : tie.After-enum-told) → isPrefix (componentsOf (reference (c .before .before .before .before .before .before .before .before .before .before .before .before .before .before .before .before))) (componentsOf (c .before .before .before .before .before .before .before .before .before .before .before .relative-decode .result .path)) ≡ true
+is-prefix : (c : tie.After-enum-told) → isPrefix
+    (componentsOf (reference (c .before .before .before .before .before .before .before .before .before .before .before .before .before .before .before .before)))
+    (componentsOf (c .before .before .before .before .before .before .before .before .before .before .before .relative-decode .result .path)) ≡ true
 is-prefix c = yes _ (sym (c .enum-told .given .1) ∙ prefixed (c .before .before))
 
 -- the fields after it
-end-told : (c : tie.After-relative-decode2) → let a = c .before .before .before .before .before .before .before .before .before .before .before .before .before .before .before .before .before .before .args in
-    answerOf (c .relative-decode2 .result .answer) (c .relative-decode2 .result .end) ≡ readEnd (a .canonic) (a .times) (a .header) (drop (c .before .before .before .before .before .before .before .before .before .before .before .answer .given .0 .0) (drop (a .start) (now (a .message))))
+end-told : (c : tie.After-relative-decode2)
+    → let a = c .before .before .before .before .before .before .before .before .before .before .before .before .before .before .before .before .before .before .args in
+    answerOf (c .relative-decode2 .result .answer) (c .relative-decode2 .result .end) ≡ readEnd (a .canonic) (a .times) (a .header)
+    (drop (c .before .before .before .before .before .before .before .before .before .before .before .answer .given .0 .0) (drop (a .start) (now (a .message))))
 end-told c =
     let after-answer : tie.After-answer = search in
     let start : tie.Start = search in
@@ -110,17 +129,26 @@ end-told c =
     rw (drop-drop) (rw (to-end (a .start + after-answer .answer .given .0 .0) (now (a .message))) at (c .relative-decode2 .ensures .answer))
 
 end-is : (c : tie.After-known-told2) → let a = known-told2-start c .args in
-    readEnd (a .canonic) (a .times) (a .header) (drop (known-told2-answer c .answer .given .0 .0) (drop (a .start) (now (a .message)))) ≡ accepted (c .before .before .before .relative-decode2 .result .end) (c .before .last-answer .given .0 .0)
+    readEnd (a .canonic) (a .times) (a .header) (drop (known-told2-answer c .answer .given .0 .0) (drop (a .start) (now (a .message))))
+    ≡ accepted (c .before .before .before .relative-decode2 .result .end) (c .before .last-answer .given .0 .0)
 end-is c =
     let after-relative-decode2 : tie.After-relative-decode2 = search in
     sym (end-told after-relative-decode2) ∙ ap (λ (d : Decoded). answerOf d (after-relative-decode2 .relative-decode2 .result .end)) (c .before .last-answer .given .1)
 
-inside : (c : tie.After-known-told2) → known-told2-start c .args .start + (known-told2-answer c .answer .given .0 .0 + c .before .last-answer .given .0 .0) ≤ length (now (known-told2-start c .args .message))
+inside : (c : tie.After-known-told2)
+    → known-told2-start c .args .start + (known-told2-answer c .answer .given .0 .0 + c .before .last-answer .given .0 .0) ≤ length (now (known-told2-start c .args .message))
 inside c =
     let after-enum-told : tie.After-enum-told = search in
     let after-known-told : tie.After-known-told = search in
     let s : tie.Start = search in
-    omega (arith, rest-inside (s .args .canonic) (s .args .namespace) (s .args .id) (reference s) (s .args .times) (s .args .header) (drop (s .args .start) (now (s .args .message))) _ _ (path-is after-known-told) (is-prefix after-enum-told) _ _ (end-is c), length-drop (s .args .start) (now (s .args .message)), s .pre .0)
+    omega (
+      arith,
+      rest-inside (s .args .canonic) (s .args .namespace) (s .args .id) (reference s) (s .args .times) (s .args .header)
+          (drop (s .args .start) (now (s .args .message))) _ _ (path-is after-known-told) (is-prefix after-enum-told) _ _ (end-is c),
+      length-drop
+          (s .args .start) (now (s .args .message)),
+      s .pre .0,
+    )
 
 sub-relative-decode : tie.Need-sub-relative-decode
 sub-relative-decode c =
@@ -137,14 +165,19 @@ unfolding refusal
 returns c =
     let s : tie.Start = search in
     let x = no-value (c .before .before .relative-decode .result .answer) (c .before .match .keys2) in
-    rw (c .refuse .ensures) (gives-refused (x .why) (x .beside _) (rw (rest-refused (s .args .canonic) (s .args .namespace) (s .args .id) (reference s) (s .args .times) (s .args .header) (drop (s .args .start) (now (s .args .message))) (x .why) (sym (path-told (c .before .before)) ∙ x .beside _))))
+    rw (c .refuse .ensures) (gives-refused (x .why) (x .beside _)
+    (rw (rest-refused (s .args .canonic) (s .args .namespace) (s .args .id) (reference s) (s .args .times) (s .args .header)
+    (drop (s .args .start) (now (s .args .message))) (x .why) (sym (path-told (c .before .before)) ∙ x .beside _))))
 
 returns-2 : tie.Need-returns-2
 unfolding refusal
 returns-2 c =
     let after-known-told : tie.After-known-told = search in
     let s : tie.Start = search in
-    rw (c .refuse2 .ensures) (gives-refused 2 refl (rw (rest-outside (s .args .canonic) (s .args .namespace) (s .args .id) (reference s) (s .args .times) (s .args .header) (drop (s .args .start) (now (s .args .message))) _ _ (path-is after-known-told) (not-yes _ _ (prefixed (c .before .before)) (c .before .match2 .keys2)))))
+    rw (c .refuse2 .ensures) (gives-refused 2 refl
+    (rw (rest-outside (s .args .canonic) (s .args .namespace) (s .args .id) (reference s) (s .args .times) (s .args .header)
+    (drop (s .args .start) (now (s .args .message))) _ _ (path-is after-known-told)
+    (not-yes _ _ (prefixed (c .before .before)) (c .before .match2 .keys2)))))
 
 add-at : tie.Need-add-at
 add-at c =
@@ -169,7 +202,10 @@ returns-3 c =
     let after-known-told : tie.After-known-told = search in
     let s : tie.Start = search in
     let x = no-value (c .before .before .relative-decode2 .result .answer) (c .before .match3 .keys2) in
-    rw (c .refuse3 .ensures) (gives-refused (x .why) (x .beside _) (rw (rest-end (s .args .canonic) (s .args .namespace) (s .args .id) (reference s) (s .args .times) (s .args .header) (drop (s .args .start) (now (s .args .message))) _ _ (path-is after-known-told) (is-prefix after-enum-told) (x .why) (sym (end-told (c .before .before)) ∙ x .beside _))))
+    rw (c .refuse3 .ensures) (gives-refused (x .why) (x .beside _)
+    (rw (rest-end (s .args .canonic) (s .args .namespace) (s .args .id) (reference s) (s .args .times) (s .args .header)
+    (drop (s .args .start) (now (s .args .message))) _ _ (path-is after-known-told) (is-prefix after-enum-told) (x .why)
+    (sym (end-told (c .before .before)) ∙ x .beside _))))
 
 add-t24 : tie.Need-add-t24
 add-t24 c = omega (arith, inside (digest-known-told2 c), digest-start c .pre .1)
@@ -186,7 +222,9 @@ returns-4 c =
     let after-enum-told : tie.After-enum-told = search in
     let after-known-told : tie.After-known-told = search in
     let s : tie.Start = search in
-    gives-accepted (ap (shift (1 + s .args .start)) (rest-read (s .args .canonic) (s .args .namespace) (s .args .id) (reference s) (s .args .times) (s .args .header) (drop (s .args .start) (now (s .args .message))) _ _ (path-is after-known-told) (is-prefix after-enum-told) _ _ (end-is after-known-told2)))
+    gives-accepted (ap (shift (1 + s .args .start))
+    (rest-read (s .args .canonic) (s .args .namespace) (s .args .id) (reference s) (s .args .times) (s .args .header)
+    (drop (s .args .start) (now (s .args .message))) _ _ (path-is after-known-told) (is-prefix after-enum-told) _ _ (end-is after-known-told2)))
 
 pub decode-rest-spec : {M : Type 1} → statement M
 decode-rest-spec =

@@ -12,7 +12,14 @@ inside c =
     let after-relative-len-of-encoding : tie.After-relative-len-of-encoding = search in
     let start : tie.Start = search in
     let a = start .args in
-    omega (arith, start .pre, length-append (numberBytes 2 (a .end .«payload_length»)) (a .end .«payload_digest»), after-relative-len-of-encoding .relative-len-of-encoding .ensures .0, after-relative-encode .relative-encode .kept .0)
+    omega (
+      arith,
+      start .pre,
+      length-append (numberBytes 2 (a .end .«payload_length»))
+          (a .end .«payload_digest»),
+      after-relative-len-of-encoding .relative-len-of-encoding .ensures .0,
+      after-relative-encode .relative-encode .kept .0,
+    )
 
 sub-put-bytes : tie.Need-sub-put-bytes
 sub-put-bytes c = inside c

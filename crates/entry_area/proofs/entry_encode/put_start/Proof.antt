@@ -9,7 +9,8 @@ use Rattle.entry_area.proofs.Writing.{any-is, start-any, start-one}
 use Rattle.entry_area.proofs.entry_encode.put_start.Statement.{statement}
 use Rattle.entry_area.proofs.entry_encode.put_start.Tie as tie
 
-header-is : (c : tie.After-header-byte) → let a = c .before .before .args in c .header-byte .result ≡ packHeader (headerOf (isAny (subspaceOf (a .subspace))) (a .times) (a .end .timestamp) (a .end .«payload_length»))
+header-is : (c : tie.After-header-byte) → let a = c .before .before .args in
+    c .header-byte .result ≡ packHeader (headerOf (isAny (subspaceOf (a .subspace))) (a .times) (a .end .timestamp) (a .end .«payload_length»))
 header-is c =
     let a = c .before .before .args in
     c .header-byte .ensures ∙ ap (λ (w : Bool). packHeader (headerOf w (a .times) (a .end .timestamp) (a .end .«payload_length»))) (sym (any-is (a .subspace)))

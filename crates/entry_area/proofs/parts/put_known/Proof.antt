@@ -27,8 +27,11 @@ head-is c =
 
 -- the tail written after the place of the head, then the head
 written : (c : tie.After-known-told)
-    → let s = c .before .before .before .before .before .before .before .before .before .before .before .before .before in let l = now (s .args .buffer) in let a = c .before .before .before .before .before .before .before .before .head-len .result in
-    (wrote (a + c .before .rest .given .0 .0) ≡ putAnswer allowed (head s ++ tail s) (length l)) × (over (head s) (take a l ++ c .before .before .before .before .before .put-rest .last .0) ≡ putBuffer allowed (head s ++ tail s) l)
+    → let s = c .before .before .before .before .before .before .before .before .before .before .before .before .before in
+    let l = now (s .args .buffer) in
+    let a = c .before .before .before .before .before .before .before .before .head-len .result in
+    (wrote (a + c .before .rest .given .0 .0) ≡ putAnswer allowed (head s ++ tail s) (length l))
+    × (over (head s) (take a l ++ c .before .before .before .before .before .put-rest .last .0) ≡ putBuffer allowed (head s ++ tail s) l)
 written c =
     let after-put-rest : tie.After-put-rest = search in
     let else1 : tie.Else1 = search in
@@ -85,8 +88,12 @@ returns-3 c =
     let after-head-len : tie.After-head-len = search in
     let after-end-of : tie.After-end-of = search in
     let s : tie.Start = search in
-    let done = written after-known-told in
-    (done .0, rw (put-end (after-head-len .head-len .result) (now (s .args .buffer)) (after-put-rest .put-rest .last .0), after-end-of .end-of .ensures) at (c .before .before .put-head .ensures) ∙ done .1)
+    let done = written after-known-told in (
+      done .0,
+      rw
+          (put-end (after-head-len .head-len .result) (now (s .args .buffer)) (after-put-rest .put-rest .last .0), after-end-of .end-of .ensures) at
+          (c .before .before .put-head .ensures) ∙ done .1,
+    )
 
 pub put-known-spec : {M : Type 1} → statement M
 put-known-spec =

@@ -35,19 +35,24 @@ abbrev known-told-start : tie.After-known-told → tie.Start
 known-told-start c = c .before .before .before .before .before .before .before .before .before .before .before .before
 
 -- what the suffix was answered
-answered : (c : tie.After-known-told) → let l = now (known-told-start c .args .tail) in putAnswer allowed (suffix (known-told-start c)) (length (take (length l - known-told-end-len c .end-len .result) l)) ≡ wrote (c .before .suffix .given .0 .0)
+answered : (c : tie.After-known-told) → let l = now (known-told-start c .args .tail) in
+    putAnswer allowed (suffix (known-told-start c)) (length (take (length l - known-told-end-len c .end-len .result) l))
+    ≡ wrote (c .before .suffix .given .0 .0)
 answered c =
     let after-encode-suffix : tie.After-encode-suffix = search in
     let start : tie.Start = search in
     sym (rw (start .pre) at (after-encode-suffix .encode-suffix .ensures .0)) ∙ ap outcomeOf (c .before .suffix .given .1)
 
-fits : (c : tie.After-known-told) → let n = c .before .suffix .given .0 .0 in (n ≡ length (suffix (known-told-start c))) × (n + known-told-end-len c .end-len .result ≤ length (now (known-told-start c .args .tail)))
+fits : (c : tie.After-known-told) → let n = c .before .suffix .given .0 .0 in
+    (n ≡ length (suffix (known-told-start c))) × (n + known-told-end-len c .end-len .result ≤ length (now (known-told-start c .args .tail)))
 fits c =
     let after-encode-suffix : tie.After-encode-suffix = search in
     let else1 : tie.Else1 = search in
     let after-end-len : tie.After-end-len = search in
     let s : tie.Start = search in
-    let w = after-encode-suffix .encode-suffix in before-fits (suffix s) (end s) (now (s .args .tail)) (after-end-len .end-len .ensures .0) (else1 .if1 .left) _ (w .last .0) (answered c) (rw (s .pre) at (w .ensures .1))
+    let w = after-encode-suffix .encode-suffix in
+    before-fits (suffix s) (end s) (now (s .args .tail)) (after-end-len .end-len .ensures .0) (else1 .if1 .left) _ (w .last .0) (answered c)
+    (rw (s .pre) at (w .ensures .1))
 
 suffix-small : (c : tie.After-known-told) → c .before .suffix .given .0 .0 ≤ 1000
 suffix-small c =
@@ -70,7 +75,8 @@ returns-2 c =
     let s : tie.Start = search in
     let w = after-encode-suffix .encode-suffix in
     let none = no-length (w .result) (c .match .keys2) in
-    let done = before-refused (suffix s) (end s) (now (s .args .tail)) (after-end-len .end-len .ensures .0) (else1 .if1 .left) (none .why) (w .last .0) (sym (rw (s .pre) at (w .ensures .0)) ∙ none .is) (rw (s .pre) at (w .ensures .1)) in
+    let done = before-refused (suffix s) (end s) (now (s .args .tail)) (after-end-len .end-len .ensures .0) (else1 .if1 .left) (none .why) (w .last .0)
+    (sym (rw (s .pre) at (w .ensures .0)) ∙ none .is) (rw (s .pre) at (w .ensures .1)) in
     (none .is ∙ done .0, done .1)
 
 sub-put-end : tie.Need-sub-put-end
@@ -107,7 +113,8 @@ returns-3 c =
     let n = after-suffix .suffix .given .0 .0 in
     let l = filled after-encode-suffix in
     let rest = rw (to-end n l) at (c .before .before .put-end .ensures) in
-    let done = both-written (suffix s) (end s) (now (s .args .tail)) (after-end-len .end-len .ensures .0) (else1 .if1 .left) n (w .last .0) (answered after-known-told) (rw (s .pre) at (w .ensures .1)) in
+    let done = both-written (suffix s) (end s) (now (s .args .tail)) (after-end-len .end-len .ensures .0) (else1 .if1 .left) n (w .last .0)
+    (answered after-known-told) (rw (s .pre) at (w .ensures .1)) in
     (done .0, put-end n l (c .before .before .put-end .last .0) ∙ rw rest (done .1))
 
 pub put-rest-spec : {M : Type 1} → statement M

@@ -36,12 +36,14 @@ returns c =
 returns-2 : tie.Need-returns-2
 returns-2 c =
     let s : tie.Start = search in
-    put-barred (againstNamespaceArea (s .args .namespace) (area s) .check (entry s)) _ (now (s .args .buffer)) 3 (not-contained (s .args .namespace) (area s) (entry s) (sym (c .before .before .lies-inside .ensures) ∙ c .enum-told2 .given .1))
+    put-barred (againstNamespaceArea (s .args .namespace) (area s) .check (entry s)) _ (now (s .args .buffer)) 3
+    (not-contained (s .args .namespace) (area s) (entry s) (sym (c .before .before .lies-inside .ensures) ∙ c .enum-told2 .given .1))
 
 returns-3 : tie.Need-returns-3
 returns-3 c =
     let s : tie.Start = search in
-    put-barred (againstNamespaceArea (s .args .namespace) (area s) .check (entry s)) _ (now (s .args .buffer)) 5 (unformed (s .args .namespace) (area s) (entry s) (sym (c .before .before .lies-inside .ensures) ∙ c .enum-told3 .given .1))
+    put-barred (againstNamespaceArea (s .args .namespace) (area s) .check (entry s)) _ (now (s .args .buffer)) 5
+    (unformed (s .args .namespace) (area s) (entry s) (sym (c .before .before .lies-inside .ensures) ∙ c .enum-told3 .given .1))
 
 pub relative-encode-spec : {M : Type 1} → statement M
 relative-encode-spec =

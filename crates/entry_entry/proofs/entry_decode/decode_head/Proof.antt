@@ -37,13 +37,15 @@ abbrev header : tie.Start → Header
 header s = unpackHeader (getD (now (s .args .message)) (s .args .start) 0)
 
 ids-told : (c : tie.After-decode-ids) → let a = decode-ids-start c .args in
-    answerOf (c .decode-ids .result .answer) (c .decode-ids .result .ids) ≡ readIds (a .of .«namespace_id») (a .of .«subspace_id») (header (decode-ids-start c)) (drop (a .start + 1) (now (a .message)))
+    answerOf (c .decode-ids .result .answer) (c .decode-ids .result .ids)
+    ≡ readIds (a .of .«namespace_id») (a .of .«subspace_id») (header (decode-ids-start c)) (drop (a .start + 1) (now (a .message)))
 ids-told c =
     let start : tie.Start = search in
     rw (c .before .before .unpack .ensures, to-end (start .args .start + 1) (now (start .args .message))) at (c .decode-ids .ensures)
 
 ids-is : (c : tie.After-known-told) → let a = known-told-start c .args in
-    readIds (a .of .«namespace_id») (a .of .«subspace_id») (header (known-told-start c)) (drop (a .start + 1) (now (a .message))) ≡ accepted (c .before .before .before .decode-ids .result .ids) (c .before .first-answer .given .0 .0)
+    readIds (a .of .«namespace_id») (a .of .«subspace_id») (header (known-told-start c)) (drop (a .start + 1) (now (a .message)))
+    ≡ accepted (c .before .before .before .decode-ids .result .ids) (c .before .first-answer .given .0 .0)
 ids-is c =
     let after-decode-ids : tie.After-decode-ids = search in
     sym (ids-told after-decode-ids) ∙ ap (λ (d : Decoded). answerOf d (after-decode-ids .decode-ids .result .ids)) (c .before .first-answer .given .1)
@@ -55,7 +57,8 @@ ids-in c =
     let a = start .args in first-inside (a .of .«namespace_id») (a .of .«subspace_id») (a .of .timestamp) (now (a .message)) (a .start) (there after-unpack) _ _ (ids-is c)
 
 numbers-told : (c : tie.After-relative-decode) → let a = relative-decode-start c .args in
-    answerOf (c .relative-decode .result .answer) (c .relative-decode .result .numbers) ≡ readNumbers (a .of .timestamp) (header (relative-decode-start c)) (drop (a .start + 1 + c .before .before .before .first-answer .given .0 .0) (now (a .message)))
+    answerOf (c .relative-decode .result .answer) (c .relative-decode .result .numbers)
+    ≡ readNumbers (a .of .timestamp) (header (relative-decode-start c)) (drop (a .start + 1 + c .before .before .before .first-answer .given .0 .0) (now (a .message)))
 numbers-told c =
     let after-first-answer : tie.After-first-answer = search in
     let after-unpack : tie.After-unpack = search in
@@ -63,17 +66,22 @@ numbers-told c =
     rw (after-unpack .unpack .ensures, to-end (start .args .start + 1 + after-first-answer .first-answer .given .0 .0) (now (start .args .message))) at (c .relative-decode .ensures .answer)
 
 numbers-is : (c : tie.After-known-told2) → let a = known-told2-start c .args in
-    readNumbers (a .of .timestamp) (header (known-told2-start c)) (drop (a .start + 1 + known-told2-first-answer c .first-answer .given .0 .0) (now (a .message))) ≡ accepted (c .before .before .before .relative-decode .result .numbers) (c .before .second-answer .given .0 .0)
+    readNumbers (a .of .timestamp) (header (known-told2-start c)) (drop (a .start + 1 + known-told2-first-answer c .first-answer .given .0 .0) (now (a .message)))
+    ≡ accepted (c .before .before .before .relative-decode .result .numbers) (c .before .second-answer .given .0 .0)
 numbers-is c =
     let after-relative-decode : tie.After-relative-decode = search in
     sym (numbers-told after-relative-decode) ∙ ap (λ (d : Decoded). answerOf d (after-relative-decode .relative-decode .result .numbers)) (c .before .second-answer .given .1)
 
-numbers-in : (c : tie.After-known-told2) → known-told2-start c .args .start + (1 + (known-told2-first-answer c .first-answer .given .0 .0 + c .before .second-answer .given .0 .0)) ≤ length (now (known-told2-start c .args .message))
+numbers-in : (c : tie.After-known-told2)
+    → known-told2-start c .args .start + (1 + (known-told2-first-answer c .first-answer .given .0 .0 + c .before .second-answer .given .0 .0))
+    ≤ length (now (known-told2-start c .args .message))
 numbers-in c =
     let after-known-told : tie.After-known-told = search in
     let after-unpack : tie.After-unpack = search in
     let start : tie.Start = search in
-    let a = start .args in second-inside (a .of .«namespace_id») (a .of .«subspace_id») (a .of .timestamp) (now (a .message)) (a .start) (there after-unpack) _ _ (ids-is after-known-told) _ _ (numbers-is c)
+    let a = start .args in
+    second-inside (a .of .«namespace_id») (a .of .«subspace_id») (a .of .timestamp) (now (a .message)) (a .start) (there after-unpack) _ _
+    (ids-is after-known-told) _ _ (numbers-is c)
 
 returns : tie.Need-returns
 returns c =
@@ -87,7 +95,9 @@ returns-2 c =
     let start : tie.Start = search in
     let a = start .args in
     let x = no-value (c .before .before .decode-ids .result .answer) (c .before .match .keys2) in
-    rw (c .no-head2 .ensures) (x .beside _ ∙ sym (head-ids (a .of .«namespace_id») (a .of .«subspace_id») (a .of .timestamp) (now (a .message)) (a .start) (there after-unpack) (x .why) (sym (ids-told (c .before .before)) ∙ x .beside _)))
+    rw (c .no-head2 .ensures)
+    (x .beside _ ∙ sym (head-ids (a .of .«namespace_id») (a .of .«subspace_id») (a .of .timestamp) (now (a .message)) (a .start) (there after-unpack)
+    (x .why) (sym (ids-told (c .before .before)) ∙ x .beside _)))
 
 add-next : tie.Need-add-next
 add-next c = omega (arith, ids-in c)
@@ -105,7 +115,9 @@ returns-3 c =
     let start : tie.Start = search in
     let a = start .args in
     let x = no-value (c .before .before .relative-decode .result .answer) (c .before .match2 .keys2) in
-    rw (c .no-head3 .ensures) (x .beside _ ∙ sym (head-numbers (a .of .«namespace_id») (a .of .«subspace_id») (a .of .timestamp) (now (a .message)) (a .start) (there after-unpack) _ _ (ids-is after-known-told) (x .why) (sym (numbers-told (c .before .before)) ∙ x .beside _)))
+    rw (c .no-head3 .ensures)
+    (x .beside _ ∙ sym (head-numbers (a .of .«namespace_id») (a .of .«subspace_id») (a .of .timestamp) (now (a .message)) (a .start)
+    (there after-unpack) _ _ (ids-is after-known-told) (x .why) (sym (numbers-told (c .before .before)) ∙ x .beside _)))
 
 add-t15 : tie.Need-add-t15
 add-t15 c = omega (arith, numbers-in (c .before .before))
@@ -119,7 +131,8 @@ returns-4 c =
     let after-unpack : tie.After-unpack = search in
     let start : tie.Start = search in
     let a = start .args in
-    sym (head-read (a .of .«namespace_id») (a .of .«subspace_id») (a .of .timestamp) (now (a .message)) (a .start) (there after-unpack) _ _ (ids-is after-known-told) _ _ (numbers-is (c .before .before)))
+    sym (head-read (a .of .«namespace_id») (a .of .«subspace_id») (a .of .timestamp) (now (a .message)) (a .start) (there after-unpack) _ _
+    (ids-is after-known-told) _ _ (numbers-is (c .before .before)))
 
 pub decode-head-spec : {M : Type 1} → statement M
 decode-head-spec =

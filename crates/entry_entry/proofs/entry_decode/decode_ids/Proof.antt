@@ -14,7 +14,8 @@ first-is c =
     sym (after-decode-id .decode-id .ensures) ∙ ap (λ (d : Decoded). answerOf d (after-decode-id .decode-id .result .id)) (c .before .first-answer .given .1)
 
 second-is : (c : tie.After-known-told2) → let a = c .before .before .before .before .before .before .before .before .before .before .before .args in
-    readId (a .header .«subspace_written») (a .of .«subspace_id») (drop (c .before .before .before .before .before .before .first-answer .given .0 .0) (now (a .message))) ≡ accepted (c .before .before .before .decode-id2 .result .id) (c .before .second-answer .given .0 .0)
+    readId (a .header .«subspace_written») (a .of .«subspace_id») (drop (c .before .before .before .before .before .before .first-answer .given .0 .0) (now (a .message)))
+    ≡ accepted (c .before .before .before .decode-id2 .result .id) (c .before .second-answer .given .0 .0)
 second-is c =
     let after-decode-id2 : tie.After-decode-id2 = search in
     sym (after-decode-id2 .decode-id2 .ensures) ∙ ap (λ (d : Decoded). answerOf d (after-decode-id2 .decode-id2 .result .id)) (c .before .second-answer .given .1)
@@ -24,7 +25,8 @@ returns c =
     let start : tie.Start = search in
     let a = start .args in
     let x = no-value (c .before .before .decode-id .result .answer) (c .before .match .keys2) in
-    rw (c .no-ids .ensures) (x .beside _ ∙ sym (ids-first (a .of .«namespace_id») (a .of .«subspace_id») (a .header) (now (a .message)) (x .why) (sym (c .before .before .decode-id .ensures) ∙ x .beside _)))
+    rw (c .no-ids .ensures) (x .beside _
+    ∙ sym (ids-first (a .of .«namespace_id») (a .of .«subspace_id») (a .header) (now (a .message)) (x .why) (sym (c .before .before .decode-id .ensures) ∙ x .beside _)))
 
 returns-2 : tie.Need-returns-2
 returns-2 c =
@@ -32,7 +34,9 @@ returns-2 c =
     let start : tie.Start = search in
     let a = start .args in
     let x = no-value (c .before .before .decode-id2 .result .answer) (c .before .match2 .keys2) in
-    rw (c .no-ids2 .ensures) (x .beside _ ∙ sym (ids-second (a .of .«namespace_id») (a .of .«subspace_id») (a .header) (now (a .message)) _ _ (first-is after-known-told) (x .why) (sym (c .before .before .decode-id2 .ensures) ∙ x .beside _)))
+    rw (c .no-ids2 .ensures) (x .beside _ ∙ sym
+    (ids-second (a .of .«namespace_id») (a .of .«subspace_id») (a .header) (now (a .message)) _ _ (first-is after-known-told) (x .why)
+    (sym (c .before .before .decode-id2 .ensures) ∙ x .beside _)))
 
 add-t14 : tie.Need-add-t14
 add-t14 c =

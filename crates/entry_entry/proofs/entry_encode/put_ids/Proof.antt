@@ -5,7 +5,9 @@ use Rattle.entry_entry.proofs.entry_encode.put_ids.Statement.{statement
 use Rattle.entry_entry.proofs.entry_encode.put_ids.Tie as tie
 
 -- the parts fit
-parts : (c : tie.Start) → let a = c .args in length (idBytes (a .of .«namespace_id») (a .fields .«namespace_id»)) + length (idBytes (a .of .«subspace_id») (a .fields .«subspace_id»)) ≤ length (now (a .buffer))
+parts : (c : tie.Start) → let a = c .args in
+    length (idBytes (a .of .«namespace_id») (a .fields .«namespace_id»)) + length (idBytes (a .of .«subspace_id») (a .fields .«subspace_id»))
+    ≤ length (now (a .buffer))
 parts c =
     let a = c .args in
     omega (arith, c .pre, length-append (idBytes (a .of .«namespace_id») (a .fields .«namespace_id»)) (idBytes (a .of .«subspace_id») (a .fields .«subspace_id»)))

@@ -11,7 +11,9 @@ abbrev bytes : tie.Start → List ℕ
 bytes c = sharedFrom (c .args .k) .encode (pathOf (now (c .args .bytes)) (now (c .args .lengths)) (c .args .count))
 
 -- the parts fit
-parts : (c : tie.Start) → let a = c .args in length (numbersBytes (a .of .timestamp) (a .fields .timestamp) (a .fields .«payload_length»)) + length (bytes c ++ a .fields .«payload_digest») ≤ length (now (a .buffer))
+parts : (c : tie.Start) → let a = c .args in
+    length (numbersBytes (a .of .timestamp) (a .fields .timestamp) (a .fields .«payload_length»)) + length (bytes c ++ a .fields .«payload_digest»)
+    ≤ length (now (a .buffer))
 parts c = let a = c .args in omega (arith, c .pre .1, length-append (numbersBytes (a .of .timestamp) (a .fields .timestamp) (a .fields .«payload_length»)) (bytes c ++ a .fields .«payload_digest»))
 
 -- the numbers' bytes are in the buffer

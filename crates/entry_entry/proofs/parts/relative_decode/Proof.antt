@@ -37,7 +37,8 @@ abbrev known-told3-start : tie.After-known-told3 → tie.Start
 known-told3-start c = known-told2-start (c .before .before .before .before)
 
 head-is : (c : tie.After-known-told) → let a = known-told-start c .args in
-    readHead (a .of .«namespace_id») (a .of .«subspace_id») (a .of .timestamp) (drop (a .start) (now (a .message))) ≡ accepted (c .before .before .before .decode-head .result .head) (c .before .first-answer .given .0 .0)
+    readHead (a .of .«namespace_id») (a .of .«subspace_id») (a .of .timestamp) (drop (a .start) (now (a .message)))
+    ≡ accepted (c .before .before .before .decode-head .result .head) (c .before .first-answer .given .0 .0)
 head-is c =
     let after-decode-head : tie.After-decode-head = search in
     sym (after-decode-head .decode-head .ensures) ∙ ap (λ (d : Decoded). answerOf d (after-decode-head .decode-head .result .head)) (c .before .first-answer .given .1)
@@ -48,31 +49,37 @@ head-in c =
     let a = start .args in head-inside (a .of .«namespace_id») (a .of .«subspace_id») (a .of .timestamp) (now (a .message)) (a .start) _ _ (head-is c)
 
 path-told : (c : tie.After-relative-decode) → let s = c .before .before .before .before .before .before .before .before .before in
-    answerOf (c .relative-decode .result .answer) (c .relative-decode .result .path) ≡ readAgainstPath false (reference s .path) (drop (s .args .start + c .before .before .before .first-answer .given .0 .0) (now (s .args .message)))
+    answerOf (c .relative-decode .result .answer) (c .relative-decode .result .path)
+    ≡ readAgainstPath false (reference s .path) (drop (s .args .start + c .before .before .before .first-answer .given .0 .0) (now (s .args .message)))
 path-told c =
     let after-first-answer : tie.After-first-answer = search in
     let start : tie.Start = search in
     rw (to-end (start .args .start + after-first-answer .first-answer .given .0 .0) (now (start .args .message))) at (c .relative-decode .ensures .answer)
 
 path-is : (c : tie.After-known-told2) → let s = known-told2-start c in
-    readAgainstPath false (reference s .path) (drop (s .args .start + known-told2-first-answer c .first-answer .given .0 .0) (now (s .args .message))) ≡ accepted (c .before .before .before .relative-decode .result .path) (c .before .second-answer .given .0 .0)
+    readAgainstPath false (reference s .path) (drop (s .args .start + known-told2-first-answer c .first-answer .given .0 .0) (now (s .args .message)))
+    ≡ accepted (c .before .before .before .relative-decode .result .path) (c .before .second-answer .given .0 .0)
 path-is c =
     let after-relative-decode : tie.After-relative-decode = search in
     sym (path-told after-relative-decode) ∙ ap (λ (d : Decoded). answerOf d (after-relative-decode .relative-decode .result .path)) (c .before .second-answer .given .1)
 
-path-in : (c : tie.After-known-told2) → known-told2-start c .args .start + known-told2-first-answer c .first-answer .given .0 .0 + c .before .second-answer .given .0 .0 ≤ length (now (known-told2-start c .args .message))
+path-in : (c : tie.After-known-told2)
+    → known-told2-start c .args .start + known-told2-first-answer c .first-answer .given .0 .0 + c .before .second-answer .given .0 .0 ≤ length (now (known-told2-start c .args .message))
 path-in c =
     let after-known-told : tie.After-known-told = search in
     let s : tie.Start = search in
     path-inside (reference s) (now (s .args .message)) (s .args .start) _ _ (head-is after-known-told) _ _ (path-is c)
 
 digest-is : (c : tie.After-known-told3) → let s = known-told3-start c in
-    someBytes 32 (drop (s .args .start + known-told3-first-answer c .first-answer .given .0 .0 + known-told3-second-answer c .second-answer .given .0 .0) (now (s .args .message))) ≡ accepted (c .before .before .before .decode-id .result .id) (c .before .third-answer .given .0 .0)
+    someBytes 32 (drop (s .args .start + known-told3-first-answer c .first-answer .given .0 .0 + known-told3-second-answer c .second-answer .given .0 .0) (now (s .args .message)))
+    ≡ accepted (c .before .before .before .decode-id .result .id) (c .before .third-answer .given .0 .0)
 digest-is c =
     let after-decode-id : tie.After-decode-id = search in
     sym (after-decode-id .decode-id .ensures .answer) ∙ ap (λ (d : Decoded). answerOf d (after-decode-id .decode-id .result .id)) (c .before .third-answer .given .1)
 
-digest-in : (c : tie.After-known-told3) → known-told3-start c .args .start + known-told3-first-answer c .first-answer .given .0 .0 + known-told3-second-answer c .second-answer .given .0 .0 + c .before .third-answer .given .0 .0 ≤ length (now (known-told3-start c .args .message))
+digest-in : (c : tie.After-known-told3)
+    → known-told3-start c .args .start + known-told3-first-answer c .first-answer .given .0 .0 + known-told3-second-answer c .second-answer .given .0 .0 + c .before .third-answer .given .0 .0
+    ≤ length (now (known-told3-start c .args .message))
 digest-in c =
     let after-known-told2 : tie.After-known-told2 = search in
     let after-known-told : tie.After-known-told = search in
@@ -80,7 +87,8 @@ digest-in c =
     digest-inside (reference s) (now (s .args .message)) (s .args .start) _ _ (head-is after-known-told) _ _ (path-is after-known-told2) _ _ (digest-is c)
 
 -- the sums fit
-fit : (c : tie.After-known-told3) → Fits w64 (known-told3-second-answer c .second-answer .given .0 .0 + c .before .third-answer .given .0 .0) × Fits w64 (known-told3-first-answer c .first-answer .given .0 .0 + (known-told3-second-answer c .second-answer .given .0 .0 + c .before .third-answer .given .0 .0))
+fit : (c : tie.After-known-told3) → Fits w64 (known-told3-second-answer c .second-answer .given .0 .0 + c .before .third-answer .given .0 .0)
+    × Fits w64 (known-told3-first-answer c .first-answer .given .0 .0 + (known-told3-second-answer c .second-answer .given .0 .0 + c .before .third-answer .given .0 .0))
 fit c = (omega (arith, digest-in c), omega (arith, digest-in c))
 
 returns : tie.Need-returns
@@ -104,7 +112,8 @@ returns-2 c =
     let after-known-told : tie.After-known-told = search in
     let s : tie.Start = search in
     let x = no-value (c .before .before .relative-decode .result .answer) (c .before .match2 .keys2) in
-    rw (c .refuse .ensures) (gives-refused (x .why) (x .beside _) (entry-path (reference s) (now (s .args .message)) (s .args .start) _ _ (head-is after-known-told) (x .why) (sym (path-told (c .before .before)) ∙ x .beside _)))
+    rw (c .refuse .ensures) (gives-refused (x .why) (x .beside _)
+    (entry-path (reference s) (now (s .args .message)) (s .args .start) _ _ (head-is after-known-told) (x .why) (sym (path-told (c .before .before)) ∙ x .beside _)))
 
 add-decode-id : tie.Need-add-decode-id
 add-decode-id c = omega (arith, path-in c)
@@ -116,7 +125,9 @@ returns-3 c =
     let after-known-told : tie.After-known-told = search in
     let s : tie.Start = search in
     let x = no-value (c .before .before .decode-id .result .answer) (c .before .match3 .keys2) in
-    rw (c .refuse2 .ensures) (gives-refused (x .why) (x .beside _) (entry-digest (reference s) (now (s .args .message)) (s .args .start) _ _ (head-is after-known-told) _ _ (path-is after-known-told2) (x .why) (sym (c .before .before .decode-id .ensures .answer) ∙ x .beside _)))
+    rw (c .refuse2 .ensures) (gives-refused (x .why) (x .beside _)
+    (entry-digest (reference s) (now (s .args .message)) (s .args .start) _ _ (head-is after-known-told) _ _ (path-is after-known-told2) (x .why)
+    (sym (c .before .before .decode-id .ensures .answer) ∙ x .beside _)))
 
 add-t23 : tie.Need-add-t23
 add-t23 c =

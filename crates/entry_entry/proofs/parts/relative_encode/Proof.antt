@@ -38,16 +38,21 @@ valid c =
     sym (path-check (reference s) (entry s)) ∙ sym (shared-against (reference s .path) (entry s .path) _ k .0) ∙ rest-allowed (reference s .path) (entry s .path) _ k
 
 -- the length of the path, and of all
-path-is : (c : tie.After-known-told2) → let s = c .before .before .before .before .before .before .before .before .before .before .before .before .before in c .before .path .given .0 .0 ≡ length (againstPath (reference s .path) .encode (entry s .path))
+path-is : (c : tie.After-known-told2)
+    → let s = c .before .before .before .before .before .before .before .before .before .before .before .before .before in
+    c .before .path .given .0 .0 ≡ length (againstPath (reference s .path) .encode (entry s .path))
 path-is c =
     let after-shared-len : tie.After-shared-len = search in
     let after-known-told : tie.After-known-told = search in
     let after-common : tie.After-common = search in
     let s : tie.Start = search in
     let k = after-common .common .given .0 .0 in
-    length-wrote (sharedFrom k) (entry s .path) _ (sym (after-shared-len .shared-len .ensures) ∙ ap outcomeOf (c .before .path .given .1)) .1 ∙ ap length (shared-against (reference s .path) (entry s .path) k (shared-of after-known-told) .1)
+    length-wrote (sharedFrom k) (entry s .path) _ (sym (after-shared-len .shared-len .ensures) ∙ ap outcomeOf (c .before .path .given .1)) .1
+    ∙ ap length (shared-against (reference s .path) (entry s .path) k (shared-of after-known-told) .1)
 
-long : (c : tie.After-entry-len) → let s = c .before .before .before .before .before .before .before .before .before .before .before .before .before .before in c .entry-len .result ≡ length (againstEntry (reference s) .encode (entry s))
+long : (c : tie.After-entry-len)
+    → let s = c .before .before .before .before .before .before .before .before .before .before .before .before .before .before in
+    c .entry-len .result ≡ length (againstEntry (reference s) .encode (entry s))
 long c =
     let s : tie.Start = search in
     c .entry-len .ensures ∙ entry-long (reference s) (entry s) _ (path-is (c .before)) (digest-long (s .args .fields) (s .good .1 .0))
@@ -64,7 +69,8 @@ returns-2 c =
     let after-common : tie.After-common = search in
     let s : tie.Start = search in
     let none = no-length (c .before .shared-len .result) (c .match2 .keys2) in
-    absurd (length-not-denied (sharedFrom (after-common .common .given .0 .0)) (entry s .path) (none .why) (rest-allowed (reference s .path) (entry s .path) _ (shared-of (c .before .before))) (sym (c .before .shared-len .ensures) ∙ none .is))
+    absurd (length-not-denied (sharedFrom (after-common .common .given .0 .0)) (entry s .path) (none .why)
+    (rest-allowed (reference s .path) (entry s .path) _ (shared-of (c .before .before))) (sym (c .before .shared-len .ensures) ∙ none .is))
 
 entry-len-requires : tie.Need-entry-len-requires
 entry-len-requires c κs =
@@ -84,8 +90,11 @@ put-entry-requires c κs =
     let after-common : tie.After-common = search in
     let s : tie.Start = search in
     let k = after-common .common .given .0 .0 in
-    let same = shared-against (reference s .path) (entry s .path) k (shared-of after-known-told) .1 in
-    (rest-allowed (reference s .path) (entry s .path) k (shared-of after-known-told), omega (arith, ap (λ (bs : List ℕ). length (partsWith (s .args .of) (s .args .fields) bs)) same, ap length (entry-bytes (reference s) (entry s)), long (c .before .before), c .before .if1 .left))
+    let same = shared-against (reference s .path) (entry s .path) k (shared-of after-known-told) .1 in (
+      rest-allowed (reference s .path) (entry s .path) k (shared-of after-known-told),
+      omega
+          (arith, ap (λ (bs : List ℕ). length (partsWith (s .args .of) (s .args .fields) bs)) same, ap length (entry-bytes (reference s) (entry s)), long (c .before .before), c .before .if1 .left),
+    )
 
 returns-4 : tie.Need-returns-4
 returns-4 c =

@@ -31,7 +31,8 @@ returns : tie.Need-returns
 returns c =
     let s : tie.Start = search in
     let none = no-length (c .before .relative-len-of-encoding .result) (c .match .keys2) in
-    none .is ∙ length-barred (againstEntry (reference s)) (entry s) (none .why) (sym (path-check (reference s) (entry s)) ∙ length-denied (againstPath (reference s .path)) (entry s .path) (none .why) (sym (c .before .relative-len-of-encoding .ensures) ∙ none .is))
+    none .is ∙ length-barred (againstEntry (reference s)) (entry s) (none .why)
+    (sym (path-check (reference s) (entry s)) ∙ length-denied (againstPath (reference s .path)) (entry s .path) (none .why) (sym (c .before .relative-len-of-encoding .ensures) ∙ none .is))
 
 entry-len-requires : tie.Need-entry-len-requires
 entry-len-requires c κs =

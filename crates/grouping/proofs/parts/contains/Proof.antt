@@ -18,7 +18,9 @@ right c = areaWith (c .args .other-subspace) (pathOf (now (c .args .other-bytes)
 abbrev enum-told-start : tie.After-enum-told → tie.Start
 enum-told-start c = c .before .before .before .before .before .before .before
 
-told : (c : tie.After-enum-told) → let l = left (enum-told-start c) in let r = right (enum-told-start c) in areaInside l r ≡ verdict (bounds (l .times) (r .times .start) && bounds (l .times) (endValue (r .times .end)))
+told : (c : tie.After-enum-told) → let l = left (enum-told-start c) in
+    let r = right (enum-told-start c) in
+    areaInside l r ≡ verdict (bounds (l .times) (r .times .start) && bounds (l .times) (endValue (r .times .end)))
 told c =
     let start : tie.Start = search in
     included-told (left start) (right start) (sym (c .before .before .includes .ensures) ∙ c .enum-told .given .1)
@@ -36,14 +38,16 @@ returns-3 c =
     let else1 : tie.Else1 = search in
     let after-bounds : tie.After-bounds = search in
     let after-enum-told : tie.After-enum-told = search in
-    sym (told after-enum-told ∙ rw ((sym (after-bounds .bounds .ensures) ∙ not-false _ (else1 .if1 .left)), ← (c .before .before .value .ensures), (sym (c .before .bounds2 .ensures) ∙ not-true _ (c .if2 .taken))))
+    sym (told after-enum-told
+    ∙ rw ((sym (after-bounds .bounds .ensures) ∙ not-false _ (else1 .if1 .left)), ← (c .before .before .value .ensures), (sym (c .before .bounds2 .ensures) ∙ not-true _ (c .if2 .taken))))
 
 returns-4 : tie.Need-returns-4
 returns-4 c =
     let else1 : tie.Else1 = search in
     let after-bounds : tie.After-bounds = search in
     let after-enum-told : tie.After-enum-told = search in
-    sym (told after-enum-told ∙ rw ((sym (after-bounds .bounds .ensures) ∙ not-false _ (else1 .if1 .left)), ← (c .before .before .value .ensures), (sym (c .before .bounds2 .ensures) ∙ not-false _ (c .if2 .left))))
+    sym (told after-enum-told
+    ∙ rw ((sym (after-bounds .bounds .ensures) ∙ not-false _ (else1 .if1 .left)), ← (c .before .before .value .ensures), (sym (c .before .bounds2 .ensures) ∙ not-false _ (c .if2 .left))))
 
 pub contains-spec : {M : Type 1} → statement M
 contains-spec =

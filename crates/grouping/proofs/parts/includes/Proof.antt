@@ -25,7 +25,9 @@ right-well c = sym (c .before .well-formed2 .ensures) ∙ not-false _ (c .if2 .l
 abbrev enum-told-start : tie.After-enum-told → tie.Start
 enum-told-start c = c .before .before .before .before .before .before .before .before .before .before .before
 
-told : (c : tie.After-enum-told) → let l = left (enum-told-start c) in let r = right (enum-told-start c) in areaIncludes l r ≡ verdict (includesSubspace (subspaceOf (l .subspace)) (subspaceOf (r .subspace)) && includesRange (l .times) (r .times))
+told : (c : tie.After-enum-told) → let l = left (enum-told-start c) in
+    let r = right (enum-told-start c) in
+    areaIncludes l r ≡ verdict (includesSubspace (subspaceOf (l .subspace)) (subspaceOf (r .subspace)) && includesRange (l .times) (r .times))
 told c =
     let else2 : tie.Else2 = search in
     let else1 : tie.Else1 = search in
@@ -57,14 +59,22 @@ unfolding subspaceIncludes
 returns-5 c =
     let after-includes-area-subspace : tie.After-includes-area-subspace = search in
     let after-enum-told : tie.After-enum-told = search in
-    sym (told after-enum-told ∙ rw ((sym (after-includes-area-subspace .includes-area-subspace .ensures) ∙ not-false _ (c .before .before .if3 .left)), (sym (c .before .includes-range .ensures) ∙ not-true _ (c .if4 .taken))))
+    sym (told after-enum-told ∙ rw (
+      (sym (after-includes-area-subspace .includes-area-subspace .ensures)
+          ∙ not-false _ (c .before .before .if3 .left)),
+      (sym (c .before .includes-range .ensures) ∙ not-true _ (c .if4 .taken)),
+    ))
 
 returns-6 : tie.Need-returns-6
 unfolding subspaceIncludes
 returns-6 c =
     let after-includes-area-subspace : tie.After-includes-area-subspace = search in
     let after-enum-told : tie.After-enum-told = search in
-    sym (told after-enum-told ∙ rw ((sym (after-includes-area-subspace .includes-area-subspace .ensures) ∙ not-false _ (c .before .before .if3 .left)), (sym (c .before .includes-range .ensures) ∙ not-false _ (c .if4 .left))))
+    sym (told after-enum-told ∙ rw (
+      (sym (after-includes-area-subspace .includes-area-subspace .ensures)
+          ∙ not-false _ (c .before .before .if3 .left)),
+      (sym (c .before .includes-range .ensures) ∙ not-false _ (c .if4 .left)),
+    ))
 
 pub includes-spec : {M : Type 1} → statement M
 includes-spec =

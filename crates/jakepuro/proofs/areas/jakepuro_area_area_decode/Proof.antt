@@ -10,7 +10,8 @@ returns c =
     let after-times : tie.After-times = search in
     let after-subspace : tie.After-subspace = search in
     let after-path-sizes : tie.After-path-sizes = search in
-    rw (after-path-sizes .path-sizes .ensures, after-subspace .subspace .ensures, after-times .times .ensures, after-path-bytes .path-bytes .ensures) at (stores-as (c .give-area .ensures) (after-relative-decode .relative-decode .ensures .answer))
+    rw (after-path-sizes .path-sizes .ensures, after-subspace .subspace .ensures, after-times .times .ensures, after-path-bytes .path-bytes .ensures) at
+    (stores-as (c .give-area .ensures) (after-relative-decode .relative-decode .ensures .answer))
 
 pub jakepuro-area-area-decode-spec : {M : Type 1} → statement M
 jakepuro-area-area-decode-spec =

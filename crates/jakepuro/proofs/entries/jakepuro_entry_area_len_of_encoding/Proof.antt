@@ -14,7 +14,9 @@ returns c =
     let after-path-sizes2 : tie.After-path-sizes2 = search in
     let after-path-sizes : tie.After-path-sizes = search in
     let after-fields : tie.After-fields = search in
-    rw (after-fields .fields .ensures, after-path-sizes .path-sizes .ensures, after-path-sizes2 .path-sizes2 .ensures, after-path-bytes .path-bytes .ensures, after-subspace .subspace .ensures, after-times .times .ensures, after-path-bytes2 .path-bytes2 .ensures) at (told-as (c .tell-length .ensures) (c .before .before .relative-len-of-encoding .ensures))
+    rw
+    (after-fields .fields .ensures, after-path-sizes .path-sizes .ensures, after-path-sizes2 .path-sizes2 .ensures, after-path-bytes .path-bytes .ensures, after-subspace .subspace .ensures, after-times .times .ensures, after-path-bytes2 .path-bytes2 .ensures) at
+    (told-as (c .tell-length .ensures) (c .before .before .relative-len-of-encoding .ensures))
 
 pub jakepuro-entry-area-len-of-encoding-spec : {M : Type 1} → statement M
 jakepuro-entry-area-len-of-encoding-spec =

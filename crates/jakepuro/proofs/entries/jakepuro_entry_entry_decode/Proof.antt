@@ -9,7 +9,8 @@ returns c =
     let after-path-bytes : tie.After-path-bytes = search in
     let after-path-sizes : tie.After-path-sizes = search in
     let after-fields : tie.After-fields = search in
-    rw (after-fields .fields .ensures, after-path-sizes .path-sizes .ensures, after-path-bytes .path-bytes .ensures) at (stores-as (c .give-entry .ensures) (after-relative-decode .relative-decode .ensures .answer))
+    rw (after-fields .fields .ensures, after-path-sizes .path-sizes .ensures, after-path-bytes .path-bytes .ensures) at
+    (stores-as (c .give-entry .ensures) (after-relative-decode .relative-decode .ensures .answer))
 
 pub jakepuro-entry-entry-decode-spec : {M : Type 1} → statement M
 jakepuro-entry-entry-decode-spec =

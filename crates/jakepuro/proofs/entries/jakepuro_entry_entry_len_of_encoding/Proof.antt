@@ -13,7 +13,9 @@ returns c =
     let after-fields2 : tie.After-fields2 = search in
     let after-path-sizes : tie.After-path-sizes = search in
     let after-fields : tie.After-fields = search in
-    rw (after-fields .fields .ensures, after-path-sizes .path-sizes .ensures, after-fields2 .fields2 .ensures, after-path-sizes2 .path-sizes2 .ensures, after-path-bytes .path-bytes .ensures, after-path-bytes2 .path-bytes2 .ensures) at (told-as (c .tell-length .ensures) (c .before .before .relative-len-of-encoding .ensures))
+    rw
+    (after-fields .fields .ensures, after-path-sizes .path-sizes .ensures, after-fields2 .fields2 .ensures, after-path-sizes2 .path-sizes2 .ensures, after-path-bytes .path-bytes .ensures, after-path-bytes2 .path-bytes2 .ensures) at
+    (told-as (c .tell-length .ensures) (c .before .before .relative-len-of-encoding .ensures))
 
 pub jakepuro-entry-entry-len-of-encoding-spec : {M : Type 1} → statement M
 jakepuro-entry-entry-len-of-encoding-spec =

@@ -10,7 +10,10 @@ returns c =
     let after-bytes : tie.After-bytes = search in
     let after-sizes2 : tie.After-sizes2 = search in
     let after-sizes : tie.After-sizes = search in
-    encodes (rw (after-sizes .sizes .ensures, after-sizes2 .sizes2 .ensures, after-bytes .bytes .ensures, after-bytes2 .bytes2 .ensures) at (after-encode-path-extends-path .encode-path-extends-path .ensures)) (c .tell-length .ensures)
+    encodes
+    (rw (after-sizes .sizes .ensures, after-sizes2 .sizes2 .ensures, after-bytes .bytes .ensures, after-bytes2 .bytes2 .ensures) at
+    (after-encode-path-extends-path .encode-path-extends-path .ensures))
+    (c .tell-length .ensures)
 
 pub jakepuro-path-extends-encode-spec : {M : Type 1} → statement M
 jakepuro-path-extends-encode-spec =

@@ -11,7 +11,8 @@ returns c =
     let after-bytes : tie.After-bytes = search in
     let after-sizes2 : tie.After-sizes2 = search in
     let after-sizes : tie.After-sizes = search in
-    rw (after-sizes .sizes .ensures, after-sizes2 .sizes2 .ensures, after-bytes .bytes .ensures, after-bytes2 .bytes2 .ensures) at (told-as (c .tell-length .ensures) (c .before .before .path-extends-path-encoding-len .ensures))
+    rw (after-sizes .sizes .ensures, after-sizes2 .sizes2 .ensures, after-bytes .bytes .ensures, after-bytes2 .bytes2 .ensures) at
+    (told-as (c .tell-length .ensures) (c .before .before .path-extends-path-encoding-len .ensures))
 
 pub jakepuro-path-extends-len-of-encoding-spec : {M : Type 1} → statement M
 jakepuro-path-extends-len-of-encoding-spec =

@@ -10,7 +10,9 @@ returns c =
     let after-bytes : tie.After-bytes = search in
     let after-sizes2 : tie.After-sizes2 = search in
     let after-sizes : tie.After-sizes = search in
-    encodes (rw (after-sizes .sizes .ensures, after-sizes2 .sizes2 .ensures, after-bytes .bytes .ensures, after-bytes2 .bytes2 .ensures) at (after-relative-encode .relative-encode .ensures)) (c .tell-length .ensures)
+    encodes
+    (rw (after-sizes .sizes .ensures, after-sizes2 .sizes2 .ensures, after-bytes .bytes .ensures, after-bytes2 .bytes2 .ensures) at (after-relative-encode .relative-encode .ensures))
+    (c .tell-length .ensures)
 
 pub jakepuro-path-path-encode-spec : {M : Type 1} → statement M
 jakepuro-path-path-encode-spec =

@@ -13,7 +13,9 @@ returns c =
     let after-subspaces : tie.After-subspaces = search in
     let after-end-sizes : tie.After-end-sizes = search in
     let after-start-sizes : tie.After-start-sizes = search in
-    rw (after-start-sizes .start-sizes .ensures, after-end-sizes .end-sizes .ensures, after-subspaces .subspaces .ensures, after-start-bytes .start-bytes .ensures, after-end-open .end-open .ensures, after-end-bytes .end-bytes .ensures, after-times .times .ensures) at (stores-as (c .give-range .ensures) (after-relative-decode .relative-decode .ensures .answer))
+    rw
+    (after-start-sizes .start-sizes .ensures, after-end-sizes .end-sizes .ensures, after-subspaces .subspaces .ensures, after-start-bytes .start-bytes .ensures, after-end-open .end-open .ensures, after-end-bytes .end-bytes .ensures, after-times .times .ensures) at
+    (stores-as (c .give-range .ensures) (after-relative-decode .relative-decode .ensures .answer))
 
 pub jakepuro-range3d-range3d-decode-spec : {M : Type 1} → statement M
 jakepuro-range3d-range3d-decode-spec =

@@ -21,7 +21,9 @@ returns c =
     let after-start-sizes2 : tie.After-start-sizes2 = search in
     let after-end-sizes : tie.After-end-sizes = search in
     let after-start-sizes : tie.After-start-sizes = search in
-    rw (after-start-sizes .start-sizes .ensures, after-end-sizes .end-sizes .ensures, after-start-sizes2 .start-sizes2 .ensures, after-end-sizes2 .end-sizes2 .ensures, after-subspaces .subspaces .ensures, after-start-bytes .start-bytes .ensures, after-end-open .end-open .ensures, after-end-bytes .end-bytes .ensures, after-times .times .ensures, after-subspaces2 .subspaces2 .ensures, after-start-bytes2 .start-bytes2 .ensures, after-end-open2 .end-open2 .ensures, after-end-bytes2 .end-bytes2 .ensures, after-times2 .times2 .ensures) at (told-as (c .tell-length .ensures) (c .before .before .relative-len-of-encoding .ensures))
+    rw
+    (after-start-sizes .start-sizes .ensures, after-end-sizes .end-sizes .ensures, after-start-sizes2 .start-sizes2 .ensures, after-end-sizes2 .end-sizes2 .ensures, after-subspaces .subspaces .ensures, after-start-bytes .start-bytes .ensures, after-end-open .end-open .ensures, after-end-bytes .end-bytes .ensures, after-times .times .ensures, after-subspaces2 .subspaces2 .ensures, after-start-bytes2 .start-bytes2 .ensures, after-end-open2 .end-open2 .ensures, after-end-bytes2 .end-bytes2 .ensures, after-times2 .times2 .ensures) at
+    (told-as (c .tell-length .ensures) (c .before .before .relative-len-of-encoding .ensures))
 
 pub jakepuro-range3d-range3d-len-of-encoding-spec : {M : Type 1} → statement M
 jakepuro-range3d-range3d-len-of-encoding-spec =

@@ -7,7 +7,8 @@ use Rattle.path.proofs.Path.equals.Tie as tie
 abbrev start : tie.After-common → tie.Start
 start c = c .before .before .before
 
-told : (c : tie.After-common) → equalTo (start c .args .self) (start c .args .other) ≡ verdict (eqb (c .common .given .0 .0) (start c .args .self .count) && eqb (c .common .given .0 .0) (start c .args .other .count))
+told : (c : tie.After-common)
+    → equalTo (start c .args .self) (start c .args .other) ≡ verdict (eqb (c .common .given .0 .0) (start c .args .self .count) && eqb (c .common .given .0 .0) (start c .args .other .count))
 told c =
     let s = start c in
     equal-verdict (s .args .self) (s .args .other) _ (sym (c .before .before .longest-common-prefix .ensures) ∙ c .common .given .1)

@@ -88,7 +88,8 @@ returns c =
     let after-put-bytes : tie.After-put-bytes = search in
     let after-sum : tie.After-sum = search in
     let s : tie.Start = search in
-    extended-is (s .args .self) (s .args .path) (s .args .k) (s .pre) (formed s) (after-sum .sum .result) (after-put-bytes .put-bytes .last .0) (c .before .put-lengths .last .0) (after-sum .sum .ensures) (after-put-bytes .put-bytes .ensures .1) (c .before .put-lengths .ensures)
+    extended-is (s .args .self) (s .args .path) (s .args .k) (s .pre) (formed s) (after-sum .sum .result) (after-put-bytes .put-bytes .last .0)
+    (c .before .put-lengths .last .0) (after-sum .sum .ensures) (after-put-bytes .put-bytes .ensures .1) (c .before .put-lengths .ensures)
 
 pub extended-spec : {M : Type 1} → statement M
 extended-spec =

@@ -56,7 +56,8 @@ shared-slice-read-if3 c =
 
 shared-slice-read-if3-2 :
     tie.Need-shared-slice-read-if3-2 Inv-loop μ-loop Inv-components μ-components
-shared-slice-read-if3-2 c = omega (arith, inside (c .before .before .before .before .before .before .before), c .before .before .before .before .before .before .before .before .before .components .inv .right .bytes)
+shared-slice-read-if3-2 c =
+    omega (arith, inside (c .before .before .before .before .before .before .before), c .before .before .before .before .before .before .before .before .before .components .inv .right .bytes)
 
 add-i : tie.Need-add-i Inv-loop μ-loop Inv-components μ-components
 add-i c =
@@ -69,8 +70,11 @@ loop-again c =
     let e : tie.Else1 Inv-loop μ-loop Inv-components μ-components = search in
     let l = at-loop .loop in
     let a = else1-start e .args in
-    let t = e .before .before .components .inv in
-    (omega arith, agree-next (now (a .bytes)) (now (a .other-bytes)) (e .before .before .components .at) (l .i) (omega (arith, inside e, t .left .bytes)) (omega (arith, inside e, t .right .bytes)) (l .inv .1) (c .if3 .left))
+    let t = e .before .before .components .inv in (
+      omega arith,
+      agree-next (now (a .bytes)) (now (a .other-bytes)) (e .before .before .components .at) (l .i) (omega (arith, inside e, t .left .bytes))
+          (omega (arith, inside e, t .right .bytes)) (l .inv .1) (c .if3 .left),
+    )
 
 add-at : tie.Need-add-at Inv-loop μ-loop Inv-components μ-components
 add-at c =

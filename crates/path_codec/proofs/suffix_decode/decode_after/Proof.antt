@@ -40,7 +40,9 @@ sub-if2 : tie.Need-sub-if2
 sub-if2 c = omega (arith, known c .total, known c .long)
 
 returns-2 : tie.Need-returns-2
-returns-2 c = rw (c .refuse2 .ensures) (gives-refused 2 refl (after-long _ _ _ _ _ _ (formed (c .before .before)) (omega (arith, c .before .if2 .taken, known (c .before .before) .total, known (c .before .before) .long))))
+returns-2 c =
+    rw (c .refuse2 .ensures) (gives-refused 2 refl
+    (after-long _ _ _ _ _ _ (formed (c .before .before)) (omega (arith, c .before .if2 .taken, known (c .before .before) .total, known (c .before .before) .long))))
 
 sub-if3 : tie.Need-sub-if3
 sub-if3 c = known (c .before) .count
@@ -104,7 +106,8 @@ returns-5 c =
     let all = after-put-bytes .put-bytes .ensures .1 ∙ put-over bs (replicate 600 0) (omega (arith, k .total, k .long)) in
     let e = after-accepted _ ls bs (a .total) (a .count) (now (a .message)) (formed else1) (fits else2) (few else3) (λ i. omega (arith, after-shared-slice-known .shared-slice-known .given i)) _ _ here
     (sym (ap (λ (x : Decoded). answerOf x here) told) ∙ d .ensures) _
-    (λ cs n same. stands ls bs k cs (length ls + a .count) _ _ (d .last .1 .1 .1 .1 .0) (d .last .1 .1 .1 .1 .1 .0) (ap (λ (j : ℕ). length ls + j) (sym n)) all (after-put-lengths .put-lengths .ensures) same) in
+    (λ cs n same. stands ls bs k cs (length ls + a .count) _ _ (d .last .1 .1 .1 .1 .0) (d .last .1 .1 .1 .1 .1 .0)
+    (ap (λ (j : ℕ). length ls + j) (sym n)) all (after-put-lengths .put-lengths .ensures) same) in
     rw told (gives-accepted e)
 
 pub decode-after-spec : {M : Type 1} → statement M

@@ -48,7 +48,9 @@ returns-4 c =
     let m = now (a .message) in
     let part : a .at + (a .total - a .used) - a .at ≡ a .total - a .used = omega arith in
     let long : length (take (a .total - a .used) (drop (a .at) m)) ≡ a .total - a .used = length-take-le (a .total - a .used) (drop (a .at) m) (rw length-drop (e .if3 .left)) in
-    ap (λ (x : Rest). accepted x (a .at + (a .total - a .used))) (put-placed (now (a .bytes)) (now (a .lengths)) (take (a .total - a .used) (drop (a .at) m)) _ (a .used) (a .n) (a .total - a .used) (sym long) (omega (arith, long, room e .totals)) (rw part at (c .before .before .put-bytes .ensures .1)))
+    ap (λ (x : Rest). accepted x (a .at + (a .total - a .used)))
+    (put-placed (now (a .bytes)) (now (a .lengths)) (take (a .total - a .used) (drop (a .at) m)) _ (a .used) (a .n) (a .total - a .used) (sym long)
+    (omega (arith, long, room e .totals)) (rw part at (c .before .before .put-bytes .ensures .1)))
     ∙ sym (last-there (a .used) (a .total) (a .n) (restOf (now (a .bytes)) (now (a .lengths))) (a .at) m (e .before .before .if1 .left) (e .before .if2 .left) (e .if3 .left))
 
 pub decode-last-spec : {M : Type 1} → statement M

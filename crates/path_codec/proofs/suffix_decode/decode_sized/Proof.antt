@@ -11,7 +11,8 @@ abbrev known-told-start : tie.After-known-told → tie.Start
 known-told-start c = c .before .before .before .before .before
 
 -- the length that was read, and where its bytes begin
-length-is : (c : tie.After-known-told) → let a = known-told-start c .args in readStandalone (a .canonic) (drop (a .at) (now (a .message))) ≡ accepted (c .before .number .given .0 .0) (c .before .number .given .0 .1 .0)
+length-is : (c : tie.After-known-told) → let a = known-told-start c .args in
+    readStandalone (a .canonic) (drop (a .at) (now (a .message))) ≡ accepted (c .before .number .given .0 .0) (c .before .number .given .0 .1 .0)
 length-is c =
     let after-decode : tie.After-decode = search in
     sym (after-decode .decode .ensures) ∙ ap numberAnswer (c .before .number .given .1)

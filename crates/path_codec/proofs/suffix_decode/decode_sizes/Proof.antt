@@ -9,7 +9,9 @@ use Rattle.path_codec.proofs.suffix_decode.decode_sizes.Statement.{stat
 use Rattle.path_codec.proofs.suffix_decode.decode_sizes.Tie as tie
 
 -- the first number, of the message's own bytes
-first-is : (c : tie.After-relative-decode) → let a = c .before .before .before .before .before .args in readNumber (a .canonic) 4 (unpackTags (getD (now (a .message)) (a .start) 0) .total) (drop (a .start + 1) (now (a .message))) ≡ numberAnswer (c .relative-decode .result)
+first-is : (c : tie.After-relative-decode) → let a = c .before .before .before .before .before .args in
+    readNumber (a .canonic) 4 (unpackTags (getD (now (a .message)) (a .start) 0) .total) (drop (a .start + 1) (now (a .message)))
+    ≡ numberAnswer (c .relative-decode .result)
 first-is c = sym (rw (c .before .unpack-tags .ensures) at (c .relative-decode .ensures))
 
 -- earlier places
@@ -22,7 +24,9 @@ known-told-start c = c .before .before .before .before .before .before .before .
 abbrev known-told2-start : tie.After-known-told2 → tie.Start
 known-told2-start c = known-told-start (c .before .before .before .before)
 
-first-value : (c : tie.After-known-told) → let a = known-told-start c .args in readNumber (a .canonic) 4 (unpackTags (getD (now (a .message)) (a .start) 0) .total) (drop (a .start + 1) (now (a .message))) ≡ accepted (c .before .number .given .0 .0) (c .before .number .given .0 .1 .0)
+first-value : (c : tie.After-known-told) → let a = known-told-start c .args in
+    readNumber (a .canonic) 4 (unpackTags (getD (now (a .message)) (a .start) 0) .total) (drop (a .start + 1) (now (a .message)))
+    ≡ accepted (c .before .number .given .0 .0) (c .before .number .given .0 .1 .0)
 first-value c =
     let after-relative-decode : tie.After-relative-decode = search in
     first-is after-relative-decode ∙ ap numberAnswer (c .before .number .given .1)
@@ -35,17 +39,22 @@ first-inside c =
     omega (arith, number-bounded 4 _ (a .canonic) .bound (drop (a .start + 1) (now (a .message))) _ _ (first-value c), length-drop (a .start + 1) (now (a .message)), else1 .if1 .left)
 
 -- the second, after it
-second-is : (c : tie.After-relative-decode2) → let a = c .before .before .before .before .before .before .before .before .before .args in readNumber (a .canonic) 4 (unpackTags (getD (now (a .message)) (a .start) 0) .count) (drop (a .start + 1 + c .before .before .number .given .0 .1 .0) (now (a .message))) ≡ numberAnswer (c .relative-decode2 .result)
+second-is : (c : tie.After-relative-decode2) → let a = c .before .before .before .before .before .before .before .before .before .args in
+    readNumber (a .canonic) 4 (unpackTags (getD (now (a .message)) (a .start) 0) .count) (drop (a .start + 1 + c .before .before .number .given .0 .1 .0) (now (a .message)))
+    ≡ numberAnswer (c .relative-decode2 .result)
 second-is c =
     let after-unpack-tags : tie.After-unpack-tags = search in
     sym (rw (after-unpack-tags .unpack-tags .ensures) at (c .relative-decode2 .ensures))
 
-second-value : (c : tie.After-known-told2) → let a = known-told2-start c .args in readNumber (a .canonic) 4 (unpackTags (getD (now (a .message)) (a .start) 0) .count) (drop (a .start + 1 + known-told2-number c .number .given .0 .1 .0) (now (a .message))) ≡ accepted (c .before .number2 .given .0 .0) (c .before .number2 .given .0 .1 .0)
+second-value : (c : tie.After-known-told2) → let a = known-told2-start c .args in
+    readNumber (a .canonic) 4 (unpackTags (getD (now (a .message)) (a .start) 0) .count) (drop (a .start + 1 + known-told2-number c .number .given .0 .1 .0) (now (a .message)))
+    ≡ accepted (c .before .number2 .given .0 .0) (c .before .number2 .given .0 .1 .0)
 second-value c =
     let after-relative-decode2 : tie.After-relative-decode2 = search in
     second-is after-relative-decode2 ∙ ap numberAnswer (c .before .number2 .given .1)
 
-second-inside : (c : tie.After-known-told2) → known-told2-start c .args .start + 1 + known-told2-number c .number .given .0 .1 .0 + c .before .number2 .given .0 .1 .0 ≤ length (now (known-told2-start c .args .message))
+second-inside : (c : tie.After-known-told2)
+    → known-told2-start c .args .start + 1 + known-told2-number c .number .given .0 .1 .0 + c .before .number2 .given .0 .1 .0 ≤ length (now (known-told2-start c .args .message))
 second-inside c =
     let after-known-told : tie.After-known-told = search in
     let after-number : tie.After-number = search in
@@ -75,7 +84,8 @@ returns-3 c =
     let start : tie.Start = search in
     let a = start .args in
     let x = no-number (c .before .before .relative-decode2 .result) (c .before .match2 .keys2) in
-    rw (c .number-refusal2 .ensures) (x .sizes ∙ sym (sizes-second (a .canonic) (now (a .message)) (a .start) (else1 .if1 .left) _ _ (first-value after-known-told) (x .why) (second-is (c .before .before) ∙ x .number)))
+    rw (c .number-refusal2 .ensures)
+    (x .sizes ∙ sym (sizes-second (a .canonic) (now (a .message)) (a .start) (else1 .if1 .left) _ _ (first-value after-known-told) (x .why) (second-is (c .before .before) ∙ x .number)))
 
 add-t12 : tie.Need-add-t12
 add-t12 c =

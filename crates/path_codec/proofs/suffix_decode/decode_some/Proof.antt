@@ -20,7 +20,9 @@ abbrev known-told-start : tie.After-known-told Inv-loop μ-loop → tie.Start In
 known-told-start c = c .before .before .before .before .before .before .before .before .before
 
 -- the component that was read
-reads-part : (c : tie.After-known-told Inv-loop μ-loop) → let p = c .before .component .given .0 in ReadsSized (known-told-start c .args .canonic) (now (known-told-start c .args .message)) (c .before .before .before .before .before .loop .at) (component.Bytes (p .0) (p .1 .0))
+reads-part : (c : tie.After-known-told Inv-loop μ-loop) → let p = c .before .component .given .0 in
+    ReadsSized (known-told-start c .args .canonic) (now (known-told-start c .args .message)) (c .before .before .before .before .before .loop .at)
+    (component.Bytes (p .0) (p .1 .0))
 reads-part c =
     let after-decode-sized : tie.After-decode-sized Inv-loop μ-loop = search in
     let at-loop : tie.At-loop Inv-loop μ-loop = search in

@@ -55,12 +55,14 @@ total-sum c =
     let s : tie.Start = search in
     total-is (prefix s) (parts-formed (s .pre)) ∙ sym (c .sum .ensures)
 
-total-fits : (c : tie.Else1) → totalOf (componentsOf (prefix (c .before .before .before .before .before .before .before .before .before .before))) + c .before .before .before .before .sizes .given .0 .0 ≤ 600
+total-fits : (c : tie.Else1)
+    → totalOf (componentsOf (prefix (c .before .before .before .before .before .before .before .before .before .before))) + c .before .before .before .before .sizes .given .0 .0 ≤ 600
 total-fits c = omega (arith, c .if1 .left, total-small (c .before), total-sum (c .before))
 
 -- what follows the sizes
 after : (c : tie.After-decode-after) → let s = decode-after-start c in let h = decode-after-sizes c .sizes .given .0 in
-    GivesPath (c .decode-after .result) (readAfter (s .args .canonic) (used (prefix s)) (take (sumOf (used (prefix s))) (now (s .args .bytes))) (h .0) (h .1 .0) (drop (s .args .start + h .1 .1 .0) (now (s .args .message))))
+    GivesPath (c .decode-after .result)
+    (readAfter (s .args .canonic) (used (prefix s)) (take (sumOf (used (prefix s))) (now (s .args .bytes))) (h .0) (h .1 .0) (drop (s .args .start + h .1 .1 .0) (now (s .args .message))))
 after c =
     let after-sum : tie.After-sum = search in
     let after-sizes : tie.After-sizes = search in
@@ -70,21 +72,25 @@ after c =
 
 extends-at : (c : tie.After-decode-after) → let s = decode-after-start c in let h = decode-after-sizes c .sizes .given .0 in
     readExtendsPath (s .args .canonic) (prefix s) (drop (s .args .start) (now (s .args .message)))
-    ≡ shift (h .1 .1 .0) (readAfter (s .args .canonic) (used (prefix s)) (take (sumOf (used (prefix s))) (now (s .args .bytes))) (h .0) (h .1 .0) (drop (s .args .start + h .1 .1 .0) (now (s .args .message))))
+    ≡ shift (h .1 .1 .0) (readAfter (s .args .canonic) (used (prefix s)) (take (sumOf (used (prefix s))) (now (s .args .bytes))) (h .0) (h .1 .0)
+    (drop (s .args .start + h .1 .1 .0) (now (s .args .message))))
 extends-at c =
     let else2 : tie.Else2 = search in
     let else1 : tie.Else1 = search in
     let after-known-told : tie.After-known-told = search in
     let after-shared-slice-known : tie.After-shared-slice-known = search in
     let s : tie.Start = search in
-    extends-after _ (prefix s) (s .pre) (now (s .args .message)) (s .args .start) _ _ _ (sizes-are after-known-told) (λ i. omega (arith, after-shared-slice-known .shared-slice-known .given i)) (total-fits else1) (omega (arith, else2 .if2 .left, parts-formed (s .pre) .well .count))
+    extends-after _ (prefix s) (s .pre) (now (s .args .message)) (s .args .start) _ _ _ (sizes-are after-known-told)
+    (λ i. omega (arith, after-shared-slice-known .shared-slice-known .given i)) (total-fits else1)
+    (omega (arith, else2 .if2 .left, parts-formed (s .pre) .well .count))
 
 returns : tie.Need-returns
 returns c =
     let after-decode-sizes : tie.After-decode-sizes = search in
     let s : tie.Start = search in
     let x = no-sizes (after-decode-sizes .decode-sizes .result) (c .before .before .match .keys2) in
-    rw (c .refuse .ensures, c .before .sizes-refusal .ensures) (gives-refused (x .why) (x .path) (extends-sizes _ (prefix s) (s .pre) (now (s .args .message)) (s .args .start) (x .why) (sym (after-decode-sizes .decode-sizes .ensures) ∙ x .sizes)))
+    rw (c .refuse .ensures, c .before .sizes-refusal .ensures)
+    (gives-refused (x .why) (x .path) (extends-sizes _ (prefix s) (s .pre) (now (s .args .message)) (s .args .start) (x .why) (sym (after-decode-sizes .decode-sizes .ensures) ∙ x .sizes)))
 
 slice-aggregate-sum : tie.Need-slice-aggregate-sum
 slice-aggregate-sum c =
@@ -104,7 +110,11 @@ returns-2 c =
     let after-known-told : tie.After-known-told = search in
     let after-shared-slice-known : tie.After-shared-slice-known = search in
     let s : tie.Start = search in
-    rw (extends-long _ (prefix s) (s .pre) (now (s .args .message)) (s .args .start) _ _ _ (sizes-are after-known-told) (λ i. omega (arith, after-shared-slice-known .shared-slice-known .given i)) (omega (arith, c .before .if1 .taken, total-small (c .before .before), total-sum (c .before .before)))) (c .decode-outside .ensures)
+    rw
+    (extends-long _ (prefix s) (s .pre) (now (s .args .message)) (s .args .start) _ _ _ (sizes-are after-known-told)
+    (λ i. omega (arith, after-shared-slice-known .shared-slice-known .given i))
+    (omega (arith, c .before .if1 .taken, total-small (c .before .before), total-sum (c .before .before))))
+    (c .decode-outside .ensures)
 
 sub-if2 : tie.Need-sub-if2
 sub-if2 c =
@@ -116,7 +126,11 @@ returns-3 c =
     let after-known-told : tie.After-known-told = search in
     let after-shared-slice-known : tie.After-shared-slice-known = search in
     let s : tie.Start = search in
-    rw (extends-many _ (prefix s) (s .pre) (now (s .args .message)) (s .args .start) _ _ _ (sizes-are after-known-told) (λ i. omega (arith, after-shared-slice-known .shared-slice-known .given i)) (total-fits (c .before .before)) (omega (arith, c .before .if2 .taken, parts-formed (s .pre) .well .count))) (c .decode-outside2 .ensures)
+    rw
+    (extends-many _ (prefix s) (s .pre) (now (s .args .message)) (s .args .start) _ _ _ (sizes-are after-known-told)
+    (λ i. omega (arith, after-shared-slice-known .shared-slice-known .given i)) (total-fits (c .before .before))
+    (omega (arith, c .before .if2 .taken, parts-formed (s .pre) .well .count)))
+    (c .decode-outside2 .ensures)
 
 add-at : tie.Need-add-at
 add-at c =

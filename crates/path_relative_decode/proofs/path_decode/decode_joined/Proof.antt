@@ -26,7 +26,8 @@ inside c =
 
 -- the components that follow, after the reference's first
 after : (c : tie.After-decode-after) → let a = c .before .before .before .before .before .before .before .before .args in
-    GivesPath (c .decode-after .result) (readAfter (a .canonic) (take (a .k) (now (a .lengths))) (take (sumOf (take (a .k) (now (a .lengths)))) (now (a .bytes))) (a .total) (a .more) (now (a .message)))
+    GivesPath (c .decode-after .result)
+    (readAfter (a .canonic) (take (a .k) (now (a .lengths))) (take (sumOf (take (a .k) (now (a .lengths)))) (now (a .bytes))) (a .total) (a .more) (now (a .message)))
 after c =
     let after-sum : tie.After-sum = search in
     rw (after-sum .sum .ensures) at (c .decode-after .ensures)
@@ -50,7 +51,9 @@ read c =
     let after-shared-slice-known2 : tie.After-shared-slice-known2 = search in
     let after-shared-slice-known : tie.After-shared-slice-known = search in
     let s : tie.Start = search in
-    lead-read (reference s) (s .pre .formed) (s .args .k) (s .pre .there) _ _ _ _ _ _ (λ i. omega (arith, after-shared-slice-known2 .shared-slice-known2 .given i)) (λ i. omega (arith, after-shared-slice-known .shared-slice-known .given i)) (taken c)
+    lead-read (reference s) (s .pre .formed) (s .args .k) (s .pre .there) _ _ _ _ _ _
+    (λ i. omega (arith, after-shared-slice-known2 .shared-slice-known2 .given i))
+    (λ i. omega (arith, after-shared-slice-known .shared-slice-known .given i)) (taken c)
 
 -- strictly, the shared count decides
 judged : (c : tie.After-enum-told) → let s = enum-told-start c in let p = enum-told-decode-after c .decode-after .result .path in
@@ -114,7 +117,11 @@ same-component-requires c κs =
     let after-sum : tie.After-sum = search in
     let s : tie.Start = search in
     let x = read after-enum-told in
-    rw (after-sum .sum .ensures) (stands-here (reference s) (s .pre .formed) _ (s .pre .there) _ x (else2 .if2 .left), stands-read (reference s) (s .pre .formed) _ (s .pre .there) _ x (else2 .if2 .left) (else3 .if3 .left))
+    rw (after-sum .sum .ensures) (
+      stands-here (reference s) (s .pre .formed) _ (s .pre .there) _ x (else2 .if2 .left),
+      stands-read (reference s) (s .pre .formed) _ (s .pre .there) _ x
+          (else2 .if2 .left) (else3 .if3 .left),
+    )
 
 returns-5 : tie.Need-returns-5
 returns-5 c =

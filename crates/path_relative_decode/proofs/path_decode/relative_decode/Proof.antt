@@ -78,7 +78,8 @@ sizes-are c =
     let after-decode-sizes : tie.After-decode-sizes = search in
     sym (after-decode-sizes .decode-sizes .ensures) ∙ ap sizesAnswer (c .before .sizes .given .1)
 
-begins : (c : tie.After-known-told2) → known-told2-start c .args .start + known-told2-number c .number .given .0 .1 .0 + c .before .sizes .given .0 .1 .1 .0 ≤ length (now (known-told2-start c .args .message))
+begins : (c : tie.After-known-told2)
+    → known-told2-start c .args .start + known-told2-number c .number .given .0 .1 .0 + c .before .sizes .given .0 .1 .1 .0 ≤ length (now (known-told2-start c .args .message))
 begins c =
     let after-number : tie.After-number = search in
     let start : tie.Start = search in
@@ -104,12 +105,20 @@ joined-at c =
     let s : tie.Start = search in
     against-joined _ (reference s) (well else1) (now (s .args .message)) (s .args .start) _ _ (shared-are after-known-told) _ _ _ (sizes-are after-known-told2)
 
-inside : (c : tie.After-path) → path-start c .args .start + path-number c .number .given .0 .1 .0 + path-sizes c .sizes .given .0 .1 .1 .0 + c .before .before .answer .given .0 .0 ≤ length (now (path-start c .args .message))
+inside : (c : tie.After-path)
+    → path-start c .args .start + path-number c .number .given .0 .1 .0 + path-sizes c .sizes .given .0 .1 .1 .0 + c .before .before .answer .given .0 .0
+    ≤ length (now (path-start c .args .message))
 inside c =
     let s = path-start c in
     let at = s .args .start + path-number c .number .given .0 .1 .0 + path-sizes c .sizes .given .0 .1 .1 .0 in
     let e = sym (joined-are (path-decode-joined c) .answer) ∙ ap (λ (d : Decoded). answerOf d (path-decode-joined c .decode-joined .result .path)) (c .before .before .answer .given .1) in
-    omega (arith, begins (c .before .before .before .before .before .before .before), joined-bounded (s .args .canonic) (reference s) _ _ _ .bound (drop at (now (s .args .message))) _ _ e, length-drop at (now (s .args .message)))
+    omega (
+      arith,
+      begins (c .before .before .before .before .before .before .before),
+      joined-bounded (s .args .canonic) (reference s) _ _ _ .bound
+          (drop at (now (s .args .message))) _ _ e,
+      length-drop at (now (s .args .message)),
+    )
 
 returns : tie.Need-returns
 returns c = rw (c .refuse .ensures) (gives-refused 5 refl (against-malformed _ _ _ (sym (c .before .before .well-formed .ensures) ∙ not-true _ (c .before .if1 .taken))))
@@ -120,7 +129,8 @@ returns-2 c =
     let else1 : tie.Else1 = search in
     let s : tie.Start = search in
     let x = refused-number (pathFrom []) (after-decode .decode .result) (c .before .before .match .keys2) in
-    rw (c .refuse2 .ensures, c .before .refusal .ensures) (gives-refused (x .why) (x .whole) (against-first _ (reference s) (well else1) (now (s .args .message)) (s .args .start) (x .why) (sym (after-decode .decode .ensures) ∙ x .number)))
+    rw (c .refuse2 .ensures, c .before .refusal .ensures)
+    (gives-refused (x .why) (x .whole) (against-first _ (reference s) (well else1) (now (s .args .message)) (s .args .start) (x .why) (sym (after-decode .decode .ensures) ∙ x .number)))
 
 add-first : tie.Need-add-first
 add-first c = omega (arith, first-inside c)
@@ -132,7 +142,10 @@ returns-3 c =
     let else1 : tie.Else1 = search in
     let s : tie.Start = search in
     let x = no-sizes (after-decode-sizes .decode-sizes .result) (c .before .before .match2 .keys2) in
-    rw (c .refuse3 .ensures, c .before .sizes-refusal .ensures) (gives-refused (x .why) (x .path) (against-sizes _ (reference s) (well else1) (now (s .args .message)) (s .args .start) _ _ (shared-are after-known-told) (x .why) (sym (after-decode-sizes .decode-sizes .ensures) ∙ x .sizes)))
+    rw (c .refuse3 .ensures, c .before .sizes-refusal .ensures)
+    (gives-refused (x .why) (x .path)
+    (against-sizes _ (reference s) (well else1) (now (s .args .message)) (s .args .start) _ _ (shared-are after-known-told) (x .why)
+    (sym (after-decode-sizes .decode-sizes .ensures) ∙ x .sizes)))
 
 returns-4 : tie.Need-returns-4
 returns-4 c =
@@ -140,7 +153,9 @@ returns-4 c =
     let else1 : tie.Else1 = search in
     let s : tie.Start = search in
     let w = well else1 in
-    rw (c .refuse4 .ensures) (gives-refused 2 refl (against-above _ (reference s) w (now (s .args .message)) (s .args .start) _ _ (shared-are after-known-told) _ _ _ (sizes-are (c .before .before)) (omega (arith, c .before .if2 .taken, count-is (reference s) (parts-formed w)))))
+    rw (c .refuse4 .ensures) (gives-refused 2 refl
+    (against-above _ (reference s) w (now (s .args .message)) (s .args .start) _ _ (shared-are after-known-told) _ _ _ (sizes-are (c .before .before))
+    (omega (arith, c .before .if2 .taken, count-is (reference s) (parts-formed w)))))
 
 add-at : tie.Need-add-at
 add-at c = omega (arith, begins (c .before))

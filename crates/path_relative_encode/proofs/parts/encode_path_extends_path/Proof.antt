@@ -26,12 +26,14 @@ returns c =
 returns-2 : tie.Need-returns-2
 returns-2 c =
     let s : tie.Start = search in
-    put-barred (extendsPath (reference s) .check (path s)) _ (now (s .args .buffer)) 3 (extends-outside (reference s) (path s) (sym (c .before .before .is-prefix-of .ensures) ∙ c .enum-told2 .given .1))
+    put-barred (extendsPath (reference s) .check (path s)) _ (now (s .args .buffer)) 3
+    (extends-outside (reference s) (path s) (sym (c .before .before .is-prefix-of .ensures) ∙ c .enum-told2 .given .1))
 
 returns-3 : tie.Need-returns-3
 returns-3 c =
     let s : tie.Start = search in
-    put-barred (extendsPath (reference s) .check (path s)) _ (now (s .args .buffer)) 5 (extends-malformed (reference s) (path s) (sym (c .before .before .is-prefix-of .ensures) ∙ c .enum-told3 .given .1))
+    put-barred (extendsPath (reference s) .check (path s)) _ (now (s .args .buffer)) 5
+    (extends-malformed (reference s) (path s) (sym (c .before .before .is-prefix-of .ensures) ∙ c .enum-told3 .given .1))
 
 pub encode-path-extends-path-spec : {M : Type 1} → statement M
 encode-path-extends-path-spec =

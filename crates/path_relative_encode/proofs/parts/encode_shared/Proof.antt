@@ -20,7 +20,9 @@ known-told-start c = c .before .before .before .before .before .before .before .
 
 -- what the suffix was answered
 answer-of : (c : tie.After-known-told)
-    → writeAnswer (suffixFrom (known-told-start c .args .k)) (path (known-told-start c)) (length (drop (c .before .before .before .before .before .before .before .before .len-of-encoding .result) (now (known-told-start c .args .buffer)))) ≡ wrote (c .before .suffix .given .0 .0)
+    → writeAnswer (suffixFrom (known-told-start c .args .k)) (path (known-told-start c))
+    (length (drop (c .before .before .before .before .before .before .before .before .len-of-encoding .result) (now (known-told-start c .args .buffer))))
+    ≡ wrote (c .before .suffix .given .0 .0)
 answer-of c =
     let after-encode-suffix : tie.After-encode-suffix = search in
     let after-len-of-encoding : tie.After-len-of-encoding = search in
@@ -49,7 +51,8 @@ returns-2 c =
     let none = no-length (w .result) (c .match .keys2) in
     let answer = rw (to-end (n .result) l) at (w .ensures .0) in
     let bytes = rw (to-end (n .result) l) at (w .ensures .1) in
-    let done = rest-denied (standaloneBytes (s .args .k)) (f .encode (path s)) l (n .result) (n .ensures .0) (else1 .if1 .left) (f .check (path s)) (none .why) (w .last .0) (sym answer ∙ none .is) bytes in
+    let done = rest-denied (standaloneBytes (s .args .k)) (f .encode (path s)) l (n .result) (n .ensures .0) (else1 .if1 .left) (f .check (path s))
+    (none .why) (w .last .0) (sym answer ∙ none .is) bytes in
     (none .is ∙ done .0, put-end (n .result) l (w .last .0) ∙ done .1)
 
 add-t11 : tie.Need-add-t11

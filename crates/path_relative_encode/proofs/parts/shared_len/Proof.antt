@@ -19,7 +19,8 @@ known-told-start c = c .before .before .before .before .before .before
 
 -- the suffix's length
 suffix-is : (c : tie.After-known-told)
-    → (suffixFrom (known-told-start c .args .k) .check (path (known-told-start c)) ≡ allowed) × (c .before .suffix .given .0 .0 ≡ length (suffixFrom (known-told-start c .args .k) .encode (path (known-told-start c))))
+    → (suffixFrom (known-told-start c .args .k) .check (path (known-told-start c)) ≡ allowed)
+    × (c .before .suffix .given .0 .0 ≡ length (suffixFrom (known-told-start c .args .k) .encode (path (known-told-start c))))
 suffix-is c =
     let after-suffix-len : tie.After-suffix-len = search in
     let start : tie.Start = search in

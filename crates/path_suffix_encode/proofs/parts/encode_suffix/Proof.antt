@@ -115,7 +115,11 @@ put-suffix-requires c κs =
     let f = here else1 in
     let at = after-total-of .total-of in
     let tail = to-end (at .result) (now (s .args .bytes)) in
-    rw (tail, at .ensures) (suffix-there (path s) f (s .args .k) (else2 .if2 .left), rw (← (suffix-cut (path s) f (s .args .k) (else2 .if2 .left))) (omega (arith, long after-len-of, else3 .if3 .left)))
+    rw (tail, at .ensures) (
+      suffix-there (path s) f (s .args .k) (else2 .if2 .left),
+      rw (← (suffix-cut (path s) f (s .args .k) (else2 .if2 .left)))
+          (omega (arith, long after-len-of, else3 .if3 .left)),
+    )
 
 returns-4 : tie.Need-returns-4
 returns-4 c =

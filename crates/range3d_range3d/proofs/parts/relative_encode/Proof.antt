@@ -9,14 +9,23 @@ use Rattle.range3d_range3d.proofs.parts.relative_encode.Statement.{stat
 use Rattle.range3d_range3d.proofs.parts.relative_encode.Tie as tie
 
 abbrev value : tie.Start → Range3d
-value c = let a = c .args in rangeWith (a .subspaces) (pathsWith (pathOf (now (a .start-bytes)) (now (a .start-lengths)) (a .start-count)) (a .end-open) (pathOf (now (a .end-bytes)) (now (a .end-lengths)) (a .end-count))) (a .times)
+value c =
+    let a = c .args in
+    rangeWith (a .subspaces)
+    (pathsWith (pathOf (now (a .start-bytes)) (now (a .start-lengths)) (a .start-count)) (a .end-open) (pathOf (now (a .end-bytes)) (now (a .end-lengths)) (a .end-count)))
+    (a .times)
 
 abbrev known : tie.Start → Range3d
 known c =
     let a = c .args in
-    rangeWith (a .of-subspaces) (pathsWith (pathOf (now (a .of-start-bytes)) (now (a .of-start-lengths)) (a .of-start-count)) (a .of-end-open) (pathOf (now (a .of-end-bytes)) (now (a .of-end-lengths)) (a .of-end-count))) (a .of-times)
+    rangeWith (a .of-subspaces)
+    (pathsWith (pathOf (now (a .of-start-bytes)) (now (a .of-start-lengths)) (a .of-start-count)) (a .of-end-open) (pathOf (now (a .of-end-bytes)) (now (a .of-end-lengths)) (a .of-end-count)))
+    (a .of-times)
 
-paths-are : (c : tie.After-known-told) → let s = c .before .before .before .before .before .before .before .before .before .before .before .before .before in Measures (known s) (value s) (c .before .measured .given .0 .0) (c .before .measured .given .0 .1 .0) (c .before .measured .given .0 .1 .1 .0) (c .before .measured .given .0 .1 .1 .1 .0) (c .before .measured .given .0 .1 .1 .1 .1 .0)
+paths-are : (c : tie.After-known-told)
+    → let s = c .before .before .before .before .before .before .before .before .before .before .before .before .before in
+    Measures (known s) (value s) (c .before .measured .given .0 .0) (c .before .measured .given .0 .1 .0) (c .before .measured .given .0 .1 .1 .0)
+    (c .before .measured .given .0 .1 .1 .1 .0) (c .before .measured .given .0 .1 .1 .1 .1 .0)
 paths-are c =
     let after-measure : tie.After-measure = search in
     let s : tie.Start = search in

@@ -17,14 +17,19 @@ use Rattle.range3d_range3d.proofs.range_decode.decode_parts.Statement.{
 use Rattle.range3d_range3d.proofs.range_decode.decode_parts.Tie as tie
 
 abbrev known : tie.Start → Range3d
-known s = let a = s .args in rangeWith (a .of-subspaces) (pathsWith (pathOf (now (a .of-start-bytes)) (now (a .of-start-lengths)) (a .of-start-count)) (a .of-end-open) (pathOf (now (a .of-end-bytes)) (now (a .of-end-lengths)) (a .of-end-count))) (a .of-times)
+known s =
+    let a = s .args in
+    rangeWith (a .of-subspaces)
+    (pathsWith (pathOf (now (a .of-start-bytes)) (now (a .of-start-lengths)) (a .of-start-count)) (a .of-end-open) (pathOf (now (a .of-end-bytes)) (now (a .of-end-lengths)) (a .of-end-count)))
+    (a .of-times)
 
 -- earlier places
 abbrev known-told-start : tie.After-known-told → tie.Start
 known-told-start c = c .before .before .before .before .before .before .before .before .before
 
 ids-are : (c : tie.After-known-told) → let s = known-told-start c in
-    mapped subspacesFrom (readSubspaces (subspacesOf (s .args .of-subspaces)) (sourcesIn (s .args .header))) (now (s .args .message)) ≡ accepted (c .before .before .before .relative-decode .result .subspaces) (c .before .first-answer .given .0 .0)
+    mapped subspacesFrom (readSubspaces (subspacesOf (s .args .of-subspaces)) (sourcesIn (s .args .header))) (now (s .args .message))
+    ≡ accepted (c .before .before .before .relative-decode .result .subspaces) (c .before .first-answer .given .0 .0)
 ids-are c =
     let after-relative-decode : tie.After-relative-decode = search in
     sym (after-relative-decode .relative-decode .ensures .answer) ∙ ap (λ (d : Decoded). answerOf d (after-relative-decode .relative-decode .result .subspaces)) (c .before .first-answer .given .1)
@@ -34,8 +39,11 @@ ids-in c =
     let s : tie.Start = search in
     subspaces-inside (known s) (s .args .header) (s .args .times) (now (s .args .message)) _ _ (ids-are c)
 
-rest-told : (c : tie.After-decode-rest) → let s = c .before .before .before .before .before .before .before .before .before .before .before .before in let a = c .before .before .before .before .first-answer .given .0 .0 in
-    GivesRange (c .decode-rest .result) (shift 2 (shift a (readRestOf (c .before .before .before .before .before .before .relative-decode .result .subspaces) (known s .paths) (s .args .of-times) (s .args .header) (s .args .times) (drop a (now (s .args .message))))))
+rest-told : (c : tie.After-decode-rest) → let s = c .before .before .before .before .before .before .before .before .before .before .before .before in
+    let a = c .before .before .before .before .first-answer .given .0 .0 in
+    GivesRange (c .decode-rest .result)
+    (shift 2 (shift a (readRestOf (c .before .before .before .before .before .before .relative-decode .result .subspaces) (known s .paths)
+    (s .args .of-times) (s .args .header) (s .args .times) (drop a (now (s .args .message))))))
 rest-told c =
     let after-first-answer : tie.After-first-answer = search in
     let start : tie.Start = search in
@@ -45,7 +53,11 @@ returns : tie.Need-returns
 returns c =
     let s : tie.Start = search in
     let x = no-value (c .before .before .relative-decode .result .answer) (c .before .match .keys2) in
-    rw (c .refuse-early .ensures) (gives-early (known s .paths) _ (x .why) _ (x .beside _) (λ w. ap (shift 2) (parts-malformed (known s) (s .args .header) (s .args .times) (now (s .args .message)) w)) (λ w. ap (shift 2) (parts-subspaces (known s) (s .args .header) (s .args .times) (now (s .args .message)) (x .why) (sym (c .before .before .relative-decode .ensures .answer) ∙ x .beside _) w)))
+    rw (c .refuse-early .ensures)
+    (gives-early (known s .paths) _ (x .why) _ (x .beside _)
+    (λ w. ap (shift 2) (parts-malformed (known s) (s .args .header) (s .args .times) (now (s .args .message)) w))
+    (λ w. ap (shift 2) (parts-subspaces (known s) (s .args .header) (s .args .times) (now (s .args .message)) (x .why)
+    (sym (c .before .before .relative-decode .ensures .answer) ∙ x .beside _) w)))
 
 sub-decode-rest : tie.Need-sub-decode-rest
 sub-decode-rest c = ids-in (c .before)

@@ -13,7 +13,11 @@ use Rattle.range3d_range3d.proofs.range_decode.decode_range.Statement.{
 use Rattle.range3d_range3d.proofs.range_decode.decode_range.Tie as tie
 
 abbrev known : tie.Start → Range3d
-known s = let a = s .args in rangeWith (a .of-subspaces) (pathsWith (pathOf (now (a .of-start-bytes)) (now (a .of-start-lengths)) (a .of-start-count)) (a .of-end-open) (pathOf (now (a .of-end-bytes)) (now (a .of-end-lengths)) (a .of-end-count))) (a .of-times)
+known s =
+    let a = s .args in
+    rangeWith (a .of-subspaces)
+    (pathsWith (pathOf (now (a .of-start-bytes)) (now (a .of-start-lengths)) (a .of-start-count)) (a .of-end-open) (pathOf (now (a .of-end-bytes)) (now (a .of-end-lengths)) (a .of-end-count)))
+    (a .of-times)
 
 -- what the language says of the message
 short : (s : tie.Start) → length (now (s .args .message)) < 2 ^ 64
@@ -28,7 +32,8 @@ parts-here s =
     let m = now (s .args .message) in
     readPartsOf (known s) (unpackHeader (getD m (s .args .start) 0)) (getD m (s .args .start + 1) 0) (drop (s .args .start + 1 + 1) m)
 
-parts-told : (c : tie.After-decode-parts) → GivesRange (c .decode-parts .result) (shift 2 (parts-here (c .before .before .before .before .before .before .before .before .before .before .before .before)))
+parts-told : (c : tie.After-decode-parts)
+    → GivesRange (c .decode-parts .result) (shift 2 (parts-here (c .before .before .before .before .before .before .before .before .before .before .before .before)))
 parts-told c =
     let after-unpack : tie.After-unpack = search in
     let start : tie.Start = search in
@@ -37,7 +42,9 @@ parts-told c =
 returns : tie.Need-returns
 returns c =
     let s : tie.Start = search in
-    rw (c .refuse-early .ensures) (gives-early (known s .paths) _ 1 _ refl (no-paths (known s) (s .pre) (now (s .args .message)) (s .args .start)) (range-short (known s) (s .pre) (now (s .args .message)) (s .args .start) (ltb-false _ _ (sym (c .before .before .has-header .ensures) ∙ not-true _ (c .before .if1 .taken)))))
+    rw (c .refuse-early .ensures)
+    (gives-early (known s .paths) _ 1 _ refl (no-paths (known s) (s .pre) (now (s .args .message)) (s .args .start))
+    (range-short (known s) (s .pre) (now (s .args .message)) (s .args .start) (ltb-false _ _ (sym (c .before .before .has-header .ensures) ∙ not-true _ (c .before .if1 .taken)))))
 
 shared-slice-read-unpack : tie.Need-shared-slice-read-unpack
 shared-slice-read-unpack c = omega (arith, whole (c .before))

@@ -16,7 +16,10 @@ use Rattle.range3d_range3d.proofs.range_decode.decode_rest.Statement.{s
 use Rattle.range3d_range3d.proofs.range_decode.decode_rest.Tie as tie
 
 abbrev known : tie.Start → PathRange
-known s = let a = s .args in pathsWith (pathOf (now (a .of-start-bytes)) (now (a .of-start-lengths)) (a .of-start-count)) (a .of-end-open) (pathOf (now (a .of-end-bytes)) (now (a .of-end-lengths)) (a .of-end-count))
+known s =
+    let a = s .args in
+    pathsWith (pathOf (now (a .of-start-bytes)) (now (a .of-start-lengths)) (a .of-start-count)) (a .of-end-open)
+    (pathOf (now (a .of-end-bytes)) (now (a .of-end-lengths)) (a .of-end-count))
 
 -- earlier places
 abbrev known-told2-first-answer : tie.After-known-told2 → tie.After-first-answer
@@ -29,7 +32,8 @@ abbrev known-told2-start : tie.After-known-told2 → tie.Start
 known-told2-start c = known-told-start (c .before .before .before .before .before)
 
 paths-are : (c : tie.After-known-told) → let s = known-told-start c in
-    readAgainstPaths (s .args .header .«path_end_open») (sidesIn (s .args .header)) (known s) (now (s .args .message)) ≡ accepted (c .before .before .before .relative-decode .result .paths) (c .before .first-answer .given .0 .0)
+    readAgainstPaths (s .args .header .«path_end_open») (sidesIn (s .args .header)) (known s) (now (s .args .message))
+    ≡ accepted (c .before .before .before .relative-decode .result .paths) (c .before .first-answer .given .0 .0)
 paths-are c =
     let after-relative-decode : tie.After-relative-decode = search in
     sym (after-relative-decode .relative-decode .ensures .answer) ∙ ap (λ (d : Decoded). answerOf d (after-relative-decode .relative-decode .result .paths)) (c .before .first-answer .given .1)
@@ -48,7 +52,8 @@ times-told c =
     rw (to-end (after-first-answer .first-answer .given .0 .0) (now (start .args .message))) at (c .relative-decode2 .ensures .answer)
 
 times-are : (c : tie.After-known-told2) → let s = known-told2-start c in
-    readTimes (s .args .of-times) (s .args .header .«times_end_open») (unpackTimes (s .args .times)) (drop (known-told2-first-answer c .first-answer .given .0 .0) (now (s .args .message))) ≡ accepted (c .before .before .before .relative-decode2 .result .times) (c .before .second-answer .given .0 .0)
+    readTimes (s .args .of-times) (s .args .header .«times_end_open») (unpackTimes (s .args .times)) (drop (known-told2-first-answer c .first-answer .given .0 .0) (now (s .args .message)))
+    ≡ accepted (c .before .before .before .relative-decode2 .result .times) (c .before .second-answer .given .0 .0)
 times-are c =
     let after-relative-decode2 : tie.After-relative-decode2 = search in
     sym (times-told after-relative-decode2) ∙ ap (λ (d : Decoded). answerOf d (after-relative-decode2 .relative-decode2 .result .times)) (c .before .second-answer .given .1)
@@ -64,7 +69,10 @@ unfolding refusal
 returns c =
     let s : tie.Start = search in
     let x = no-value (c .before .before .relative-decode .result .answer) (c .before .match .keys2) in
-    rw (c .refuse .ensures) (gives-refused (x .why) (x .beside _) (ap (λ y. shift 2 (shift (s .args .a) y)) (rest-paths (s .args .subspaces) (known s) (s .args .of-times) (s .args .header) (s .args .times) (now (s .args .message)) (x .why) (sym (c .before .before .relative-decode .ensures .answer) ∙ x .beside _))))
+    rw (c .refuse .ensures) (gives-refused (x .why) (x .beside _)
+    (ap (λ y. shift 2 (shift (s .args .a) y))
+    (rest-paths (s .args .subspaces) (known s) (s .args .of-times) (s .args .header) (s .args .times) (now (s .args .message)) (x .why)
+    (sym (c .before .before .relative-decode .ensures .answer) ∙ x .beside _))))
 
 sub-relative-decode : tie.Need-sub-relative-decode
 sub-relative-decode c = paths-in c
@@ -78,7 +86,10 @@ returns-2 c =
     let after-known-told : tie.After-known-told = search in
     let s : tie.Start = search in
     let x = no-value (c .before .before .relative-decode2 .result .answer) (c .before .match2 .keys2) in
-    rw (c .refuse2 .ensures) (gives-refused (x .why) (x .beside _) (ap (λ y. shift 2 (shift (s .args .a) y)) (rest-times (s .args .subspaces) (known s) (s .args .of-times) (s .args .header) (s .args .times) (now (s .args .message)) _ _ (paths-are after-known-told) (x .why) (sym (times-told (c .before .before)) ∙ x .beside _))))
+    rw (c .refuse2 .ensures) (gives-refused (x .why) (x .beside _)
+    (ap (λ y. shift 2 (shift (s .args .a) y))
+    (rest-times (s .args .subspaces) (known s) (s .args .of-times) (s .args .header) (s .args .times) (now (s .args .message)) _ _
+    (paths-are after-known-told) (x .why) (sym (times-told (c .before .before)) ∙ x .beside _))))
 
 add-t26 : tie.Need-add-t26
 add-t26 c =
@@ -99,7 +110,9 @@ returns-3 : tie.Need-returns-3
 returns-3 c =
     let after-known-told : tie.After-known-told = search in
     let s : tie.Start = search in
-    gives-accepted (ap (λ y. shift 2 (shift (s .args .a) y)) (rest-read (s .args .subspaces) (known s) (s .args .of-times) (s .args .header) (s .args .times) (now (s .args .message)) _ _ (paths-are after-known-told) _ _ (times-are (c .before .before))))
+    gives-accepted (ap (λ y. shift 2 (shift (s .args .a) y))
+    (rest-read (s .args .subspaces) (known s) (s .args .of-times) (s .args .header) (s .args .times) (now (s .args .message)) _ _
+    (paths-are after-known-told) _ _ (times-are (c .before .before))))
 
 pub decode-rest-spec : {M : Type 1} → statement M
 decode-rest-spec =

@@ -11,7 +11,9 @@ unfolding earlyRefusal
 returns c =
     let start : tie.Start = search in
     let a = start .args in
-    let e : wellFormedPaths (pathsWith (pathOf (now (a .of-start-bytes)) (now (a .of-start-lengths)) (a .of-start-count)) (a .of-end-open) (pathOf (now (a .of-end-bytes)) (now (a .of-end-lengths)) (a .of-end-count))) ≡ false = sym (c .before .before .well-formed .ensures) ∙ not-true _ (c .before .if1 .taken) in
+    let e : wellFormedPaths
+    (pathsWith (pathOf (now (a .of-start-bytes)) (now (a .of-start-lengths)) (a .of-start-count)) (a .of-end-open) (pathOf (now (a .of-end-bytes)) (now (a .of-end-lengths)) (a .of-end-count)))
+    ≡ false = sym (c .before .before .well-formed .ensures) ∙ not-true _ (c .before .if1 .taken) in
     rw e (c .refuse .ensures)
 
 returns-2 : tie.Need-returns-2
@@ -19,7 +21,9 @@ unfolding earlyRefusal
 returns-2 c =
     let start : tie.Start = search in
     let a = start .args in
-    let e : wellFormedPaths (pathsWith (pathOf (now (a .of-start-bytes)) (now (a .of-start-lengths)) (a .of-start-count)) (a .of-end-open) (pathOf (now (a .of-end-bytes)) (now (a .of-end-lengths)) (a .of-end-count))) ≡ true = sym (c .before .before .well-formed .ensures) ∙ not-false _ (c .before .if1 .left) in
+    let e : wellFormedPaths
+    (pathsWith (pathOf (now (a .of-start-bytes)) (now (a .of-start-lengths)) (a .of-start-count)) (a .of-end-open) (pathOf (now (a .of-end-bytes)) (now (a .of-end-lengths)) (a .of-end-count)))
+    ≡ true = sym (c .before .before .well-formed .ensures) ∙ not-false _ (c .before .if1 .left) in
     rw e (c .refuse2 .ensures)
 
 pub refuse-early-spec : {M : Type 1} → statement M

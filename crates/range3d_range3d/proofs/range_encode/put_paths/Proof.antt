@@ -14,14 +14,24 @@ abbrev paths : tie.Start → PathRange
 paths c = let a = c .args in pathsWith (pathOf (now (a .start-bytes)) (now (a .start-lengths)) (a .start-count)) (a .end-open) (pathOf (now (a .end-bytes)) (now (a .end-lengths)) (a .end-count))
 
 fits : (c : tie.Start) → let f = sharedFrom (c .args .start-shared) in
-    (wrote (length (f .encode (paths c .start))) ≡ writeAnswer f (paths c .start) (length (now (c .args .buffer)))) × (over (f .encode (paths c .start)) (now (c .args .buffer)) ≡ writeBuffer f (paths c .start) (now (c .args .buffer)))
+    (wrote (length (f .encode (paths c .start))) ≡ writeAnswer f (paths c .start) (length (now (c .args .buffer))))
+    × (over (f .encode (paths c .start)) (now (c .args .buffer)) ≡ writeBuffer f (paths c .start) (now (c .args .buffer)))
 fits c =
     let f = sharedFrom (c .args .start-shared) in
-    put-fits (f .check (paths c .start)) (f .encode (paths c .start)) (now (c .args .buffer)) (c .pre .0 .start) _ refl (omega (arith, c .pre .1, start-within (paths c) (c .args .start-shared) (c .args .end-shared)))
+    put-fits (f .check (paths c .start)) (f .encode (paths c .start)) (now (c .args .buffer)) (c .pre .0 .start) _ refl
+    (omega (arith, c .pre .1, start-within (paths c) (c .args .start-shared) (c .args .end-shared)))
 
 -- both have room
-room : (c : tie.Start) → c .args .end-open ≡ false → length (sharedFrom (c .args .start-shared) .encode (paths c .start)) + length (sharedFrom (c .args .end-shared) .encode (paths c .end)) ≤ length (now (c .args .buffer))
-room c o = omega (arith, c .pre .1, ap length (both-closed (paths c) (c .args .start-shared) (c .args .end-shared) o), length-append (sharedFrom (c .args .start-shared) .encode (paths c .start)) (sharedFrom (c .args .end-shared) .encode (paths c .end)))
+room : (c : tie.Start) → c .args .end-open ≡ false
+    → length (sharedFrom (c .args .start-shared) .encode (paths c .start)) + length (sharedFrom (c .args .end-shared) .encode (paths c .end)) ≤ length (now (c .args .buffer))
+room c o =
+    omega (
+      arith,
+      c .pre .1,
+      ap length (both-closed (paths c) (c .args .start-shared) (c .args .end-shared) o),
+      length-append
+          (sharedFrom (c .args .start-shared) .encode (paths c .start)) (sharedFrom (c .args .end-shared) .encode (paths c .end)),
+    )
 
 -- earlier places
 abbrev encode-shared-start : tie.After-encode-shared → tie.Start
@@ -38,7 +48,8 @@ there c =
     let start : tie.Start = search in
     c .encode-shared .ensures .1 ∙ sym (fits start .1)
 
-long : (c : tie.After-known-told) → let s = c .before .before .before .before .before .before .before .before .before .before .before .before in c .before .start .given .0 .0 ≡ length (sharedFrom (s .args .start-shared) .encode (paths s .start))
+long : (c : tie.After-known-told) → let s = c .before .before .before .before .before .before .before .before .before .before .before .before in
+    c .before .start .given .0 .0 ≡ length (sharedFrom (s .args .start-shared) .encode (paths s .start))
 long c =
     let after-encode-shared : tie.After-encode-shared = search in
     written-is _ _ (ap outcomeOf (sym (c .before .start .given .1)) ∙ answer after-encode-shared)
@@ -47,7 +58,11 @@ inside : (c : tie.Else1) → c .before .before .start .given .0 .0 ≤ length (c
 inside c =
     let after-encode-shared : tie.After-encode-shared = search in
     let s : tie.Start = search in
-    omega (arith, next-inside (now (s .args .buffer)) (sharedFrom (s .args .start-shared) .encode (paths s .start)) (sharedFrom (s .args .end-shared) .encode (paths s .end)) _ _ (there after-encode-shared) (long (c .before)) (room s (c .if1 .left)))
+    omega (
+      arith,
+      next-inside (now (s .args .buffer)) (sharedFrom (s .args .start-shared) .encode (paths s .start))
+          (sharedFrom (s .args .end-shared) .encode (paths s .end)) _ _ (there after-encode-shared) (long (c .before)) (room s (c .if1 .left)),
+    )
 
 returns : tie.Need-returns
 returns c =
@@ -75,7 +90,9 @@ returns-3 c =
     let s : tie.Start = search in
     let w = c .before .before .encode-shared2 in
     let o = else1 .if1 .left in
-    put-next (now (s .args .buffer)) (sharedFrom (s .args .start-shared) .encode (paths s .start)) (sharedFrom (s .args .end-shared) .encode (paths s .end)) _ _ (there after-encode-shared) (long after-known-told) (room s o) (w .last .0) (rw (s .pre .0 .end o) at (w .ensures .1))
+    put-next (now (s .args .buffer)) (sharedFrom (s .args .start-shared) .encode (paths s .start))
+    (sharedFrom (s .args .end-shared) .encode (paths s .end)) _ _ (there after-encode-shared) (long after-known-told) (room s o) (w .last .0)
+    (rw (s .pre .0 .end o) at (w .ensures .1))
     ∙ ap (λ (bs : List ℕ). over bs (now (s .args .buffer))) (both-closed (paths s) (s .args .start-shared) (s .args .end-shared) o)
 
 pub put-paths-spec : {M : Type 1} → statement M

@@ -13,7 +13,11 @@ use Rattle.range3d_range3d.proofs.range_encode.put_range.Statement.{sta
 use Rattle.range3d_range3d.proofs.range_encode.put_range.Tie as tie
 
 abbrev value : tie.Start → Range3d
-value c = let a = c .args in rangeWith (a .subspaces) (pathsWith (pathOf (now (a .start-bytes)) (now (a .start-lengths)) (a .start-count)) (a .end-open) (pathOf (now (a .end-bytes)) (now (a .end-lengths)) (a .end-count))) (a .times)
+value c =
+    let a = c .args in
+    rangeWith (a .subspaces)
+    (pathsWith (pathOf (now (a .start-bytes)) (now (a .start-lengths)) (a .start-count)) (a .end-open) (pathOf (now (a .end-bytes)) (now (a .end-lengths)) (a .end-count)))
+    (a .times)
 
 abbrev whole : tie.Start → List ℕ
 whole c = let a = c .args in measuredBytes (a .of-subspaces) (a .of-times) (value c) (a .start-from-start) (a .start-shared) (a .end-from-start) (a .end-shared)
@@ -30,10 +34,16 @@ paths c = bothBytes (value c .paths) (c .args .start-shared) (c .args .end-share
 abbrev times : tie.Start → List ℕ
 times c = timesBytes (c .args .of-times) (c .args .times)
 
-long : (c : tie.After-relative-len-of-encoding2) → let s = c .before .before .before .before .before .before .before in 2 + c .before .relative-len-of-encoding .result + s .args .paths-len + c .relative-len-of-encoding2 .result ≡ length (whole s)
+long : (c : tie.After-relative-len-of-encoding2) → let s = c .before .before .before .before .before .before .before in
+    2 + c .before .relative-len-of-encoding .result + s .args .paths-len + c .relative-len-of-encoding2 .result ≡ length (whole s)
 long c =
     let s : tie.Start = search in
-    omega (arith, measured-long (s .args .of-subspaces) (s .args .of-times) (value s) (s .args .start-from-start) (s .args .start-shared) (s .args .end-from-start) (s .args .end-shared) _ _ _ (c .before .relative-len-of-encoding .ensures .0) (s .pre .1) (c .relative-len-of-encoding2 .ensures .0))
+    omega (
+      arith,
+      measured-long (s .args .of-subspaces) (s .args .of-times) (value s) (s .args .start-from-start) (s .args .start-shared)
+          (s .args .end-from-start) (s .args .end-shared) _ _ _ (c .before .relative-len-of-encoding .ensures .0) (s .pre .1)
+          (c .relative-len-of-encoding2 .ensures .0),
+    )
 
 -- earlier places
 abbrev else1-start : tie.Else1 → tie.Start
@@ -66,10 +76,14 @@ room-times c =
     omega (arith, length-append (head s ++ subspaces s) (paths s), length-append (head s) (subspaces s), room c)
 
 -- what stands in the buffer after the head, the subspaces and the paths
-one : (c : tie.After-slice-known2) → let s = c .before .before .before .before .before .before .before .before .before .before .before .before in c .before .before .put-head .last .0 ≡ over (head s) (now (s .args .buffer))
+one : (c : tie.After-slice-known2) → let s = c .before .before .before .before .before .before .before .before .before .before .before .before in
+    c .before .before .put-head .last .0 ≡ over (head s) (now (s .args .buffer))
 one c = c .before .before .put-head .ensures
 
-two : (c : tie.After-slice-known3) → let s = c .before .before .before .before .before .before .before .before .before .before .before .before .before .before .before .before in let x = c .before .before .before .before .before .before .put-head .last .0 in putMid 2 (length x - 2) x (c .before .before .relative-encode .last .0) ≡ over (head s ++ subspaces s) (now (s .args .buffer))
+two : (c : tie.After-slice-known3)
+    → let s = c .before .before .before .before .before .before .before .before .before .before .before .before .before .before .before .before in
+    let x = c .before .before .before .before .before .before .put-head .last .0 in
+    putMid 2 (length x - 2) x (c .before .before .relative-encode .last .0) ≡ over (head s ++ subspaces s) (now (s .args .buffer))
 two c =
     let after-slice-known2 : tie.After-slice-known2 = search in
     let else1 : tie.Else1 = search in
@@ -77,7 +91,11 @@ two c =
     let w = c .before .before .relative-encode in
     put-next (now (s .args .buffer)) (head s) (subspaces s) _ 2 (one after-slice-known2) refl (omega (arith, room else1)) (w .last .0) (w .ensures .1)
 
-three : (c : tie.After-slice-known4) → let s = c .before .before .before .before .before .before .before .before .before .before .before .before .before .before .before .before .before .before .before .before in let x = c .before .before .before .before .before .before .before .before .before .before .put-head .last .0 in let y = putMid 2 (length x - 2) x (c .before .before .before .before .before .before .relative-encode .last .0) in let n = 2 + c .before .before .before .before .before .before .before .before .before .before .before .before .before .before .relative-len-of-encoding .result in
+three : (c : tie.After-slice-known4)
+    → let s = c .before .before .before .before .before .before .before .before .before .before .before .before .before .before .before .before .before .before .before .before in
+    let x = c .before .before .before .before .before .before .before .before .before .before .put-head .last .0 in
+    let y = putMid 2 (length x - 2) x (c .before .before .before .before .before .before .relative-encode .last .0) in
+    let n = 2 + c .before .before .before .before .before .before .before .before .before .before .before .before .before .before .relative-len-of-encoding .result in
     putMid n (length y - n) y (c .before .before .put-paths .last .0) ≡ over ((head s ++ subspaces s) ++ paths s) (now (s .args .buffer))
 three c =
     let after-slice-known3 : tie.After-slice-known3 = search in
@@ -106,8 +124,12 @@ returns-2 c =
     let l = now (s .args .buffer) in
     let done = put-fits allowed (whole s) l refl _ (long after-relative-len-of-encoding2) (else1 .if1 .left) in
     let w = c .before .before .relative-encode2 in
-    let last = put-next l ((head s ++ subspaces s) ++ paths s) (times s) _ _ (three after-slice-known4) (at-times else1) (room-times else1) (w .last .0) (w .ensures .1) in
-    (done .0, last ∙ ap (λ (bs : List ℕ). over bs l) (measured-parts (s .args .of-subspaces) (s .args .of-times) (value s) (s .args .start-from-start) (s .args .start-shared) (s .args .end-from-start) (s .args .end-shared)) ∙ done .1)
+    let last = put-next l ((head s ++ subspaces s) ++ paths s) (times s) _ _ (three after-slice-known4) (at-times else1) (room-times else1) (w .last .0) (w .ensures .1) in (
+      done .0,
+      last ∙ ap (λ (bs : List ℕ). over bs l)
+          (measured-parts (s .args .of-subspaces) (s .args .of-times) (value s) (s .args .start-from-start) (s .args .start-shared) (s .args .end-from-start) (s .args .end-shared))
+          ∙ done .1,
+    )
 
 pub put-range-spec : {M : Type 1} → statement M
 put-range-spec =

@@ -19,7 +19,12 @@ returns-3 c =
     let after-well-formed2 : tie.After-well-formed2 = search in
     let else1 : tie.Else1 = search in
     let after-well-formed : tie.After-well-formed = search in
-    rw (sym (after-well-formed .well-formed .ensures) ∙ not-false _ (else1 .if1 .left), sym (after-well-formed2 .well-formed2 .ensures) ∙ not-false _ (c .before .before .if2 .left), c .before .if3 .taken)
+    rw (
+      sym (after-well-formed .well-formed .ensures) ∙ not-false _ (else1 .if1 .left),
+      sym (after-well-formed2 .well-formed2 .ensures)
+          ∙ not-false _ (c .before .before .if2 .left),
+      c .before .if3 .taken,
+    )
 
 returns-4 : tie.Need-returns-4
 unfolding wellFormedPaths

@@ -10,9 +10,13 @@ abbrev paths : tie.Start → PathRange
 paths c = let a = c .args in pathsWith (pathOf (now (a .start-bytes)) (now (a .start-lengths)) (a .start-count)) (a .end-open) (pathOf (now (a .end-bytes)) (now (a .end-lengths)) (a .end-count))
 
 abbrev known : tie.Start → PathRange
-known c = let a = c .args in pathsWith (pathOf (now (a .of-start-bytes)) (now (a .of-start-lengths)) (a .of-start-count)) (a .of-end-open) (pathOf (now (a .of-end-bytes)) (now (a .of-end-lengths)) (a .of-end-count))
+known c =
+    let a = c .args in
+    pathsWith (pathOf (now (a .of-start-bytes)) (now (a .of-start-lengths)) (a .of-start-count)) (a .of-end-open)
+    (pathOf (now (a .of-end-bytes)) (now (a .of-end-lengths)) (a .of-end-count))
 
-start-near : (c : tie.After-known-told) → let s = c .before .before .before .before .before .before .before .before .before .before .before .before in Nears (known s) (paths s .start) (c .before .first .given .0 .0) (c .before .first .given .0 .1 .0)
+start-near : (c : tie.After-known-told) → let s = c .before .before .before .before .before .before .before .before .before .before .before .before in
+    Nears (known s) (paths s .start) (c .before .first .given .0 .0) (c .before .first .given .0 .1 .0)
 start-near c =
     let after-nearest : tie.After-nearest = search in
     let s : tie.Start = search in
@@ -41,10 +45,15 @@ returns-2 c =
     not-empty (known s) (paths s) (c .before .before .if1 .taken) (sym (c .before .empty .ensures) ∙ not-true _ (c .if2 .taken))
 
 returns-3 : tie.Need-returns-3
-returns-3 c = let s = c .before .before .before .before .before .before .before .before .before .before .before .before .before .before .before .before in measured-open (known s) (paths s) _ _ _ (start-near (c .before .before .before .before)) (c .before .before .before .path-len .ensures .0) (c .before .before .if1 .taken) (sym (c .before .empty .ensures) ∙ not-false _ (c .if2 .left))
+returns-3 c =
+    let s = c .before .before .before .before .before .before .before .before .before .before .before .before .before .before .before .before in
+    measured-open (known s) (paths s) _ _ _ (start-near (c .before .before .before .before)) (c .before .before .before .path-len .ensures .0)
+    (c .before .before .if1 .taken) (sym (c .before .empty .ensures) ∙ not-false _ (c .if2 .left))
 
 returns-4 : tie.Need-returns-4
-returns-4 c = let s = c .before .before .before .before .before .before .before .before .before .before .before .before .before .before .before .before .before in no-end (known s) (paths s) (c .before .before .before .if1 .left) (sym (c .before .before .nearest2 .ensures) ∙ c .enum-told2 .given .1)
+returns-4 c =
+    let s = c .before .before .before .before .before .before .before .before .before .before .before .before .before .before .before .before .before in
+    no-end (known s) (paths s) (c .before .before .before .if1 .left) (sym (c .before .before .nearest2 .ensures) ∙ c .enum-told2 .given .1)
 
 path-len-requires-2 : tie.Need-path-len-requires-2
 path-len-requires-2 c κs =
@@ -57,7 +66,11 @@ add-t26 c =
     omega (arith, c .path-len2 .ensures .1, after-path-len .path-len .ensures .1)
 
 returns-5 : tie.Need-returns-5
-returns-5 c = let s = c .before .before .before .before .before .before .before .before .before .before .before .before .before .before .before .before .before .before .before in measured-closed (known s) (paths s) _ _ _ (start-near (c .before .before .before .before .before .before .before)) (c .before .before .before .before .before .before .path-len .ensures .0) (c .before .before .before .before .before .if1 .left) _ _ _ (end-near (c .before)) (c .path-len2 .ensures .0)
+returns-5 c =
+    let s = c .before .before .before .before .before .before .before .before .before .before .before .before .before .before .before .before .before .before .before in
+    measured-closed (known s) (paths s) _ _ _ (start-near (c .before .before .before .before .before .before .before))
+    (c .before .before .before .before .before .before .path-len .ensures .0) (c .before .before .before .before .before .if1 .left) _ _ _
+    (end-near (c .before)) (c .path-len2 .ensures .0)
 
 pub measure-spec : {M : Type 1} → statement M
 measure-spec =

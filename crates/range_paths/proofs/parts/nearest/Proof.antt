@@ -14,13 +14,16 @@ path c = pathOf (now (c .args .bytes)) (now (c .args .lengths)) (c .args .count)
 abbrev known : tie.Start → PathRange
 known c = let a = c .args in pathsWith (pathOf (now (a .start-bytes)) (now (a .start-lengths)) (a .start-count)) (a .end-open) (pathOf (now (a .end-bytes)) (now (a .end-lengths)) (a .end-count))
 
-with-start : (c : tie.After-known-told) → let s = c .before .before .before .before .before .before .before .before .before .before in Common (known s .start) (path s) (c .before .with-start .given .0 .0)
+with-start : (c : tie.After-known-told) → let s = c .before .before .before .before .before .before .before .before .before .before in
+    Common (known s .start) (path s) (c .before .with-start .given .0 .0)
 with-start c =
     let after-longest-common-prefix : tie.After-longest-common-prefix = search in
     let s : tie.Start = search in
     common (known s .start) (path s) _ (sym (after-longest-common-prefix .longest-common-prefix .ensures) ∙ c .before .with-start .given .1)
 
-with-end : (c : tie.After-known-told2) → let s = c .before .before .before .before .before .before .before .before .before .before .before .before .before .before .before in Common (known s .end) (path s) (c .before .with-end .given .0 .0)
+with-end : (c : tie.After-known-told2)
+    → let s = c .before .before .before .before .before .before .before .before .before .before .before .before .before .before .before in
+    Common (known s .end) (path s) (c .before .with-end .given .0 .0)
 with-end c =
     let after-longest-common-prefix2 : tie.After-longest-common-prefix2 = search in
     let s : tie.Start = search in

@@ -12,7 +12,10 @@ use Rattle.range_paths.proofs.paths_decode.decode_end.Statement.{statem
 use Rattle.range_paths.proofs.paths_decode.decode_end.Tie as tie
 
 abbrev known : tie.Start → PathRange
-known s = let a = s .args in pathsWith (pathOf (now (a .of-start-bytes)) (now (a .of-start-lengths)) (a .of-start-count)) (a .of-end-open) (pathOf (now (a .of-end-bytes)) (now (a .of-end-lengths)) (a .of-end-count))
+known s =
+    let a = s .args in
+    pathsWith (pathOf (now (a .of-start-bytes)) (now (a .of-start-lengths)) (a .of-start-count)) (a .of-end-open)
+    (pathOf (now (a .of-end-bytes)) (now (a .of-end-lengths)) (a .of-end-count))
 
 -- earlier places
 abbrev known-told-start : tie.After-known-told → tie.Start
@@ -37,7 +40,8 @@ end-told c =
     rw (to-end (after-first-answer .first-answer .given .0 .0) (now (start .args .message))) at (c .decode-path .ensures)
 
 end-is : (c : tie.After-known-told2) → let s = c .before .before .before .before .before .before .before .before .before .before .before .before .before .before .before in
-    readSideOf (known s) (s .args .sides .«end_from_start») (drop (c .before .before .before .before .before .before .before .before .first-answer .given .0 .0) (now (s .args .message))) ≡ accepted (c .before .before .before .decode-path .result .path) (c .before .second-answer .given .0 .0)
+    readSideOf (known s) (s .args .sides .«end_from_start») (drop (c .before .before .before .before .before .before .before .before .first-answer .given .0 .0) (now (s .args .message)))
+    ≡ accepted (c .before .before .before .decode-path .result .path) (c .before .second-answer .given .0 .0)
 end-is c =
     let after-decode-path : tie.After-decode-path = search in
     sym (end-told after-decode-path .answer) ∙ ap (λ (d : Decoded). answerOf d (after-decode-path .decode-path .result .path)) (c .before .second-answer .given .1)
@@ -46,7 +50,8 @@ returns : tie.Need-returns
 returns c =
     let s : tie.Start = search in
     let x = no-value (s .args .first .answer) (c .before .match .keys2) in
-    rw (c .refuse .ensures .0, c .refuse .ensures .1) (gives-refused (x .why) (x .beside _) (paths-start (s .args .end-open) (s .args .sides) (known s) (now (s .args .message)) (s .pre .0) (x .why) (sym (s .pre .1 .answer) ∙ x .beside _)))
+    rw (c .refuse .ensures .0, c .refuse .ensures .1)
+    (gives-refused (x .why) (x .beside _) (paths-start (s .args .end-open) (s .args .sides) (known s) (now (s .args .message)) (s .pre .0) (x .why) (sym (s .pre .1 .answer) ∙ x .beside _)))
 
 returns-2 : tie.Need-returns-2
 returns-2 c =
@@ -66,7 +71,10 @@ returns-3 c =
     let after-known-told : tie.After-known-told = search in
     let s : tie.Start = search in
     let x = no-value (c .before .before .decode-path .result .answer) (c .before .match2 .keys2) in
-    rw (c .refuse2 .ensures .0, c .refuse2 .ensures .1) (gives-refused (x .why) (x .beside _) (paths-end (s .args .end-open) (s .args .sides) (known s) (now (s .args .message)) (s .pre .0) _ _ (start-is after-known-told) (else1 .if1 .left) (x .why) (sym (end-told (c .before .before) .answer) ∙ x .beside _)))
+    rw (c .refuse2 .ensures .0, c .refuse2 .ensures .1)
+    (gives-refused (x .why) (x .beside _)
+    (paths-end (s .args .end-open) (s .args .sides) (known s) (now (s .args .message)) (s .pre .0) _ _ (start-is after-known-told) (else1 .if1 .left)
+    (x .why) (sym (end-told (c .before .before) .answer) ∙ x .beside _)))
 
 add-t24 : tie.Need-add-t24
 add-t24 c =

@@ -8,12 +8,17 @@ use Rattle.range_paths.proofs.paths_decode.relative_decode.Statement.{s
 use Rattle.range_paths.proofs.paths_decode.relative_decode.Tie as tie
 
 abbrev known : tie.Start → PathRange
-known s = let a = s .args in pathsWith (pathOf (now (a .of-start-bytes)) (now (a .of-start-lengths)) (a .of-start-count)) (a .of-end-open) (pathOf (now (a .of-end-bytes)) (now (a .of-end-lengths)) (a .of-end-count))
+known s =
+    let a = s .args in
+    pathsWith (pathOf (now (a .of-start-bytes)) (now (a .of-start-lengths)) (a .of-start-count)) (a .of-end-open)
+    (pathOf (now (a .of-end-bytes)) (now (a .of-end-lengths)) (a .of-end-count))
 
 returns : tie.Need-returns
 returns c =
     let s : tie.Start = search in
-    rw (c .refuse .ensures .0, c .refuse .ensures .1) (gives-refused 5 refl (paths-malformed (s .args .end-open) (s .args .sides) (known s) (now (s .args .message)) (other-fails (known s) (s .args .sides .«start_from_start») (sym (c .before .before .other-formed .ensures) ∙ not-true _ (c .before .if1 .taken)))))
+    rw (c .refuse .ensures .0, c .refuse .ensures .1)
+    (gives-refused 5 refl (paths-malformed (s .args .end-open) (s .args .sides) (known s) (now (s .args .message))
+    (other-fails (known s) (s .args .sides .«start_from_start») (sym (c .before .before .other-formed .ensures) ∙ not-true _ (c .before .if1 .taken)))))
 
 decode-end-requires : tie.Need-decode-end-requires
 decode-end-requires c κs = (sym (c .before .before .other-formed .ensures) ∙ not-false _ (c .before .if1 .left), c .decode-path .ensures)
