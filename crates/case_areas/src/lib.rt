@@ -110,7 +110,7 @@ fn read_line(line: &[u8], out: &mut [u8], at: usize, reference: Area, canonic: b
     let MessageField::Message(s, n) = message else {
         return put::refuse(out, at);
     };
-    let read = area_area::relative_decode(&bytes[..n], s, canonic, reference);
+    let read = area_area_decode::relative_decode(&bytes[..n], s, canonic, reference);
     let mut text = [0u8; MAX_BYTES];
     let k = print(read.area, &mut text);
     let answer = read.answer;
@@ -133,7 +133,7 @@ fn write_line(line: &[u8], out: &mut [u8], at: usize, reference: Area) -> usize
     let HexField::Bytes(n) = hex else {
         return put::refuse(out, at);
     };
-    let answer = area_area::relative_encode(&mut buffer[..n], area, reference);
+    let answer = area_area_encode::relative_encode(&mut buffer[..n], area, reference);
     put::written(out, at, answer, &buffer, n)
 }
 
@@ -151,7 +151,7 @@ fn len_line(line: &[u8], out: &mut [u8], at: usize, reference: Area) -> usize
     put::length(
         out,
         at,
-        area_area::relative_len_of_encoding(area, reference),
+        area_area_encode::relative_len_of_encoding(area, reference),
     )
 }
 

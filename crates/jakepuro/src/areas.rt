@@ -18,7 +18,7 @@ pub extern "C" fn jakepuro_area_area_encode<'a>(
 {
     let sizes = flat_records::area_record::path_sizes(area);
     let of = flat_records::area_record::path_sizes(reference);
-    let answer = area_area::parts::relative_encode(
+    let answer = area_area_encode::parts::relative_encode(
         buffer,
         flat_records::area_record::subspace(area),
         flat_records::area_record::times(area),
@@ -45,7 +45,7 @@ pub extern "C" fn jakepuro_area_area_len_of_encoding<'a>(
 {
     let sizes = flat_records::area_record::path_sizes(area);
     let of = flat_records::area_record::path_sizes(reference);
-    let answer = area_area::parts::relative_len_of_encoding(
+    let answer = area_area_encode::parts::relative_len_of_encoding(
         flat_records::area_record::subspace(area),
         flat_records::area_record::times(area),
         flat_records::area_record::path_bytes(area),
@@ -73,7 +73,7 @@ pub extern "C" fn jakepuro_area_area_decode<'a>(
     ensures { λ r. ⌜ Stores areaFlat (readAgainstArea canonic (areaIn (now (reference .entry))) (drop start (now (message .entry)))) (now (area .entry)) (now (area .exit)) r (now (consumed .exit)) ⌝ }
 {
     let of = flat_records::area_record::path_sizes(reference);
-    let read = area_area::parts::relative_decode(
+    let read = area_area_decode::parts::relative_decode(
         message,
         start,
         canonic,

@@ -143,7 +143,7 @@ fn read_line(line: &[u8], out: &mut [u8], at: usize, canonic: bool) -> usize
     let HexField::Bytes(n) = hex else {
         return put::refuse(out, at);
     };
-    let read = area_area::relative_decode(&bytes[..n], 0, canonic, reference);
+    let read = area_area_decode::relative_decode(&bytes[..n], 0, canonic, reference);
     let mut text = [0u8; MAX_BYTES];
     let k = print(read.area, &mut text);
     let answer = read.answer;
