@@ -28,7 +28,7 @@ fn read_line(
     let MessageField::Message(s, n) = message else {
         return put::refuse(out, at);
     };
-    let read = entry_area::relative_decode(&bytes[..n], s, canonic, namespace, area);
+    let read = entry_area_decode::relative_decode(&bytes[..n], s, canonic, namespace, area);
     let mut text = [0u8; MAX_BYTES];
     let k = case_entry_text::print_entry(read.entry, &mut text);
     let answer = read.answer;
@@ -51,7 +51,7 @@ fn write_line(line: &[u8], out: &mut [u8], at: usize, namespace: [u8; 32], area:
     let HexField::Bytes(n) = hex else {
         return put::refuse(out, at);
     };
-    let answer = entry_area::relative_encode(&mut buffer[..n], entry, namespace, area);
+    let answer = entry_area_encode::relative_encode(&mut buffer[..n], entry, namespace, area);
     put::written(out, at, answer, &buffer, n)
 }
 
@@ -69,7 +69,7 @@ fn len_line(line: &[u8], out: &mut [u8], at: usize, namespace: [u8; 32], area: A
     put::length(
         out,
         at,
-        entry_area::relative_len_of_encoding(entry, namespace, area),
+        entry_area_encode::relative_len_of_encoding(entry, namespace, area),
     )
 }
 

@@ -21,7 +21,7 @@ fn read_line(line: &[u8], out: &mut [u8], at: usize, reference: Entry) -> usize
     let MessageField::Message(s, n) = message else {
         return put::refuse(out, at);
     };
-    let read = entry_entry::relative_decode(&bytes[..n], s, reference);
+    let read = entry_entry_decode::relative_decode(&bytes[..n], s, reference);
     let mut text = [0u8; MAX_BYTES];
     let k = case_entry_text::print_entry(read.entry, &mut text);
     let answer = read.answer;
@@ -44,7 +44,7 @@ fn write_line(line: &[u8], out: &mut [u8], at: usize, reference: Entry) -> usize
     let HexField::Bytes(n) = hex else {
         return put::refuse(out, at);
     };
-    let answer = entry_entry::relative_encode(&mut buffer[..n], entry, reference);
+    let answer = entry_entry_encode::relative_encode(&mut buffer[..n], entry, reference);
     put::written(out, at, answer, &buffer, n)
 }
 
@@ -62,7 +62,7 @@ fn len_line(line: &[u8], out: &mut [u8], at: usize, reference: Entry) -> usize
     put::length(
         out,
         at,
-        entry_entry::relative_len_of_encoding(entry, reference),
+        entry_entry_encode::relative_len_of_encoding(entry, reference),
     )
 }
 

@@ -21,7 +21,7 @@ fn read_line(line: &[u8], out: &mut [u8], at: usize, reference: Range3d) -> usiz
     let MessageField::Message(s, n) = message else {
         return put::refuse(out, at);
     };
-    let read = range3d_range3d::relative_decode(&bytes[..n], s, reference);
+    let read = range3d_range3d_decode::relative_decode(&bytes[..n], s, reference);
     let mut text = [0u8; MAX_BYTES];
     let k = case_range_text::print_range(read.range, &mut text);
     let answer = read.answer;
@@ -44,7 +44,7 @@ fn write_line(line: &[u8], out: &mut [u8], at: usize, reference: Range3d) -> usi
     let HexField::Bytes(n) = hex else {
         return put::refuse(out, at);
     };
-    let answer = range3d_range3d::relative_encode(&mut buffer[..n], range, reference);
+    let answer = range3d_range3d_encode::relative_encode(&mut buffer[..n], range, reference);
     put::written(out, at, answer, &buffer, n)
 }
 
@@ -62,7 +62,7 @@ fn len_line(line: &[u8], out: &mut [u8], at: usize, reference: Range3d) -> usize
     put::length(
         out,
         at,
-        range3d_range3d::relative_len_of_encoding(range, reference),
+        range3d_range3d_encode::relative_len_of_encoding(range, reference),
     )
 }
 

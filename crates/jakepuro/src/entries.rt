@@ -23,7 +23,7 @@ pub extern "C" fn jakepuro_entry_area_encode<'a>(
     let sizes = flat_records::entry_record::path_sizes(entry);
     let space = *namespace;
     let of = flat_records::area_record::path_sizes(area);
-    let answer = entry_area::parts::relative_encode(
+    let answer = entry_area_encode::parts::relative_encode(
         buffer,
         fields,
         flat_records::entry_record::path_bytes(entry),
@@ -53,7 +53,7 @@ pub extern "C" fn jakepuro_entry_area_len_of_encoding<'a>(
     let sizes = flat_records::entry_record::path_sizes(entry);
     let space = *namespace;
     let of = flat_records::area_record::path_sizes(area);
-    let answer = entry_area::parts::relative_len_of_encoding(
+    let answer = entry_area_encode::parts::relative_len_of_encoding(
         fields,
         flat_records::entry_record::path_bytes(entry),
         &sizes.lengths,
@@ -83,7 +83,7 @@ pub extern "C" fn jakepuro_entry_area_decode<'a>(
 {
     let space = *namespace;
     let of = flat_records::area_record::path_sizes(area);
-    let read = entry_area::parts::relative_decode(
+    let read = entry_area_decode::parts::relative_decode(
         message,
         start,
         canonic,
@@ -113,7 +113,7 @@ pub extern "C" fn jakepuro_entry_entry_encode<'a>(
     let sizes = flat_records::entry_record::path_sizes(entry);
     let of = flat_records::entry_record::fields(reference);
     let of_sizes = flat_records::entry_record::path_sizes(reference);
-    let answer = entry_entry::parts::relative_encode(
+    let answer = entry_entry_encode::parts::relative_encode(
         buffer,
         fields,
         flat_records::entry_record::path_bytes(entry),
@@ -140,7 +140,7 @@ pub extern "C" fn jakepuro_entry_entry_len_of_encoding<'a>(
     let sizes = flat_records::entry_record::path_sizes(entry);
     let of = flat_records::entry_record::fields(reference);
     let of_sizes = flat_records::entry_record::path_sizes(reference);
-    let answer = entry_entry::parts::relative_len_of_encoding(
+    let answer = entry_entry_encode::parts::relative_len_of_encoding(
         fields,
         flat_records::entry_record::path_bytes(entry),
         &sizes.lengths,
@@ -166,7 +166,7 @@ pub extern "C" fn jakepuro_entry_entry_decode<'a>(
 {
     let of = flat_records::entry_record::fields(reference);
     let of_sizes = flat_records::entry_record::path_sizes(reference);
-    let read = entry_entry::parts::relative_decode(
+    let read = entry_entry_decode::parts::relative_decode(
         message,
         start,
         of,

@@ -20,7 +20,7 @@ pub extern "C" fn jakepuro_range3d_range3d_encode<'a>(
     let end = flat_records::range_record::end_sizes(range);
     let of_start = flat_records::range_record::start_sizes(reference);
     let of_end = flat_records::range_record::end_sizes(reference);
-    let answer = range3d_range3d::parts::relative_encode(
+    let answer = range3d_range3d_encode::parts::relative_encode(
         buffer,
         flat_records::range_record::subspaces(range),
         flat_records::range_record::start_bytes(range),
@@ -57,7 +57,7 @@ pub extern "C" fn jakepuro_range3d_range3d_len_of_encoding<'a>(
     let end = flat_records::range_record::end_sizes(range);
     let of_start = flat_records::range_record::start_sizes(reference);
     let of_end = flat_records::range_record::end_sizes(reference);
-    let answer = range3d_range3d::parts::relative_len_of_encoding(
+    let answer = range3d_range3d_encode::parts::relative_len_of_encoding(
         flat_records::range_record::subspaces(range),
         flat_records::range_record::start_bytes(range),
         &start.lengths,
@@ -93,7 +93,7 @@ pub extern "C" fn jakepuro_range3d_range3d_decode<'a>(
 {
     let of_start = flat_records::range_record::start_sizes(reference);
     let of_end = flat_records::range_record::end_sizes(reference);
-    let read = range3d_range3d::parts::relative_decode(
+    let read = range3d_range3d_decode::parts::relative_decode(
         message,
         start,
         flat_records::range_record::subspaces(reference),

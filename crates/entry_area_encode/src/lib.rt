@@ -1,0 +1,55 @@
+// Writing entries against a namespace and an area: docs/FORMAT.md, "Entries". A port of relative_encodings/entry_area.rs.
+ghost use mathlib.Core.Path.{_≡_};
+ghost use lib.ListN.{length};
+ghost use Rattle.codec.specs.Answers.{outcomeOf};
+ghost use Rattle.codec.specs.Format.{writeAnswer, writeBuffer, lengthAnswer};
+ghost use Rattle.entry_area.specs.Records.{againstNamespaceArea};
+use codec::Encoded;
+use entry::Entry;
+use grouping::Area;
+
+mod entry_encode;
+pub mod parts;
+
+// How many bytes an entry against a namespace and an area takes.
+pub fn relative_len_of_encoding(entry: Entry, namespace: [u8; 32], area: Area) -> Encoded
+    ensures { λ r. ⌜ outcomeOf r ≡ lengthAnswer (againstNamespaceArea namespace area) entry ⌝ }
+{
+    let fields = entry.fields();
+    let path = entry.path;
+    let of = area.path;
+    parts::relative_len_of_encoding(
+        fields,
+        &path.bytes,
+        &path.lengths,
+        path.count,
+        namespace,
+        area.subspace,
+        area.times,
+        &of.bytes,
+        &of.lengths,
+        of.count,
+    )
+}
+
+// Writes an entry against a namespace and an area.
+pub fn relative_encode(buffer: &mut [u8], entry: Entry, namespace: [u8; 32], area: Area) -> Encoded
+    ensures { λ r. ⌜ (outcomeOf r ≡ writeAnswer (againstNamespaceArea namespace area) entry (length (now (buffer .entry)))) × (now (buffer .exit) ≡ writeBuffer (againstNamespaceArea namespace area) entry (now (buffer .entry))) ⌝ }
+{
+    let fields = entry.fields();
+    let path = entry.path;
+    let of = area.path;
+    parts::relative_encode(
+        buffer,
+        fields,
+        &path.bytes,
+        &path.lengths,
+        path.count,
+        namespace,
+        area.subspace,
+        area.times,
+        &of.bytes,
+        &of.lengths,
+        of.count,
+    )
+}

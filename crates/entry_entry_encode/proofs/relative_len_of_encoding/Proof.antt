@@ -1,0 +1,12 @@
+use Rattle.codec.proofs.Prelude.{needs}
+use Rattle.entry_entry_encode.proofs.relative_len_of_encoding.Statement.{statement}
+use Rattle.entry_entry_encode.proofs.relative_len_of_encoding.Tie as tie
+
+returns : tie.Need-returns
+returns c =
+    let after-fields2 : tie.After-fields2 = search in
+    let after-fields : tie.After-fields = search in
+    rw (after-fields .fields .ensures, after-fields2 .fields2 .ensures) at (c .relative-len-of-encoding .ensures)
+
+pub relative-len-of-encoding-spec : {M : Type 1} → statement M
+relative-len-of-encoding-spec = tie.close (tie.spec (λ c κs. search needs) (λ c κs. search needs) (λ c κs. search needs) returns)

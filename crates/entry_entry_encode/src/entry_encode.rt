@@ -1,0 +1,181 @@
+// Writing the parts of an entry; their lengths.
+ghost use mathlib.Core.Path.{_≡_};
+ghost use mathlib.Core.List.{_∷_, _++_};
+ghost use Prim.Native.Nat.{_+_, _≤_};
+ghost use lib.ListN.{length};
+ghost use Rattle.codec.specs.Format.{allowed, over};
+ghost use Rattle.path.specs.Record.{pathOf};
+ghost use Rattle.path_relative.specs.Records.{sharedFrom};
+ghost use Rattle.entry_numbers.specs.Header.{packHeader};
+ghost use Rattle.entry_numbers.specs.Numbers.{numbersBytes};
+ghost use Rattle.entry_entry.specs.Entry.{idWritten, idBytes};
+ghost use Rattle.entry_entry.specs.Records.{headerWith, idsWith, restWith, partsWith};
+use codec::Encoded;
+use entry::EntryFields;
+
+fn id_written(id: [u8; 32], reference: [u8; 32]) -> bool
+    ensures { λ r. ⌜ r ≡ idWritten reference id ⌝ }
+{
+    !byte_codec::same_bytes(&id, &reference)
+}
+
+fn header_byte(fields: EntryFields, of: EntryFields) -> u8
+    ensures { λ r. ⌜ r ≡ packHeader (headerWith of fields) ⌝ }
+{
+    let namespace_id = fields.namespace_id;
+    let of_namespace = of.namespace_id;
+    let namespace_written = id_written(namespace_id, of_namespace);
+    let subspace_id = fields.subspace_id;
+    let of_subspace = of.subspace_id;
+    let subspace_written = id_written(subspace_id, of_subspace);
+    entry_numbers::header_byte(
+        namespace_written,
+        subspace_written,
+        fields.timestamp,
+        fields.payload_length,
+        of.timestamp,
+    )
+}
+
+// How many bytes an id takes.
+fn id_len(id: [u8; 32], reference: [u8; 32]) -> usize
+    ensures { λ r. ⌜ (r ≡ length (idBytes reference id)) × (r ≤ 32) ⌝ }
+{
+    let written = id_written(id, reference);
+    if written {
+        return 32;
+    }
+    0
+}
+
+// How many bytes the ids take.
+fn ids_len(fields: EntryFields, of: EntryFields) -> usize
+    ensures { λ r. ⌜ (r ≡ length (idsWith of fields)) × (r ≤ 64) ⌝ }
+{
+    let namespace_id = fields.namespace_id;
+    let of_namespace = of.namespace_id;
+    let a = id_len(namespace_id, of_namespace);
+    let subspace_id = fields.subspace_id;
+    let of_subspace = of.subspace_id;
+    a + id_len(subspace_id, of_subspace)
+}
+
+// How many bytes an entry takes whose path takes `path` bytes.
+pub(crate) fn entry_len(fields: EntryFields, of: EntryFields, path: usize) -> usize
+    requires { ⌜ path ≤ 2000 ⌝ }
+    ensures { λ r. ⌜ r ≡ 1 + (length (idsWith of fields) + (length (numbersBytes (of .timestamp) (fields .timestamp) (fields .«payload_length»)) + (path + 32))) ⌝ }
+{
+    let a = ids_len(fields, of);
+    let b = entry_numbers::relative_len_of_encoding(
+        fields.timestamp,
+        fields.payload_length,
+        of.timestamp,
+    );
+    1 + (a + (b + (path + 32)))
+}
+
+fn put_id(buffer: &mut [u8], id: [u8; 32], reference: [u8; 32]) -> usize
+    requires { ⌜ length (idBytes reference id) ≤ length (now buffer) ⌝ }
+    ensures { λ r. ⌜ (r ≡ length (idBytes reference id)) × (now (buffer .exit) ≡ over (idBytes reference id) (now (buffer .entry))) ⌝ }
+{
+    let written = id_written(id, reference);
+    if written {
+        byte_codec::put_bytes(buffer, &id);
+        return 32;
+    }
+    0
+}
+
+// The ids.
+fn put_ids(buffer: &mut [u8], fields: EntryFields, of: EntryFields) -> usize
+    requires { ⌜ length (idsWith of fields) ≤ length (now buffer) ⌝ }
+    ensures { λ r. ⌜ (r ≡ length (idsWith of fields)) × (now (buffer .exit) ≡ over (idsWith of fields) (now (buffer .entry))) ⌝ }
+{
+    let namespace_id = fields.namespace_id;
+    let of_namespace = of.namespace_id;
+    let a = put_id(buffer, namespace_id, of_namespace);
+    let subspace_id = fields.subspace_id;
+    let of_subspace = of.subspace_id;
+    a + put_id(&mut buffer[a..], subspace_id, of_subspace)
+}
+
+// The path, `k` components of which are shared, and the digest.
+fn put_end<'a>(
+    buffer: &mut [u8],
+    digest: [u8; 32],
+    bytes: &'a [u8],
+    lengths: &'a [usize],
+    count: usize,
+    k: usize,
+)
+    requires { ⌜ (sharedFrom k .check (pathOf (now bytes) (now lengths) count) ≡ allowed) × (length (sharedFrom k .encode (pathOf (now bytes) (now lengths) count) ++ digest) ≤ length (now buffer)) ⌝ }
+    ensures { λ _. ⌜ now (buffer .exit) ≡ over (sharedFrom k .encode (pathOf (now (bytes .entry)) (now (lengths .entry)) count) ++ digest) (now (buffer .entry)) ⌝ }
+{
+    let whole = path_relative_encode::parts::encode_shared(buffer, bytes, lengths, count, k);
+    let Encoded::Length(n) = whole else {
+        return;
+    };
+    byte_codec::put_bytes(&mut buffer[n..], &digest);
+}
+
+// What follows the ids.
+fn put_rest<'a>(
+    buffer: &mut [u8],
+    fields: EntryFields,
+    of: EntryFields,
+    bytes: &'a [u8],
+    lengths: &'a [usize],
+    count: usize,
+    k: usize,
+)
+    requires { ⌜ (sharedFrom k .check (pathOf (now bytes) (now lengths) count) ≡ allowed) × (length (restWith of fields (sharedFrom k .encode (pathOf (now bytes) (now lengths) count))) ≤ length (now buffer)) ⌝ }
+    ensures { λ _. ⌜ now (buffer .exit) ≡ over (restWith of fields (sharedFrom k .encode (pathOf (now (bytes .entry)) (now (lengths .entry)) count))) (now (buffer .entry)) ⌝ }
+{
+    let n = entry_numbers::relative_len_of_encoding(
+        fields.timestamp,
+        fields.payload_length,
+        of.timestamp,
+    );
+    entry_numbers::relative_encode(
+        buffer,
+        fields.timestamp,
+        fields.payload_length,
+        of.timestamp,
+    );
+    let digest = fields.payload_digest;
+    put_end(&mut buffer[n..], digest, bytes, lengths, count, k);
+}
+
+// What follows the header.
+fn put_parts<'a>(
+    buffer: &mut [u8],
+    fields: EntryFields,
+    of: EntryFields,
+    bytes: &'a [u8],
+    lengths: &'a [usize],
+    count: usize,
+    k: usize,
+)
+    requires { ⌜ (sharedFrom k .check (pathOf (now bytes) (now lengths) count) ≡ allowed) × (length (partsWith of fields (sharedFrom k .encode (pathOf (now bytes) (now lengths) count))) ≤ length (now buffer)) ⌝ }
+    ensures { λ _. ⌜ now (buffer .exit) ≡ over (partsWith of fields (sharedFrom k .encode (pathOf (now (bytes .entry)) (now (lengths .entry)) count))) (now (buffer .entry)) ⌝ }
+{
+    let n = put_ids(buffer, fields, of);
+    put_rest(&mut buffer[n..], fields, of, bytes, lengths, count, k);
+}
+
+// Writes an entry, `k` components of whose path are shared.
+pub(crate) fn put_entry<'a>(
+    buffer: &mut [u8],
+    fields: EntryFields,
+    of: EntryFields,
+    bytes: &'a [u8],
+    lengths: &'a [usize],
+    count: usize,
+    k: usize,
+)
+    requires { ⌜ (sharedFrom k .check (pathOf (now bytes) (now lengths) count) ≡ allowed) × (1 + length (partsWith of fields (sharedFrom k .encode (pathOf (now bytes) (now lengths) count))) ≤ length (now buffer)) ⌝ }
+    ensures { λ _. ⌜ now (buffer .exit) ≡ over (packHeader (headerWith of fields) ∷ partsWith of fields (sharedFrom k .encode (pathOf (now (bytes .entry)) (now (lengths .entry)) count))) (now (buffer .entry)) ⌝ }
+{
+    buffer[0] = header_byte(fields, of);
+    put_parts(&mut buffer[1..], fields, of, bytes, lengths, count, k);
+}
