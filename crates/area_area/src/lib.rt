@@ -1,4 +1,5 @@
-// Areas against an area: docs/FORMAT.md, "Areas". The definitions and their laws; the crates area_area_decode and area_area_encode have the functions.
+// Areas against an area: docs/FORMAT.md, "Areas". The definitions and their laws; the
+// crates area_area_decode and area_area_encode have the functions.
 use codec::Decoded;
 use grouping::Area;
 use grouping::AreaSubspace;

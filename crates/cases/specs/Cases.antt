@@ -76,12 +76,8 @@ Holds (against r s strict lenient) = (readAgainstPath true (pathFrom r) s ≡ na
 Holds (against-written r p bytes) = (writeAnswer (againstPath (pathFrom r)) (pathFrom p) (length bytes) ≡ wrote (length bytes)) × (againstPath (pathFrom r) .encode (pathFrom p) ≡ bytes)
 Holds (area r s strict lenient) = (readAgainstArea true (areaFrom r) s ≡ named areaFrom strict) × (readAgainstArea false (areaFrom r) s ≡ named areaFrom lenient)
 Holds (area-written r a bytes) = (writeAnswer (againstArea (areaFrom r)) (areaFrom a) (length bytes) ≡ wrote (length bytes)) × (againstArea (areaFrom r) .encode (areaFrom a) ≡ bytes)
-Holds (entry r s strict lenient) =
-    (readAgainstNamespaceArea true namespace (areaFrom r) s ≡ named entryFrom strict)
-    × (readAgainstNamespaceArea false namespace (areaFrom r) s ≡ named entryFrom lenient)
-Holds (entry-written r e bytes) =
-    (writeAnswer (againstNamespaceArea namespace (areaFrom r)) (entryFrom e) (length bytes) ≡ wrote (length bytes))
-    × (againstNamespaceArea namespace (areaFrom r) .encode (entryFrom e) ≡ bytes)
+Holds (entry r s strict lenient) = (readAgainstNamespaceArea true namespace (areaFrom r) s ≡ named entryFrom strict) × (readAgainstNamespaceArea false namespace (areaFrom r) s ≡ named entryFrom lenient)
+Holds (entry-written r e bytes) = (writeAnswer (againstNamespaceArea namespace (areaFrom r)) (entryFrom e) (length bytes) ≡ wrote (length bytes)) × (againstNamespaceArea namespace (areaFrom r) .encode (entryFrom e) ≡ bytes)
 Holds (range r s lenient) = readAgainstRange (rangeFrom r) s ≡ named rangeFrom lenient
 Holds (range-written r v bytes) = (writeAnswer (againstRange (rangeFrom r)) (rangeFrom v) (length bytes) ≡ wrote (length bytes)) × (againstRange (rangeFrom r) .encode (rangeFrom v) ≡ bytes)
 

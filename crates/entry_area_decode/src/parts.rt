@@ -1,4 +1,4 @@
-// Entries by their fields and the paths' parts, which are lent: what the functions on records do, and no path is copied.
+// Entries by their fields and the paths' parts, which are lent: what the function on records does, and no path is copied.
 ghost use lib.ListN.{drop};
 ghost use Rattle.path.specs.Record.{pathOf};
 ghost use Rattle.grouping.specs.Record.{areaWith};

@@ -1,4 +1,5 @@
-// Entries against an entry: docs/FORMAT.md, "Entries against an entry". The definitions and their laws; the crates entry_entry_decode and entry_entry_encode have the functions.
+// Entries against an entry: docs/FORMAT.md, "Entries against an entry". The definitions and their laws; the
+// crates entry_entry_decode and entry_entry_encode have the functions.
 use codec::Decoded;
 use entry_numbers::Numbers;
 

@@ -1,4 +1,4 @@
-// 3d ranges whose paths are lent by their parts: length, bytes and reading, and no path is copied.
+// 3d ranges whose paths are lent by their parts: reading, and no path is copied.
 ghost use lib.ListN.{drop};
 ghost use Rattle.path.specs.Record.{pathOf};
 ghost use Rattle.range_paths.specs.Records.{pathsWith};

@@ -1,4 +1,4 @@
-// 3d ranges whose paths are lent by their parts: length, bytes and reading, and no path is copied.
+// 3d ranges whose paths are lent by their parts: length and bytes, and no path is copied.
 ghost use mathlib.Core.Path.{_≡_};
 ghost use lib.ListN.{length};
 ghost use Rattle.codec.specs.Answers.{outcomeOf};

@@ -36,8 +36,7 @@ measureIn r v =
     let known = pathsOf r in
     let paths = pathsOf v in
     cond (wellFormedPaths r && wellFormedPaths v)
-    (measured.Paths (sidesOf known paths .«start_from_start») (sharedWith known (paths .start)) (sidesOf known paths .«end_from_start»)
-    (endShared known (paths .end)) (length (pathsBytes known paths)))
+    (measured.Paths (sidesOf known paths .«start_from_start») (sharedWith known (paths .start)) (sidesOf known paths .«end_from_start») (endShared known (paths .end)) (length (pathsBytes known paths)))
     measured.Malformed
 
 -- ---- inside: bytes by what is shared
