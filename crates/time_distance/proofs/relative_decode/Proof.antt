@@ -1,4 +1,6 @@
-use Rattle.codec.proofs.Prelude.{_≡_, sym, ap, _∙_, now, drop, arith, ℕ, _+_, _-_, le-leb, lt-leb, needs}
+use Rattle.codec.proofs.Prelude.{_≡_, sym, ap, _∙_, now, drop, arith, ℕ, _+_, _-_, le-leb, lt-leb, needs, false}
+use Rattle.codec.specs.Answers.{accepted}
+use Rattle.compact_u64.specs.Number.{readNumber}
 use Rattle.compact_u64.specs.Answers.{numberAnswer}
 use Rattle.compact_u64.proofs.Exits.{refused-number}
 use Rattle.grouping.specs.Range.{top}
@@ -6,6 +8,13 @@ use Rattle.time_distance.specs.Distance.{timeFrom}
 use Rattle.time_distance.proofs.Exits.{from-refused, from-fault, from-read}
 use Rattle.time_distance.proofs.relative_decode.Statement.{statement}
 use Rattle.time_distance.proofs.relative_decode.Tie as tie
+
+-- the number was read
+told : (c : tie.After-number) → let a = c .before .before .before .before .args in
+    readNumber false 2 (a .tag) (drop (a .start) (now (a .message))) ≡ accepted (c .number .given .0 .0) (c .number .given .0 .1 .0)
+told c =
+    let r : tie.After-relative-decode = search in
+    sym (r .relative-decode .ensures) ∙ ap numberAnswer (c .number .given .1)
 
 returns : tie.Need-returns
 returns c =
@@ -16,58 +25,48 @@ returns c =
 
 returns-2 : tie.Need-returns-2
 returns-2 c =
-    let after-number : tie.After-number = search in
-    let after-relative-decode : tie.After-relative-decode = search in
+    let n : tie.After-number = search in
     let start : tie.Start = search in
     let a = start .args in
-    let e = sym (after-relative-decode .relative-decode .ensures) ∙ ap numberAnswer (after-number .number .given .1) in
-    sym (from-fault (a .from) (a .added) (a .tag) (drop (a .start) (now (a .message))) _ _ e (rw (c .enum-told .given .1)))
+    sym (from-fault (a .from) (a .added) (a .tag) (drop (a .start) (now (a .message))) _ _ (told n) (rw (c .enum-told .given .1)))
 
 returns-3 : tie.Need-returns-3
 returns-3 c =
-    let after-from : tie.After-from = search in
-    let after-number : tie.After-number = search in
-    let after-relative-decode : tie.After-relative-decode = search in
+    let f : tie.After-from = search in
+    let n : tie.After-number = search in
     let start : tie.Start = search in
     let a = start .args in
-    let e = sym (after-relative-decode .relative-decode .ensures) ∙ ap numberAnswer (after-number .number .given .1) in
-    sym (from-fault (a .from) (a .added) (a .tag) (drop (a .start) (now (a .message))) _ _ e
-    (rw (after-from .from .given .1, c .before .if1 .taken) (lt-leb (after-from .from .given .0 .0 + after-number .number .given .0 .0) top (omega (arith, c .if2 .taken)))))
+    sym (from-fault (a .from) (a .added) (a .tag) (drop (a .start) (now (a .message))) _ _ (told n)
+    (rw (f .from .given .1, c .before .if1 .taken) (lt-leb (f .from .given .0 .0 + n .number .given .0 .0) top (omega (arith, c .if2 .taken)))))
 
 returns-4 : tie.Need-returns-4
 returns-4 c =
-    let after-from : tie.After-from = search in
-    let after-number : tie.After-number = search in
-    let after-relative-decode : tie.After-relative-decode = search in
+    let f : tie.After-from = search in
+    let n : tie.After-number = search in
     let start : tie.Start = search in
     let a = start .args in
-    let e = sym (after-relative-decode .relative-decode .ensures) ∙ ap numberAnswer (after-number .number .given .1) in
-    let x = after-from .from .given .0 .0 in
-    let is : timeFrom (a .from) (a .added) (after-number .number .given .0 .0) ≡ x + after-number .number .given .0 .0 = rw (after-from .from .given .1, c .before .if1 .taken) in
-    rw (← is) (sym (from-read (a .from) (a .added) (a .tag) (drop (a .start) (now (a .message))) _ _ e
-    (rw (after-from .from .given .1, c .before .if1 .taken) (le-leb (x + after-number .number .given .0 .0) top (omega (arith, c .if2 .left))))))
+    let x = f .from .given .0 .0 in
+    let is : timeFrom (a .from) (a .added) (n .number .given .0 .0) ≡ x + n .number .given .0 .0 = rw (f .from .given .1, c .before .if1 .taken) in
+    rw (← is) (sym (from-read (a .from) (a .added) (a .tag) (drop (a .start) (now (a .message))) _ _ (told n)
+    (rw (f .from .given .1, c .before .if1 .taken) (le-leb (x + n .number .given .0 .0) top (omega (arith, c .if2 .left))))))
 
 returns-5 : tie.Need-returns-5
 returns-5 c =
-    let after-from : tie.After-from = search in
-    let after-number : tie.After-number = search in
-    let after-relative-decode : tie.After-relative-decode = search in
+    let f : tie.After-from = search in
+    let n : tie.After-number = search in
     let start : tie.Start = search in
     let a = start .args in
-    let e = sym (after-relative-decode .relative-decode .ensures) ∙ ap numberAnswer (after-number .number .given .1) in
-    sym (from-fault (a .from) (a .added) (a .tag) (drop (a .start) (now (a .message))) _ _ e (rw (after-from .from .given .1, c .before .if1 .left) (lt-leb _ _ (c .if3 .taken))))
+    sym (from-fault (a .from) (a .added) (a .tag) (drop (a .start) (now (a .message))) _ _ (told n) (rw (f .from .given .1, c .before .if1 .left) (lt-leb _ _ (c .if3 .taken))))
 
 returns-6 : tie.Need-returns-6
 returns-6 c =
-    let after-from : tie.After-from = search in
-    let after-number : tie.After-number = search in
-    let after-relative-decode : tie.After-relative-decode = search in
+    let f : tie.After-from = search in
+    let n : tie.After-number = search in
     let start : tie.Start = search in
     let a = start .args in
-    let e = sym (after-relative-decode .relative-decode .ensures) ∙ ap numberAnswer (after-number .number .given .1) in
-    let x = after-from .from .given .0 .0 in
-    let is : timeFrom (a .from) (a .added) (after-number .number .given .0 .0) ≡ x - after-number .number .given .0 .0 = rw (after-from .from .given .1, c .before .if1 .left) in
-    rw (← is) (sym (from-read (a .from) (a .added) (a .tag) (drop (a .start) (now (a .message))) _ _ e (rw (after-from .from .given .1, c .before .if1 .left) (le-leb _ _ (c .if3 .left)))))
+    let x = f .from .given .0 .0 in
+    let is : timeFrom (a .from) (a .added) (n .number .given .0 .0) ≡ x - n .number .given .0 .0 = rw (f .from .given .1, c .before .if1 .left) in
+    rw (← is) (sym (from-read (a .from) (a .added) (a .tag) (drop (a .start) (now (a .message))) _ _ (told n) (rw (f .from .given .1, c .before .if1 .left) (le-leb _ _ (c .if3 .left)))))
 
 pub relative-decode-spec : {M : Type 1} → statement M
 relative-decode-spec =

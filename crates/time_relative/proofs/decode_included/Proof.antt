@@ -1,9 +1,18 @@
-use Rattle.codec.proofs.Prelude.{sym, ap, _∙_, true, false, now, not-true, not-false, drop, arith, ℕ, needs}
+use Rattle.codec.proofs.Prelude.{_≡_, sym, ap, _∙_, true, false, now, not-true, not-false, drop, arith, ℕ, needs}
+use Rattle.codec.specs.Answers.{accepted}
+use Rattle.compact_u64.specs.Number.{readNumber}
 use Rattle.compact_u64.specs.Answers.{numberAnswer}
 use Rattle.compact_u64.proofs.Exits.{refused-number}
 use Rattle.time_relative.proofs.Exits.{included-refused, included-past, included-told}
 use Rattle.time_relative.proofs.decode_included.Statement.{statement}
 use Rattle.time_relative.proofs.decode_included.Tie as tie
+
+-- the number was read
+told : (c : tie.After-number) → let a = c .before .before .before .before .args in
+    readNumber (a .canonic) 2 (a .tag) (drop (a .start) (now (a .message))) ≡ accepted (c .number .given .0 .0) (c .number .given .0 .1 .0)
+told c =
+    let r : tie.After-relative-decode = search in
+    sym (r .relative-decode .ensures) ∙ ap numberAnswer (c .number .given .1)
 
 returns : tie.Need-returns
 returns c =
@@ -15,13 +24,11 @@ returns c =
 
 returns-2 : tie.Need-returns-2
 returns-2 c =
-    let after-number : tie.After-number = search in
-    let after-relative-decode : tie.After-relative-decode = search in
+    let n : tie.After-number = search in
     let start : tie.Start = search in
     let a = start .args in
     let s = drop (a .start) (now (a .message)) in
-    let e = sym (after-relative-decode .relative-decode .ensures) ∙ ap numberAnswer (after-number .number .given .1) in
-    sym (included-past (a .canonic) (a .range) (a .added) (a .tag) s _ _ e (omega (arith, c .before .reach .ensures, c .if1 .taken)))
+    sym (included-past (a .canonic) (a .range) (a .added) (a .tag) s _ _ (told n) (omega (arith, c .before .reach .ensures, c .if1 .taken)))
 
 time-at-requires : tie.Need-time-at-requires
 time-at-requires c κs = omega (arith, c .before .reach .ensures, c .if1 .left)
@@ -29,28 +36,24 @@ time-at-requires c κs = omega (arith, c .before .reach .ensures, c .if1 .left)
 returns-3 : tie.Need-returns-3
 returns-3 c =
     let else1 : tie.Else1 = search in
-    let after-reach : tie.After-reach = search in
-    let after-number : tie.After-number = search in
-    let after-relative-decode : tie.After-relative-decode = search in
+    let r : tie.After-reach = search in
+    let n : tie.After-number = search in
     let start : tie.Start = search in
     let a = start .args in
     let s = drop (a .start) (now (a .message)) in
-    let e = sym (after-relative-decode .relative-decode .ensures) ∙ ap numberAnswer (after-number .number .given .1) in
-    sym (included-told (a .canonic) (a .range) (a .added) (a .tag) s _ _ e (omega (arith, after-reach .reach .ensures, else1 .if1 .left)) false
+    sym (included-told (a .canonic) (a .range) (a .added) (a .tag) s _ _ (told n) (omega (arith, r .reach .ensures, else1 .if1 .left)) false
     (rw (c .before .before .time-at .ensures) at (sym (c .before .is-included .ensures) ∙ not-true _ (c .if2 .taken))))
 
 returns-4 : tie.Need-returns-4
 returns-4 c =
     let else1 : tie.Else1 = search in
-    let after-reach : tie.After-reach = search in
-    let after-number : tie.After-number = search in
-    let after-relative-decode : tie.After-relative-decode = search in
+    let r : tie.After-reach = search in
+    let n : tie.After-number = search in
     let start : tie.Start = search in
     let a = start .args in
     let s = drop (a .start) (now (a .message)) in
-    let e = sym (after-relative-decode .relative-decode .ensures) ∙ ap numberAnswer (after-number .number .given .1) in
     rw (c .before .before .time-at .ensures)
-    (sym (included-told (a .canonic) (a .range) (a .added) (a .tag) s _ _ e (omega (arith, after-reach .reach .ensures, else1 .if1 .left)) true
+    (sym (included-told (a .canonic) (a .range) (a .added) (a .tag) s _ _ (told n) (omega (arith, r .reach .ensures, else1 .if1 .left)) true
     (rw (c .before .before .time-at .ensures) at (sym (c .before .is-included .ensures) ∙ not-false _ (c .if2 .left)))))
 
 pub decode-included-spec : {M : Type 1} → statement M

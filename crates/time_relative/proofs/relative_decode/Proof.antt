@@ -1,10 +1,19 @@
-use Rattle.codec.proofs.Prelude.{sym, ap, _∙_, now, not-true, not-false, drop, arith, ℕ, needs}
+use Rattle.codec.proofs.Prelude.{_≡_, sym, ap, _∙_, now, not-true, not-false, drop, arith, ℕ, needs}
+use Rattle.codec.specs.Answers.{accepted}
+use Rattle.compact_u64.specs.Number.{readNumber}
 use Rattle.compact_u64.specs.Answers.{numberAnswer}
 use Rattle.compact_u64.proofs.Exits.{refused-number}
 use Rattle.grouping.proofs.Typed.{typed-range}
 use Rattle.time_relative.proofs.Exits.{past-reach, time-refused, time-fault, time-read}
 use Rattle.time_relative.proofs.relative_decode.Statement.{statement}
 use Rattle.time_relative.proofs.relative_decode.Tie as tie
+
+-- the number was read
+told : (c : tie.After-number) → let a = c .before .before .before .before .args in
+    readNumber (a .canonic) 2 (a .tag) (drop (a .start) (now (a .message))) ≡ accepted (c .number .given .0 .0) (c .number .given .0 .1 .0)
+told c =
+    let r : tie.After-relative-decode = search in
+    sym (r .relative-decode .ensures) ∙ ap numberAnswer (c .number .given .1)
 
 returns : tie.Need-returns
 returns c =
@@ -16,13 +25,11 @@ returns c =
 
 returns-2 : tie.Need-returns-2
 returns-2 c =
-    let after-number : tie.After-number = search in
-    let after-relative-decode : tie.After-relative-decode = search in
+    let n : tie.After-number = search in
     let start : tie.Start = search in
     let a = start .args in
     let s = drop (a .start) (now (a .message)) in
-    let e = sym (after-relative-decode .relative-decode .ensures) ∙ ap numberAnswer (after-number .number .given .1) in
-    sym (time-fault (a .canonic) (a .range) (a .added) (a .tag) s _ _ e
+    sym (time-fault (a .canonic) (a .range) (a .added) (a .tag) s _ _ (told n)
     (past-reach (a .canonic) (a .range) (typed-range (a .range) (start .good .1 .1 .1 .0)) (a .added) _ (omega (arith, c .before .reach .ensures, c .if1 .taken))))
 
 time-at-requires : tie.Need-time-at-requires
@@ -30,24 +37,20 @@ time-at-requires c κs = omega (arith, c .before .reach .ensures, c .if1 .left)
 
 returns-3 : tie.Need-returns-3
 returns-3 c =
-    let after-number : tie.After-number = search in
-    let after-relative-decode : tie.After-relative-decode = search in
+    let n : tie.After-number = search in
     let start : tie.Start = search in
     let a = start .args in
     let s = drop (a .start) (now (a .message)) in
-    let e = sym (after-relative-decode .relative-decode .ensures) ∙ ap numberAnswer (after-number .number .given .1) in
-    sym (time-fault (a .canonic) (a .range) (a .added) (a .tag) s _ _ e (rw (c .before .before .time-at .ensures) at (sym (c .before .is-nearest .ensures) ∙ not-true _ (c .if2 .taken))))
+    sym (time-fault (a .canonic) (a .range) (a .added) (a .tag) s _ _ (told n) (rw (c .before .before .time-at .ensures) at (sym (c .before .is-nearest .ensures) ∙ not-true _ (c .if2 .taken))))
 
 returns-4 : tie.Need-returns-4
 returns-4 c =
-    let after-number : tie.After-number = search in
-    let after-relative-decode : tie.After-relative-decode = search in
+    let n : tie.After-number = search in
     let start : tie.Start = search in
     let a = start .args in
     let s = drop (a .start) (now (a .message)) in
-    let e = sym (after-relative-decode .relative-decode .ensures) ∙ ap numberAnswer (after-number .number .given .1) in
     rw (c .before .before .time-at .ensures)
-    (sym (time-read (a .canonic) (a .range) (a .added) (a .tag) s _ _ e (rw (c .before .before .time-at .ensures) at (sym (c .before .is-nearest .ensures) ∙ not-false _ (c .if2 .left)))))
+    (sym (time-read (a .canonic) (a .range) (a .added) (a .tag) s _ _ (told n) (rw (c .before .before .time-at .ensures) at (sym (c .before .is-nearest .ensures) ∙ not-false _ (c .if2 .left)))))
 
 pub relative-decode-spec : {M : Type 1} → statement M
 relative-decode-spec =
