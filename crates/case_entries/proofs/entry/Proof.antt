@@ -26,10 +26,11 @@ against : (o : tie.After-op) (x : Op) → o .op .result ≡ x →
     let line = now (r .before .before .before .before .args .line) in
     entryLine line ≡ againstLine (r .read-id .result .id) (a .read-area .result .area) x line
 against o x e =
+    let q : tie.After-part2 = search in
     let a : tie.After-read-area = search in
     let r : tie.After-read-id = search in
     let start : tie.Start = search in
-    namespace r true (not-false (r .read-id .result .ok) (search)) ∙ against-told (a .read-area .ensures .0) (againstLine (r .read-id .result .id)) (now (start .args .line)) (search) x (cc)
+    namespace r true (not-false (r .read-id .result .ok) (search)) ∙ against-told (a .read-area .ensures .0) (againstLine (r .read-id .result .id)) (now (start .args .line)) (search) x (sym (rw (q .part2 .ensures) at (o .op .ensures)) ∙ e)
 
 pub entry-spec : {M : Type 1} → statement M
 entry-spec =
@@ -43,6 +44,6 @@ entry-spec =
     (search)) search)
     (λ c κs. search needs) (λ c κs. search needs) (λ c. search needs) (λ c κs. search needs) (λ c. search needs) (λ c κs. search needs)
     (λ c. search needs) (λ c κs. search needs) (λ c. search needs) (λ c κs. search needs) (λ c. search needs) (λ c κs. search needs) (λ c. search needs)
-    (λ c. puts (against (search) op.Strict (cc)) search) (λ c. search needs) (λ c. puts (against (search) op.Lenient (cc)) search) (λ c. search needs)
-    (λ c. puts (against (search) op.Write (cc)) search) (λ c. search needs) (λ c. puts (against (search) op.Length (cc)) search) (λ c. search needs)
-    (λ c. puts (against (search) op.Unknown (cc)) search))
+    (λ c. puts (against (search) op.Strict (search)) search) (λ c. search needs) (λ c. puts (against (search) op.Lenient (search)) search) (λ c. search needs)
+    (λ c. puts (against (search) op.Write (search)) search) (λ c. search needs) (λ c. puts (against (search) op.Length (search)) search) (λ c. search needs)
+    (λ c. puts (against (search) op.Unknown (search)) search))

@@ -1,4 +1,4 @@
-use Rattle.codec.proofs.Prelude.{_≡_, _∙_, now, needs}
+use Rattle.codec.proofs.Prelude.{sym, _≡_, _∙_, now, needs}
 use Rattle.compact_u64.specs.Answers.{bits}
 use Rattle.case_text.specs.declared.Op.{Op}
 use Rattle.case_text.specs.declared.Op.the-variants as op
@@ -15,12 +15,13 @@ told : (o : tie.After-op) (x : Op) → o .op .result ≡ x →
     let line = now (f .before .before .before .before .before .before .args .line) in
     taggedLine line ≡ numberLine (bits (f .field .given .0 .0)) x line
 told o x e =
+    let q : tie.After-part2 = search in
     let f : tie.After-field = search in
     let w : tie.After-width = search in
     let p : tie.After-part = search in
     let start : tie.Start = search in
     let line = now (start .args .line) in
-    width-is line (p .part .ensures) (w .width .ensures) (f .field .given .1) (λ w. numberLine w (opOf (field 1 line)) line) ∙ op-told (numberLine (bits (f .field .given .0 .0))) line x (cc)
+    width-is line (p .part .ensures) (w .width .ensures) (f .field .given .1) (λ w. numberLine w (opOf (field 1 line)) line) ∙ op-told (numberLine (bits (f .field .given .0 .0))) line x (sym (rw (q .part2 .ensures) at (o .op .ensures)) ∙ e)
 
 pub number-spec : {M : Type 1} → statement M
 number-spec =
@@ -32,6 +33,6 @@ number-spec =
     (s .args .line)))) search)
     (λ c κs. search needs) (λ c κs. search needs) (λ c. search needs) (λ c κs. search needs) (λ c. search needs) (λ c κs. search needs)
     (λ c. search needs) (λ c κs. search needs) (λ c. search needs) (λ c κs. search needs) (λ c. search needs) (λ c κs. search needs) (λ c. search needs)
-    (λ c. puts (told (search) op.Strict (cc)) search) (λ c. search needs) (λ c. puts (told (search) op.Lenient (cc)) search) (λ c. search needs)
-    (λ c. puts (told (search) op.Write (cc)) search) (λ c. search needs) (λ c. puts (told (search) op.Length (cc)) search) (λ c. search needs)
-    (λ c. puts (told (search) op.Unknown (cc)) search))
+    (λ c. puts (told (search) op.Strict (search)) search) (λ c. search needs) (λ c. puts (told (search) op.Lenient (search)) search) (λ c. search needs)
+    (λ c. puts (told (search) op.Write (search)) search) (λ c. search needs) (λ c. puts (told (search) op.Length (search)) search) (λ c. search needs)
+    (λ c. puts (told (search) op.Unknown (search)) search))

@@ -1,4 +1,4 @@
-use Rattle.codec.proofs.Prelude.{_≡_, now, needs}
+use Rattle.codec.proofs.Prelude.{sym, _∙_, _≡_, now, needs}
 use Rattle.compact_u64.specs.Number.{readStandalone, standalone}
 use Rattle.text.specs.Decimal.{decimalText}
 use Rattle.case_text.specs.declared.Op.{Op}
@@ -15,8 +15,9 @@ told : (o : tie.After-op) (x : Op) → o .op .result ≡ x →
     let line = now (o .before .before .before .before .args .line) in
     standaloneLine line ≡ recordLine decimalField decimalText readStandalone standalone 2 3 x line
 told o x e =
+    let q : tie.After-part = search in
     let start : tie.Start = search in
-    op-told (recordLine decimalField decimalText readStandalone standalone 2 3) (now (start .args .line)) x (cc)
+    op-told (recordLine decimalField decimalText readStandalone standalone 2 3) (now (start .args .line)) x (sym (rw (q .part .ensures) at (o .op .ensures)) ∙ e)
 
 pub standalone-spec : {M : Type 1} → statement M
 standalone-spec =
@@ -24,6 +25,6 @@ standalone-spec =
     (tie.spec
     (λ c κs. search needs) (λ c κs. search needs) (λ c. search needs) (λ c κs. search needs) (λ c. search needs) (λ c κs. search needs)
     (λ c. search needs) (λ c κs. search needs) (λ c. search needs) (λ c κs. search needs) (λ c. search needs) (λ c κs. search needs) (λ c. search needs)
-    (λ c. puts (told (search) op.Strict (cc)) search) (λ c. search needs) (λ c. puts (told (search) op.Lenient (cc)) search) (λ c. search needs)
-    (λ c. puts (told (search) op.Write (cc)) search) (λ c. search needs) (λ c. puts (told (search) op.Length (cc)) search) (λ c. search needs)
-    (λ c. puts (told (search) op.Unknown (cc)) search))
+    (λ c. puts (told (search) op.Strict (search)) search) (λ c. search needs) (λ c. puts (told (search) op.Lenient (search)) search) (λ c. search needs)
+    (λ c. puts (told (search) op.Write (search)) search) (λ c. search needs) (λ c. puts (told (search) op.Length (search)) search) (λ c. search needs)
+    (λ c. puts (told (search) op.Unknown (search)) search))

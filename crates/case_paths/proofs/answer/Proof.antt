@@ -1,4 +1,4 @@
-use Rattle.codec.proofs.Prelude.{_≡_, _+_, now, needs}
+use Rattle.codec.proofs.Prelude.{sym, _∙_, _≡_, _+_, now, needs}
 use Rattle.path_text.specs.PathText.{pathTextOf}
 use Rattle.case_text.specs.declared.Op.{Op}
 use Rattle.case_text.specs.declared.Op.the-variants as op
@@ -15,9 +15,10 @@ told : (o : tie.After-op) (x : Op) → o .op .result ≡ x →
     encodingLine (a .encoding) (a .reference) (a .i) (now (a .line))
     ≡ recordLine pathField pathTextOf (encodingReader (a .encoding) (a .reference)) (encodingFormat (a .encoding) (a .reference)) (a .i) (a .i + 1) x (now (a .line))
 told o x e =
+    let q : tie.After-part = search in
     let s : tie.Start = search in
     let a = s .args in
-    op-told (recordLine pathField pathTextOf (encodingReader (a .encoding) (a .reference)) (encodingFormat (a .encoding) (a .reference)) (a .i) (a .i + 1)) (now (a .line)) x (cc)
+    op-told (recordLine pathField pathTextOf (encodingReader (a .encoding) (a .reference)) (encodingFormat (a .encoding) (a .reference)) (a .i) (a .i + 1)) (now (a .line)) x (sym (rw (q .part .ensures) at (o .op .ensures)) ∙ e)
 
 pub answer-spec : {M : Type 1} → statement M
 answer-spec =
@@ -25,6 +26,6 @@ answer-spec =
     (tie.spec
     (λ c κs. search needs) (λ c κs. search needs) (λ c. search needs) (λ c κs. search needs) (λ c. search needs) (λ c κs. search needs)
     (λ c. search needs) (λ c κs. search needs) (λ c. search needs) (λ c κs. search needs) (λ c. search needs) (λ c κs. search needs) (λ c. search needs)
-    (λ c. puts (told (search) op.Strict (cc)) search) (λ c. search needs) (λ c. puts (told (search) op.Lenient (cc)) search) (λ c. search needs)
-    (λ c. puts (told (search) op.Write (cc)) search) (λ c. search needs) (λ c. puts (told (search) op.Length (cc)) search) (λ c. search needs)
-    (λ c. puts (told (search) op.Unknown (cc)) search))
+    (λ c. puts (told (search) op.Strict (search)) search) (λ c. search needs) (λ c. puts (told (search) op.Lenient (search)) search) (λ c. search needs)
+    (λ c. puts (told (search) op.Write (search)) search) (λ c. search needs) (λ c. puts (told (search) op.Length (search)) search) (λ c. search needs)
+    (λ c. puts (told (search) op.Unknown (search)) search))

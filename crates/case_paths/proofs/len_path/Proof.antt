@@ -1,10 +1,16 @@
-use Rattle.codec.proofs.Prelude.{refl, _+_, arith, now, needs}
+use Rattle.codec.proofs.Prelude.{_≡_, refl, _+_, arith, now, needs}
 use Rattle.case_text.specs.Fields.{pathField}
 use Rattle.case_paths.specs.Lines.{encodingFormat}
+use Rattle.text.specs.Parts.{partAt}
+use Rattle.path_text.specs.PathText.{readPathText}
 use Rattle.case_text.proofs.Steps.{path-says, path-says-no}
 use Rattle.case_text.proofs.Ways.{length-fields, length-value, length-answer}
 use Rattle.case_paths.proofs.len_path.Statement.{statement}
 use Rattle.case_paths.proofs.len_path.Tie as tie
+
+-- the field was read
+read : (r : tie.After-read-path) → let s = r .before .before .before .before .before .before in r .read-path .result ≡ readPathText (partAt 9 (s .args .i) (now (s .args .line)))
+read r = rw (r .before .part .ensures) at (r .read-path .ensures)
 
 pub len-path-spec : {M : Type 1} → statement M
 len-path-spec =
@@ -16,8 +22,8 @@ len-path-spec =
     (λ c κs. search needs) (λ c κs. search needs) (λ c. search needs) (λ c. search needs) (λ c κs. search needs) (λ c. search needs)
     (λ c. let p : tie.After-read-path = search in let k : tie.Else1 = search in let s : tie.Start = search in
     length-value pathField (encodingFormat (s .args .encoding) (s .args .reference)) (s .args .i) (s .args .i + 1) (now (s .args .line)) (omega
-    (arith, k .if1 .left, k .before .part-count .ensures)) (path-says-no _ _ {x = p .read-path .result} (search) (cc)) refl search)
+    (arith, k .if1 .left, k .before .part-count .ensures)) (path-says-no _ _ {x = p .read-path .result} (search) (read (search))) refl search)
     (λ c κs. search needs) (λ c κs. search needs) (λ c. search needs)
     (λ c. let w : tie.After-len-of-encoding = search in let p : tie.After-read-path = search in let k : tie.Else1 = search in let s : tie.Start = search in
     length-answer pathField (encodingFormat (s .args .encoding) (s .args .reference)) (s .args .i) (s .args .i + 1) (now (s .args .line)) (omega
-    (arith, k .if1 .left, k .before .part-count .ensures)) (path-says _ _ {x = p .read-path .result} (search) (cc)) refl (w .len-of-encoding .ensures) search))
+    (arith, k .if1 .left, k .before .part-count .ensures)) (path-says _ _ {x = p .read-path .result} (search) (read (search))) refl (w .len-of-encoding .ensures) search))

@@ -1,4 +1,4 @@
-use Rattle.codec.proofs.Prelude.{_≡_, now, needs}
+use Rattle.codec.proofs.Prelude.{sym, _∙_, _≡_, now, needs}
 use Rattle.case_text.specs.declared.Op.{Op}
 use Rattle.case_text.specs.declared.Op.the-variants as op
 use Rattle.case_text.proofs.Ways.{puts, against-refused, against-told}
@@ -12,9 +12,10 @@ against : (o : tie.After-op) (x : Op) → o .op .result ≡ x →
     let line = now (r .before .before .before .args .line) in
     rangeLine line ≡ againstLine (r .read-range .result .range) x line
 against o x e =
+    let q : tie.After-part = search in
     let r : tie.After-read-range = search in
     let start : tie.Start = search in
-    against-told (r .read-range .ensures .0) againstLine (now (start .args .line)) (search) x (cc)
+    against-told (r .read-range .ensures .0) againstLine (now (start .args .line)) (search) x (sym (rw (q .part .ensures) at (o .op .ensures)) ∙ e)
 
 pub range-spec : {M : Type 1} → statement M
 range-spec =
@@ -24,6 +25,6 @@ range-spec =
     (λ c. let r : tie.After-read-range = search in let start : tie.Start = search in puts (against-refused (r .read-range .ensures .0) againstLine (now (start .args .line)) (search)) search)
     (λ c κs. search needs) (λ c κs. search needs) (λ c. search needs) (λ c κs. search needs) (λ c. search needs) (λ c κs. search needs)
     (λ c. search needs) (λ c κs. search needs) (λ c. search needs) (λ c κs. search needs) (λ c. search needs) (λ c κs. search needs) (λ c. search needs)
-    (λ c. puts (against (search) op.Strict (cc)) search) (λ c. search needs) (λ c. puts (against (search) op.Lenient (cc)) search) (λ c. search needs)
-    (λ c. puts (against (search) op.Write (cc)) search) (λ c. search needs) (λ c. puts (against (search) op.Length (cc)) search) (λ c. search needs)
-    (λ c. puts (against (search) op.Unknown (cc)) search))
+    (λ c. puts (against (search) op.Strict (search)) search) (λ c. search needs) (λ c. puts (against (search) op.Lenient (search)) search) (λ c. search needs)
+    (λ c. puts (against (search) op.Write (search)) search) (λ c. search needs) (λ c. puts (against (search) op.Length (search)) search) (λ c. search needs)
+    (λ c. puts (against (search) op.Unknown (search)) search))
