@@ -1,27 +1,22 @@
 -- What the writers' definitions say at each step of the code.
-use Rattle.codec.proofs.Prelude.{_≡_, refl, sym, _∙_, List, [], _++_, append-assoc, Bool, true, false, cond, _&&_, not, true≢false, false≢true, none, some, ℕ, _+_, _≤_, _<_, arith, length, take, drop, length-append}
-use Rattle.path.proofs.Verdicts.{yes-allowed, no-barred, malformed-barred}
+use Rattle.codec.proofs.Prelude.{_≡_, refl, sym, ap, _∙_, List, [], _++_, append-assoc, Bool, true, false, cond, _&&_, not, true≢false, false≢true, none, some, ℕ, _+_, _≤_, _<_, arith, length, take, drop, length-append}
 use Rattle.codec.specs.Answers.{wrote, denied}
-use Rattle.codec.specs.Format.{allowed, barred, over, writeAnswer, writeBuffer}
-use Rattle.codec.proofs.Lending.{put-full}
+use Rattle.codec.specs.Format.{allowed, barred, verdictBy, over, writeAnswer, writeBuffer}
+use Rattle.codec.proofs.Lending.{put-wrote}
 use Rattle.codec.proofs.Tests.{and-left, and-right}
-use Rattle.codec.proofs.Lawful.{verdict-allowed}
-use Rattle.path.specs.Record.{componentsOf, wellFormed}
-use Rattle.path.specs.declared.Compared.the-variants as compared
-use Rattle.path.specs.Prefix.{isPrefix}
-use Rattle.path.specs.Answers.{verdict, prefixOf}
-use Rattle.path_suffix.specs.Suffix.{suffixFrom}
+use Rattle.path.specs.Record.{componentsOf, sized}
+use Rattle.path.proofs.Components.{well-sized}
 use Rattle.path_relative.specs.Extension.{extensionBytes}
-use Rattle.path_relative.specs.Records.{extendsPath}
-use Rattle.path_relative.proofs.Writing.{suffix-within, extends-suffix, rest-refused, rest-written}
+use Rattle.path_relative.specs.Records.{extendsBy}
+use Rattle.path_relative.proofs.Writing.{rest-denied, rest-written}
 use Rattle.grouping.specs.declared.AreaSubspace.{AreaSubspace}
 use Rattle.grouping.specs.declared.Area.{Area}
-use Rattle.grouping.specs.Area.{liesInside}
-use Rattle.grouping.specs.Record.{subspaceOf, areaOf, wellFormedSubspace, wellFormedArea, areaInside}
+use Rattle.grouping.specs.Area.{liesInside, headInside}
+use Rattle.grouping.specs.Record.{subspaceOf, areaOf, wellFormedSubspace, wellFormedArea, sizedArea}
+use Rattle.grouping.proofs.Heads.{head-outside, head-inside}
 use Rattle.area_times.specs.Times.{timesBytes}
 use Rattle.area_area.specs.Area.{idWritten, subspaceBytes, startBytes, areaBytes, headBytes}
-use Rattle.area_area.specs.Records.{againstArea}
-use Rattle.area_area.proofs.Area.{inside}
+use Rattle.area_area.specs.Records.{againstAreaBy, againstArea}
 
 -- ---- the subspace
 module _ (s r : AreaSubspace) where
@@ -50,68 +45,54 @@ module _ (s r : AreaSubspace) where
 
 -- ---- the verdict
 module _ (r a : Area) where
-  pub contained : areaInside r a ≡ compared.Yes → againstArea r .check a ≡ allowed
-  unfolding areaInside
-  contained e = yes-allowed (wellFormedArea r && wellFormedArea a) (liesInside (areaOf r) (areaOf a)) e
+  pub unsized : (sized (r .path) && sized (a .path)) ≡ false → againstAreaBy sizedArea r .check a ≡ barred 5
+  unfolding sizedArea
+  unsized e = rw e
 
-  pub not-contained : areaInside r a ≡ compared.No → againstArea r .check a ≡ barred 3
-  unfolding areaInside
-  not-contained e = no-barred (wellFormedArea r && wellFormedArea a) (liesInside (areaOf r) (areaOf a)) e
+  pub outside : (sized (r .path) && sized (a .path)) ≡ true → headInside (subspaceOf (r .subspace)) (r .times) (subspaceOf (a .subspace)) (a .times) ≡ false → againstAreaBy sizedArea r .check a ≡ barred 3
+  unfolding sizedArea
+  outside e out = rw (e, head-outside (areaOf r) (areaOf a) out)
 
-  pub unformed : areaInside r a ≡ compared.Malformed → againstArea r .check a ≡ barred 5
-  unfolding areaInside
-  unformed e = malformed-barred (wellFormedArea r && wellFormedArea a) (liesInside (areaOf r) (areaOf a)) e
+  -- records that were tested whole
+  pub whole : (wellFormedArea r && wellFormedArea a) ≡ true → againstAreaBy sizedArea r .check a ≡ againstArea r .check a
+  unfolding sizedArea wellFormedArea
+  whole w =
+      let wr = well-sized (r .path) (and-right (wellFormedSubspace (r .subspace)) _ (and-left _ _ w)) in
+      let wa = well-sized (a .path) (and-right (wellFormedSubspace (a .subspace)) _ (and-right (wellFormedArea r) _ w)) in
+      let left : againstAreaBy sizedArea r .check a ≡ verdictBy true (liesInside (areaOf r) (areaOf a)) = rw (wr, wa) in
+      left ∙ rw w
 
-  module _ (ok : againstArea r .check a ≡ allowed) where
-    verdicts : ((wellFormedArea r && wellFormedArea a) ≡ true) × (liesInside (areaOf r) (areaOf a) ≡ true)
-    verdicts = verdict-allowed (wellFormedArea r && wellFormedArea a) (liesInside (areaOf r) (areaOf a)) ok
+  -- ---- what comes before the path, and the path
+  area-bytes : againstAreaBy sizedArea r .encode a ≡ headBytes (subspaceOf (r .subspace)) (r .times) (subspaceOf (a .subspace)) (a .times) ++ extendsBy sized (r .path) .encode (a .path)
+  unfolding areaBytes
+  area-bytes = sym (append-assoc (startBytes (areaOf r) (areaOf a)) (timesBytes (r .times) (a .times)) (extensionBytes (componentsOf (r .path)) (componentsOf (a .path))))
 
-    prefixed : prefixOf (r .path) (a .path) ≡ compared.Yes
-    unfolding wellFormedArea prefixOf
-    prefixed =
-        let v = verdicts in
-        let wr : wellFormed (r .path) ≡ true = and-right (wellFormedSubspace (r .subspace)) _ (and-left _ _ (v .0)) in
-        let wa : wellFormed (a .path) ≡ true = and-right (wellFormedSubspace (a .subspace)) _ (and-right (wellFormedArea r) _ (v .0)) in
-        rw (wr, wa, inside (areaOf r) (areaOf a) (v .1) .prefix)
+  pub area-longer : (n : ℕ) → n ≡ length (headBytes (subspaceOf (r .subspace)) (r .times) (subspaceOf (a .subspace)) (a .times)) → n ≤ length (againstAreaBy sizedArea r .encode a)
+  area-longer n en = rw area-bytes (rw length-append (omega (arith, en)))
 
-    path-allowed : extendsPath (r .path) .check (a .path) ≡ allowed
-    unfolding prefixOf
-    path-allowed = yes-allowed (wellFormed (r .path) && wellFormed (a .path)) (isPrefix (componentsOf (r .path)) (componentsOf (a .path))) prefixed
+  -- ---- an area whose subspace and times lie inside is refused as its path is, and written as what comes before it and its path
+  module _ (in-head : headInside (subspaceOf (r .subspace)) (r .times) (subspaceOf (a .subspace)) (a .times) ≡ true) where
+    pub as-path : againstAreaBy sizedArea r .check a ≡ extendsBy sized (r .path) .check (a .path)
+    unfolding sizedArea
+    as-path = rw (head-inside (areaOf r) (areaOf a) in-head)
 
-    -- the path is written as its suffix after the reference's
-    suffixed : (suffixFrom (r .path .count) .check (a .path) ≡ extendsPath (r .path) .check (a .path)) × (suffixFrom (r .path .count) .encode (a .path) ≡ extendsPath (r .path) .encode (a .path))
-    suffixed = extends-suffix (r .path) (a .path) prefixed
-
-    pub suffix-allowed : suffixFrom (r .path .count) .check (a .path) ≡ allowed
-    suffix-allowed = suffixed .0 ∙ path-allowed
-
-    pub suffix-short : length (suffixFrom (r .path .count) .encode (a .path)) ≤ 1000
-    suffix-short = suffix-within (a .path) (r .path .count) suffix-allowed
-
-    area-bytes : againstArea r .encode a ≡ headBytes (subspaceOf (r .subspace)) (r .times) (subspaceOf (a .subspace)) (a .times) ++ suffixFrom (r .path .count) .encode (a .path)
-    unfolding areaBytes
-    area-bytes = rw (suffixed .1) (sym (append-assoc (startBytes (areaOf r) (areaOf a)) (timesBytes (r .times) (a .times)) (extensionBytes (componentsOf (r .path)) (componentsOf (a .path)))))
-
-    -- what comes before the path, then the path
     module _ (n : ℕ) (en : n ≡ length (headBytes (subspaceOf (r .subspace)) (r .times) (subspaceOf (a .subspace)) (a .times))) where
-      pub area-long : (m : ℕ) → m ≡ length (suffixFrom (r .path .count) .encode (a .path)) → n + m ≡ length (againstArea r .encode a)
+      pub area-long : (m : ℕ) → m ≡ length (extendsBy sized (r .path) .encode (a .path)) → n + m ≡ length (againstAreaBy sizedArea r .encode a)
       area-long m em = rw area-bytes (rw length-append (omega (arith, en, em)))
 
-      pub area-full : (l : List ℕ) → length l < n → (denied 4 ≡ writeAnswer (againstArea r) a (length l)) × (l ≡ writeBuffer (againstArea r) a l)
-      area-full l h = put-full (againstArea r .check a) (againstArea r .encode a) l ok _ (area-long _ refl) (omega arith)
-
       module _ (l : List ℕ) (h : n ≤ length l) where
-        pub area-refused : (why : ℕ) (ys : List ℕ) → writeAnswer (suffixFrom (r .path .count)) (a .path) (length (drop n l)) ≡ denied why
-            → ys ≡ writeBuffer (suffixFrom (r .path .count)) (a .path) (drop n l)
-            → (denied why ≡ writeAnswer (againstArea r) a (length l)) × (take n l ++ ys ≡ writeBuffer (againstArea r) a l)
+        pub area-refused : (why : ℕ) (ys : List ℕ) → writeAnswer (extendsBy sized (r .path)) (a .path) (length (drop n l)) ≡ denied why
+            → ys ≡ writeBuffer (extendsBy sized (r .path)) (a .path) (drop n l)
+            → (denied why ≡ writeAnswer (againstAreaBy sizedArea r) a (length l)) × (take n l ++ ys ≡ writeBuffer (againstAreaBy sizedArea r) a l)
         area-refused why ys e put =
-            rw (ok, area-bytes) (rest-refused (headBytes (subspaceOf (r .subspace)) (r .times) (subspaceOf (a .subspace)) (a .times))
-            (suffixFrom (r .path .count) .encode (a .path)) l n en h why ys (rw suffix-allowed at e) (rw suffix-allowed at put))
+            rw (as-path, area-bytes) (rest-denied (headBytes (subspaceOf (r .subspace)) (r .times) (subspaceOf (a .subspace)) (a .times))
+            (extendsBy sized (r .path) .encode (a .path)) l n en h (extendsBy sized (r .path) .check (a .path)) why ys e put)
 
-        pub area-written : (m : ℕ) (ys : List ℕ) → writeAnswer (suffixFrom (r .path .count)) (a .path) (length (drop n l)) ≡ wrote m
-            → ys ≡ writeBuffer (suffixFrom (r .path .count)) (a .path) (drop n l)
-            → (wrote (n + m) ≡ writeAnswer (againstArea r) a (length l))
-            × (over (headBytes (subspaceOf (r .subspace)) (r .times) (subspaceOf (a .subspace)) (a .times)) (take n l ++ ys) ≡ writeBuffer (againstArea r) a l)
+        pub area-written : (m : ℕ) (ys : List ℕ) → writeAnswer (extendsBy sized (r .path)) (a .path) (length (drop n l)) ≡ wrote m
+            → ys ≡ writeBuffer (extendsBy sized (r .path)) (a .path) (drop n l)
+            → (wrote (n + m) ≡ writeAnswer (againstAreaBy sizedArea r) a (length l))
+            × (over (headBytes (subspaceOf (r .subspace)) (r .times) (subspaceOf (a .subspace)) (a .times)) (take n l ++ ys) ≡ writeBuffer (againstAreaBy sizedArea r) a l)
         area-written m ys e put =
-            rw (ok, area-bytes) (rest-written (headBytes (subspaceOf (r .subspace)) (r .times) (subspaceOf (a .subspace)) (a .times))
-            (suffixFrom (r .path .count) .encode (a .path)) l n en h m ys (rw suffix-allowed at e) (rw suffix-allowed at put))
+            let ok = put-wrote (extendsBy sized (r .path) .check (a .path)) (extendsBy sized (r .path) .encode (a .path)) _ m e .allows in
+            rw (as-path, ok, area-bytes) (rest-written (headBytes (subspaceOf (r .subspace)) (r .times) (subspaceOf (a .subspace)) (a .times))
+            (extendsBy sized (r .path) .encode (a .path)) l n en h m ys (rw ok at e) (rw ok at put))

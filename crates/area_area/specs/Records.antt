@@ -9,11 +9,15 @@ use Rattle.grouping.specs.Record.{areaOf, areaFrom, wellFormedArea}
 use Rattle.area_times.specs.declared.Header.{Header}
 use Rattle.area_area.specs.Area.{areaBytes, readParts, readArea}
 
-abbrev pub againstArea : Area → Format Area
-againstArea r = record {
-  check = λ a. verdictBy (wellFormedArea r && wellFormedArea a) (liesInside (areaOf r) (areaOf a));
+-- 5 unless both records pass the test, then 3 unless the area lies inside
+abbrev pub againstAreaBy : (Area → Bool) → Area → Format Area
+againstAreaBy formed r = record {
+  check = λ a. verdictBy (formed r && formed a) (liesInside (areaOf r) (areaOf a));
   encode = λ a. areaBytes (areaOf r) (areaOf a);
 }
+
+abbrev pub againstArea : Area → Format Area
+againstArea = againstAreaBy wellFormedArea
 
 unfoldable pub readAgainstArea : Bool → Area → Reader Area
 readAgainstArea canonic r = onFormed (wellFormedArea r) (mapped areaFrom (readArea canonic (areaOf r)))

@@ -8,45 +8,39 @@ use codec::Encoded;
 use grouping::Area;
 
 mod area_encode;
-pub mod parts;
+pub mod lent;
+pub mod sized;
 
 // How many bytes an area against a reference takes.
 pub fn relative_len_of_encoding(area: Area, reference: Area) -> Encoded
     ensures { λ r. ⌜ outcomeOf r ≡ lengthAnswer (againstArea reference) area ⌝ }
 {
-    let path = area.path;
-    let of = reference.path;
-    parts::relative_len_of_encoding(
-        area.subspace,
-        area.times,
-        &path.bytes,
-        &path.lengths,
-        path.count,
-        reference.subspace,
-        reference.times,
-        &of.bytes,
-        &of.lengths,
-        of.count,
-    )
+    let well = reference.well_formed();
+    if !well {
+        return Encoded::Malformed;
+    }
+    let area_well = area.well_formed();
+    if !area_well {
+        return Encoded::Malformed;
+    }
+    let path = area.path.flat();
+    let of = reference.path.flat();
+    sized::relative_len_of_encoding(area.head(), &path, reference.head(), &of)
 }
 
 // Writes an area against a reference.
 pub fn relative_encode(buffer: &mut [u8], area: Area, reference: Area) -> Encoded
     ensures { λ r. ⌜ (outcomeOf r ≡ writeAnswer (againstArea reference) area (length (now (buffer .entry)))) × (now (buffer .exit) ≡ writeBuffer (againstArea reference) area (now (buffer .entry))) ⌝ }
 {
-    let path = area.path;
-    let of = reference.path;
-    parts::relative_encode(
-        buffer,
-        area.subspace,
-        area.times,
-        &path.bytes,
-        &path.lengths,
-        path.count,
-        reference.subspace,
-        reference.times,
-        &of.bytes,
-        &of.lengths,
-        of.count,
-    )
+    let well = reference.well_formed();
+    if !well {
+        return Encoded::Malformed;
+    }
+    let area_well = area.well_formed();
+    if !area_well {
+        return Encoded::Malformed;
+    }
+    let path = area.path.flat();
+    let of = reference.path.flat();
+    sized::relative_encode(buffer, area.head(), &path, reference.head(), &of)
 }

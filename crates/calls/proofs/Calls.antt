@@ -2,7 +2,7 @@
 use Rattle.codec.proofs.Prelude.{_≡_, refl, _∙_, List, [], _∷_, ℕ, OneOf, length}
 use denote.Enum.Declared as declared
 use Rattle.codec.specs.Answers.{Answer, Outcome, answerOf, outcomeOf}
-use Rattle.codec.specs.Format.{Format, writeAnswer, writeBuffer}
+use Rattle.codec.specs.Format.{Format, writeAnswer, writeBuffer, WritesInto}
 use Rattle.codec.specs.declared.Decoded.{Decoded}
 use Rattle.codec.specs.declared.Decoded.the-variants as decoded
 use Rattle.codec.specs.declared.Encoded.{Encoded}
@@ -20,6 +20,9 @@ told-as t e = rw e at t
 pub encodes : {A : Type 0} {f : Format A} {v : A} {lent left : List ℕ} {x : Outcome} {r n : ℕ}
     → (x ≡ writeAnswer f v (length lent)) × (left ≡ writeBuffer f v lent) → Told x r n → Encodes f v lent left r n
 encodes e t = record { told = told-as t (e .0); buffer = e .1 }
+
+pub encodes-into : {A : Type 0} {f : Format A} {v : A} {e : Encoded} {lent left : List ℕ} {r n : ℕ} → WritesInto f v e lent left → Told (outcomeOf e) r n → Encodes f v lent left r n
+encodes-into w t = record { told = told-as t (w .answer); buffer = w .buffer }
 
 -- the same of what the flat bytes stand for
 pub encodes-of : {A R : Type 0} (f : R → Format A) {r q : R} {v w : A} {lent left : List ℕ} {x : Outcome} {code n : ℕ} → r ≡ q → v ≡ w

@@ -1,8 +1,9 @@
 // Answers as a caller in another language gets them: 0 or a refusal's number, and a count, which is 0 beside a refusal.
 ghost use mathlib.Core.Path.{_≡_};
 ghost use Prim.Native.Nat.{ℕ};
+ghost use lib.ListN.{length};
 ghost use Rattle.codec.specs.Answers.{outcomeOf, answerOf};
-ghost use Rattle.flat.specs.PathRecord.{pathFlat};
+ghost use Rattle.path.specs.Flat.{pathSize, pathFlat, pathIn};
 ghost use Rattle.flat.specs.AreaRecord.{areaFlat};
 ghost use Rattle.flat.specs.EntryRecord.{entryFlat};
 ghost use Rattle.flat.specs.RangeRecord.{rangeFlat};
@@ -11,7 +12,6 @@ use codec::Decoded;
 use codec::Encoded;
 use entry::Entry;
 use grouping::Area;
-use path::Path;
 use range_3d::Range3d;
 
 // A writer's answer.
@@ -48,15 +48,28 @@ fn refusal(answer: Decoded) -> u8
     }
 }
 
-// A path that was read is stored.
-pub fn give_path(answer: Decoded, path: Path, flat: &mut [u8; 641], consumed: &mut usize) -> u8
-    ensures { λ r. ⌜ Stores pathFlat (answerOf answer path) (now (flat .entry)) (now (flat .exit)) r (now (consumed .exit)) ⌝ }
+// Copies the record of a path.
+fn copy_path(flat: &mut [u8], path: &[u8])
+    requires { ⌜ (length (now flat) ≡ pathSize) × (length (now path) ≡ pathSize) ⌝ }
+    ensures { λ _. ⌜ now (flat .exit) ≡ pathFlat (pathIn (now (path .entry))) ⌝ }
+{
+    byte_codec::put_bytes(flat, path);
+}
+
+// The record of a path that was read is copied.
+pub fn give_path(
+    answer: Decoded,
+    path: &[u8; 641],
+    flat: &mut [u8; 641],
+    consumed: &mut usize,
+) -> u8
+    ensures { λ r. ⌜ Stores pathFlat (answerOf answer (pathIn (now (path .entry)))) (now (flat .entry)) (now (flat .exit)) r (now (consumed .exit)) ⌝ }
 {
     let Decoded::Consumed(n) = answer else {
         *consumed = 0;
         return refusal(answer);
     };
-    flat_records::path_record::store(flat, path);
+    copy_path(flat, path);
     *consumed = n;
     0
 }

@@ -5,7 +5,7 @@ use Rattle.codec.specs.declared.Encoded.{Encoded}
 use Rattle.codec.specs.declared.Encoded.the-variants as encoded
 use Rattle.codec.specs.Answers.{Outcome, wrote, denied, outcomeOf}
 use Rattle.codec.specs.Bytes.{zeroId}
-use Rattle.codec.specs.Format.{Format, Verdict, allowed, barred, over, lengthBy, inRoom, putAnswer, putBuffer, writeAnswer, writeBuffer, lengthAnswer}
+use Rattle.codec.specs.Format.{Format, Verdict, allowed, barred, over, lengthBy, inRoom, putAnswer, putBuffer, writeAnswer, writeBuffer, lengthAnswer, WritesInto}
 
 -- ---- the exits of a writer, by the tests 5, 3 and 4
 module _ (d : Verdict) (bs l : List ℕ) where
@@ -100,6 +100,10 @@ module _ {A : Type 0} (f : Format A) (v : A) where
 
     pub same-writing : (l : List ℕ) → (writeAnswer f v (length l) ≡ writeAnswer g v (length l)) × (writeBuffer f v l ≡ writeBuffer g v l)
     same-writing l = (rw (check, bytes), rw (check, bytes))
+
+-- answer and buffer, as one
+pub writes-into : {A : Type 0} {f : Format A} {v : A} {e : Encoded} {lent left : List ℕ} → (outcomeOf e ≡ writeAnswer f v (length lent)) × (left ≡ writeBuffer f v lent) → WritesInto f v e lent left
+writes-into x = record { answer = x .0; buffer = x .1 }
 
 -- a writer's answer that is no length
 pub no-length : (x : Encoded) → OneOf (1 ∷ 2 ∷ 3 ∷ []) (declared.tagOf Rattle.codec.proofs.Encoded.the-type x) → NoLength x

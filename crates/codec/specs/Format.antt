@@ -5,7 +5,8 @@ use mathlib.Core.Bool.{Bool, true, false, cond}
 use Prim.Native.Nat.{ℕ}
 use lib.Dec.{leb}
 use lib.ListN.{length, drop}
-use Rattle.codec.specs.Answers.{Outcome, wrote, denied}
+use Rattle.codec.specs.Answers.{Outcome, wrote, denied, outcomeOf}
+use Rattle.codec.specs.declared.Encoded.{Encoded}
 
 -- what the tests before the length say of a value: 5, then 3
 pub data Verdict : Type 0 where
@@ -70,6 +71,11 @@ module _ {A : Type 0} (f : Format A) where
   -- written length refuses as writing does, 4 aside
   unfoldable pub lengthAnswer : A → Outcome
   lengthAnswer v = lengthBy (f .check v) (length (f .encode v))
+
+-- what a writer of the value answers, and what it leaves in the lent buffer
+pub record WritesInto {A : Type 0} (f : Format A) (v : A) (e : Encoded) (lent left : List ℕ) : Type 0 where
+  pub answer : outcomeOf e ≡ writeAnswer f v (length lent)
+  pub buffer : left ≡ writeBuffer f v lent
 
 -- the values of a format in another shape: apart takes a value to the format's own
 abbrev pub reshaped : {A B : Type 0} → Format A → (B → A) → (B → Verdict) → Format B

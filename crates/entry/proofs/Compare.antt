@@ -1,19 +1,22 @@
 -- What comparing an entry with a namespace and an area answers, test by test.
-use Rattle.codec.proofs.Prelude.{_≡_, List, [], _∷_, true, false, _&&_, some, ℕ, tagOf, OneOf}
+use Rattle.codec.proofs.Prelude.{_≡_, refl, sym, List, [], _∷_, Bool, true, false, _&&_, some, ℕ, tagOf, OneOf}
 use Rattle.codec.specs.Bytes.{sameBytes}
+use Rattle.path.specs.declared.Path.{Path}
 use Rattle.path.specs.declared.Compared.{Compared}
 use Rattle.path.specs.declared.Compared.the-variants as compared
 use Rattle.path.specs.Record.{componentsOf, wellFormed}
 use Rattle.path.specs.Prefix.{isPrefix}
 use Rattle.path.specs.Answers.{verdict, prefixOf}
 use Rattle.grouping.specs.declared.Area.{Area}
+use Rattle.grouping.specs.declared.AreaHead.{AreaHead}
 use Rattle.grouping.specs.Range.{includesTime}
 use Rattle.grouping.specs.Area.{includesSubspace}
-use Rattle.grouping.specs.Record.{areaOf, subspaceOf, wellFormedSubspace, wellFormedArea}
+use Rattle.grouping.specs.Record.{areaOf, headed, subspaceOf, wellFormedSubspace, wellFormedArea}
 use Rattle.grouping.proofs.Compare.{verdict-yes, verdict-no, and-false}
 use Rattle.entry.specs.declared.Entry.{Entry}
+use Rattle.entry.specs.declared.EntryFields.{EntryFields}
 use Rattle.entry.specs.Entry.{liesInsideArea}
-use Rattle.entry.specs.Record.{entryOf, wellFormedEntry, entryInside}
+use Rattle.entry.specs.Record.{entryOf, fieldsOf, entryWith, wellFormedEntry, fieldsInside, entryInside}
 
 module _ (n : List ℕ) (r : Area) (e : Entry) where
   pub area-malformed : wellFormedSubspace (r .subspace) ≡ false → entryInside n r e ≡ compared.Malformed
@@ -32,7 +35,16 @@ module _ (n : List ℕ) (r : Area) (e : Entry) where
       unfolding prefixOf
       both = verdict-yes (wellFormed (r .path) && wellFormed (e .path)) (isPrefix (componentsOf (r .path)) (componentsOf (e .path))) f
 
-      pub prefix-told : entryInside n r e
-          ≡ verdict (sameBytes n (e .«namespace_id») && (includesSubspace (subspaceOf (r .subspace)) (some (e .«subspace_id»)) && includesTime (r .times) (e .timestamp)))
-      unfolding entryInside wellFormedArea wellFormedEntry liesInsideArea
+      pub prefix-told : entryInside n r e ≡ verdict (fieldsInside n (record { subspace = r .subspace; times = r .times }) (fieldsOf e))
+      unfolding entryInside wellFormedArea wellFormedEntry liesInsideArea fieldsInside
       prefix-told = rw (w, both .0, both .1)
+
+-- the parts of lying inside, the paths' first
+pub inside-by : (n : List ℕ) (h : AreaHead) (f : EntryFields) (q p : Path) → liesInsideArea n (areaOf (headed h q)) (entryOf (entryWith f p)) ≡ (isPrefix (componentsOf q) (componentsOf p) && fieldsInside n h f)
+unfolding liesInsideArea fieldsInside
+inside-by n h f q p = go (sameBytes n (f .«namespace_id»)) (includesSubspace (subspaceOf (h .subspace)) (some (f .«subspace_id»))) (isPrefix (componentsOf q) (componentsOf p))
+  where
+    go : (a b c : Bool) → (a && (b && (c && includesTime (h .times) (f .timestamp)))) ≡ (c && (a && (b && includesTime (h .times) (f .timestamp))))
+    go true true c = refl
+    go true false c = sym (and-false c)
+    go false b c = sym (and-false c)

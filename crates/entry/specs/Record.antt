@@ -1,16 +1,20 @@
 -- docs/FORMAT.md, "Entries": an entry as the code holds it. It is well formed when its path is.
 use mathlib.Core.List.{List}
 use mathlib.Core.Bool.{Bool, cond, _&&_}
+use mathlib.Core.Option.{some}
 use Prim.Native.Nat.{ℕ}
-use Rattle.codec.specs.Bytes.{TypedId}
+use Rattle.codec.specs.Bytes.{sameBytes, TypedId}
 use Rattle.compact_u64.specs.Number.{U64}
 use Rattle.path.specs.declared.Path.{Path}
 use Rattle.path.specs.declared.Compared.{Compared}
 use Rattle.path.specs.declared.Compared.the-variants as compared
-use Rattle.path.specs.Record.{componentsOf, pathFrom, wellFormed, TypedPath}
+use Rattle.path.specs.Record.{componentsOf, pathFrom, sized, wellFormed, TypedPath}
 use Rattle.path.specs.Answers.{verdict}
 use Rattle.grouping.specs.declared.Area.{Area}
-use Rattle.grouping.specs.Record.{areaOf, wellFormedArea}
+use Rattle.grouping.specs.declared.AreaHead.{AreaHead}
+use Rattle.grouping.specs.Range.{includesTime}
+use Rattle.grouping.specs.Area.{includesSubspace}
+use Rattle.grouping.specs.Record.{subspaceOf, areaOf, wellFormedArea}
 use Rattle.entry.specs.declared.Entry.{Entry}
 use Rattle.entry.specs.declared.EntryFields.{EntryFields}
 use Rattle.entry.specs.Entry.{EntryValue, liesInsideArea}
@@ -60,6 +64,10 @@ entryWith f path = record {
 unfoldable pub wellFormedEntry : Entry → Bool
 wellFormedEntry e = wellFormed (e .path)
 
+-- the sizes of its path alone
+unfoldable pub sizedEntry : Entry → Bool
+sizedEntry e = sized (e .path)
+
 -- what the language says of a record
 pub record TypedEntry (e : Entry) : Type 0 where
   pub namespace : TypedId (e .«namespace_id»)
@@ -68,6 +76,13 @@ pub record TypedEntry (e : Entry) : Type 0 where
   pub time : U64 (e .timestamp)
   pub size : U64 (e .«payload_length»)
   pub digest : TypedId (e .«payload_digest»)
+
+-- what lying inside asks of all but the paths
+unfoldable pub fieldsInside : List ℕ → AreaHead → EntryFields → Bool
+fieldsInside n h f =
+    sameBytes n (f .«namespace_id»)
+    && (includesSubspace (subspaceOf (h .subspace)) (some (f .«subspace_id»))
+    && includesTime (h .times) (f .timestamp))
 
 -- 5 unless both are well formed
 unfoldable pub entryInside : List ℕ → Area → Entry → Compared

@@ -1,13 +1,13 @@
 // Entries: docs/FORMAT.md, "Entries". A port of entry.rs, as far as the codecs use it.
 ghost use mathlib.Core.Path.{_≡_};
-ghost use Rattle.entry.specs.Record.{fieldsOf, wellFormedEntry, entryInside};
+ghost use Rattle.entry.specs.Record.{fieldsOf, wellFormedEntry, fieldsInside, entryInside};
 ghost use Rattle.entry.specs.Answers.{refusal};
 use codec::Decoded;
 use grouping::Area;
+use grouping::AreaHead;
+use grouping::AreaSubspace;
 use path::Compared;
 use path::Path;
-
-pub mod parts;
 
 pub struct Entry {
     pub namespace_id: [u8; 32],
@@ -51,6 +51,29 @@ pub fn refuse(answer: Decoded) -> DecodedEntry
     }
 }
 
+impl EntryFields {
+    // Whether what an entry has beside its path lies inside a namespace and what an area has beside its own.
+    pub fn lies_inside(self, namespace: [u8; 32], of: AreaHead) -> bool
+        ensures { λ r. ⌜ r ≡ fieldsInside namespace of self ⌝ }
+    {
+        let id = self.namespace_id;
+        let same = byte_codec::same_bytes(&namespace, &id);
+        if !same {
+            return false;
+        }
+        let subspace_id = self.subspace_id;
+        let subspace = AreaSubspace {
+            any: false,
+            id: subspace_id,
+        };
+        let included = of.subspace.includes_area_subspace(subspace);
+        if !included {
+            return false;
+        }
+        of.times.includes(self.timestamp)
+    }
+}
+
 impl Entry {
     pub fn fields(self) -> EntryFields
         ensures { λ r. ⌜ r ≡ fieldsOf self ⌝ }
@@ -77,20 +100,25 @@ impl Entry {
     pub fn lies_inside(self, namespace: [u8; 32], area: Area) -> Compared
         ensures { λ r. ⌜ r ≡ entryInside namespace area self ⌝ }
     {
+        let well = area.subspace.well_formed();
+        if !well {
+            return Compared::Malformed;
+        }
+        let prefix = area.path.is_prefix_of(self.path);
+        let Compared::Yes = prefix else {
+            return prefix;
+        };
         let fields = self.fields();
-        let path = self.path;
-        let of = area.path;
-        parts::lies_inside(
-            fields,
-            &path.bytes,
-            &path.lengths,
-            path.count,
-            namespace,
-            area.subspace,
-            area.times,
-            &of.bytes,
-            &of.lengths,
-            of.count,
-        )
+        let subspace = area.subspace;
+        let times = area.times;
+        let head = AreaHead {
+            subspace: subspace,
+            times: times,
+        };
+        let inside = fields.lies_inside(namespace, head);
+        if !inside {
+            return Compared::No;
+        }
+        Compared::Yes
     }
 }

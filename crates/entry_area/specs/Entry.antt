@@ -6,7 +6,7 @@ use Prim.Native.Nat.{ℕ}
 use lib.Dec.{eqb}
 use Rattle.codec.specs.Header.{readHeader}
 use Rattle.codec.specs.Reader.{Reader, give, someBytes, andThen, guard, checked, mapped}
-use Rattle.compact_u64.specs.Number.{numberBytes, standaloneBytes}
+use Rattle.compact_u64.specs.Number.{numberBytes}
 use Rattle.path.specs.Prefix.{isPrefix}
 use Rattle.path_relative.specs.Against.{againstBytes, readAgainst}
 use Rattle.grouping.specs.declared.TimeRange.{TimeRange}
@@ -34,12 +34,9 @@ idBytes (some r) id = []
 abbrev pub valueEnd : EntryValue → End
 valueEnd v = endFrom (v .time) (v .size) (v .digest)
 
--- the header and the id; what stands before the suffix of the path; what stands after it
+-- the header and the id; what stands after the path
 abbrev pub startOf : TimeRange → Option (List ℕ) → List ℕ → End → List ℕ
 startOf r s id e = packHeader (headerOf (isAny s) r (e .timestamp) (e .«payload_length»)) ∷ idBytes s id
-
-abbrev pub headBytes : TimeRange → Option (List ℕ) → List ℕ → End → ℕ → List ℕ
-headBytes r s id e k = startOf r s id e ++ standaloneBytes k
 
 abbrev pub payloadOf : End → List ℕ
 payloadOf e = numberBytes 2 (e .«payload_length») ++ e .«payload_digest»

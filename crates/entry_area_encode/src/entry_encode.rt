@@ -1,26 +1,44 @@
-// Writing what stands before the path and what stands after it; their lengths.
+// Writing the parts of an entry; their lengths.
 ghost use mathlib.Core.Path.{_≡_};
 ghost use mathlib.Core.List.{List};
 ghost use Prim.Native.Nat.{ℕ, _+_, _≤_};
 ghost use lib.ListN.{length};
-ghost use Rattle.codec.specs.Format.{over};
-ghost use Rattle.compact_u64.specs.Number.{standaloneBytes};
+ghost use Rattle.codec.specs.Answers.{outcomeOf};
+ghost use Rattle.codec.specs.Format.{allowed, over, putAnswer, putBuffer};
+ghost use Rattle.path.specs.Record.{sized};
+ghost use Rattle.path.specs.Flat.{pathIn};
+ghost use Rattle.path_relative.specs.Records.{sharedBy};
 ghost use Rattle.grouping.specs.Record.{subspaceOf};
-ghost use Rattle.entry_area.specs.Entry.{idBytes, startOf, headBytes, payloadOf, endOf};
+ghost use Rattle.entry_area.specs.Entry.{idBytes, startOf, payloadOf, endOf};
+ghost use Rattle.entry_area.specs.Records.{endIn, tailBytes, knownBytes};
+use codec::Encoded;
 use compact_u64::TagWidth;
+use entry::EntryFields;
 use entry_end::End;
+use grouping::AreaHead;
 use grouping::AreaSubspace;
 use grouping::TimeRange;
 
-// How many bytes the header, the id of an entry and the shared count take.
-pub(crate) fn head_len(subspace: AreaSubspace, k: u64) -> usize
-    ensures { λ r. ⌜ ((id : List ℕ) → length id ≡ 32 → r ≡ 1 + (length (idBytes (subspaceOf subspace) id) + length (standaloneBytes k))) × (r ≤ 42) ⌝ }
+// What stands after the path.
+pub(crate) fn end_of(fields: EntryFields) -> End
+    ensures { λ r. ⌜ r ≡ endIn fields ⌝ }
 {
-    let n = compact_u64::len_of_encoding(k);
-    if subspace.any {
-        return 33 + n;
+    let digest = fields.payload_digest;
+    End {
+        timestamp: fields.timestamp,
+        payload_length: fields.payload_length,
+        payload_digest: digest,
     }
-    1 + n
+}
+
+// How many bytes the header and the id of an entry take.
+pub(crate) fn start_len(subspace: AreaSubspace) -> usize
+    ensures { λ r. ⌜ ((id : List ℕ) → length id ≡ 32 → r ≡ 1 + length (idBytes (subspaceOf subspace) id)) × (r ≤ 33) ⌝ }
+{
+    if subspace.any {
+        return 33;
+    }
+    1
 }
 
 // How many bytes the fields after the path take.
@@ -34,38 +52,15 @@ pub(crate) fn end_len(end: End, times: TimeRange) -> usize
 }
 
 // The header and the id.
-fn put_start(
-    buffer: &mut [u8],
-    times: TimeRange,
-    subspace: AreaSubspace,
-    id: [u8; 32],
-    end: End,
-) -> usize
+fn put_start(buffer: &mut [u8], times: TimeRange, subspace: AreaSubspace, id: [u8; 32], end: End)
     requires { ⌜ length (startOf times (subspaceOf subspace) id end) ≤ length (now buffer) ⌝ }
-    ensures { λ r. ⌜ (r ≡ length (startOf times (subspaceOf subspace) id end)) × (now (buffer .exit) ≡ over (startOf times (subspaceOf subspace) id end) (now (buffer .entry))) ⌝ }
+    ensures { λ _. ⌜ now (buffer .exit) ≡ over (startOf times (subspaceOf subspace) id end) (now (buffer .entry)) ⌝ }
 {
     buffer[0] = entry_end::header_byte(subspace.any, times, end.timestamp, end.payload_length);
     if !subspace.any {
-        return 1;
+        return;
     }
     byte_codec::put_bytes(&mut buffer[1..], &id);
-    33
-}
-
-// The header, the id and the shared count.
-pub(crate) fn put_head(
-    buffer: &mut [u8],
-    times: TimeRange,
-    subspace: AreaSubspace,
-    id: [u8; 32],
-    end: End,
-    k: u64,
-)
-    requires { ⌜ length (headBytes times (subspaceOf subspace) id end k) ≤ length (now buffer) ⌝ }
-    ensures { λ _. ⌜ now (buffer .exit) ≡ over (headBytes times (subspaceOf subspace) id end k) (now (buffer .entry)) ⌝ }
-{
-    let n = put_start(buffer, times, subspace, id, end);
-    compact_u64::encode(&mut buffer[n..], k);
 }
 
 // The payload length and the digest.
@@ -80,7 +75,7 @@ fn put_payload(buffer: &mut [u8], end: End)
 }
 
 // The fields after the path.
-pub(crate) fn put_end(buffer: &mut [u8], end: End, times: TimeRange)
+fn put_end(buffer: &mut [u8], end: End, times: TimeRange)
     requires { ⌜ length (endOf times end) ≤ length (now buffer) ⌝ }
     ensures { λ _. ⌜ now (buffer .exit) ≡ over (endOf times end) (now (buffer .entry)) ⌝ }
 {
@@ -88,4 +83,47 @@ pub(crate) fn put_end(buffer: &mut [u8], end: End, times: TimeRange)
     let n = compact_u64::relative_len_of_encoding(TagWidth::Two, told.difference);
     compact_u64::relative_encode(buffer, TagWidth::Two, told.difference);
     put_payload(&mut buffer[n..], end);
+}
+
+// The path, `k` components of which are shared, and what stands after it: the path before the place of what follows it, since it is what may not fit.
+fn put_rest(tail: &mut [u8], end: End, times: TimeRange, path: &[u8], k: usize) -> Encoded
+    requires { ⌜ sharedBy sized k .check (pathIn (now path)) ≡ allowed ⌝ }
+    ensures { λ r. ⌜ (outcomeOf r ≡ putAnswer allowed (tailBytes times end (pathIn (now (path .entry))) k) (length (now (tail .entry)))) × (now (tail .exit) ≡ putBuffer allowed (tailBytes times end (pathIn (now (path .entry))) k) (now (tail .entry))) ⌝ }
+{
+    let z = end_len(end, times);
+    if tail.len() < z {
+        return Encoded::NoRoom;
+    }
+    let e = tail.len() - z;
+    let shared = path_relative_encode::sized::encode_shared(&mut tail[..e], path, k);
+    let Encoded::Length(n) = shared else {
+        return shared;
+    };
+    put_end(&mut tail[n..], end, times);
+    Encoded::Length(n + z)
+}
+
+// Writes an entry whose path shares `k` components with the area's: the rest before what comes first, since it is what may not fit.
+pub(crate) fn put_entry(
+    buffer: &mut [u8],
+    fields: EntryFields,
+    path: &[u8],
+    of: AreaHead,
+    k: usize,
+) -> Encoded
+    requires { ⌜ sharedBy sized k .check (pathIn (now path)) ≡ allowed ⌝ }
+    ensures { λ r. ⌜ (outcomeOf r ≡ putAnswer allowed (knownBytes of fields (pathIn (now (path .entry))) k) (length (now (buffer .entry)))) × (now (buffer .exit) ≡ putBuffer allowed (knownBytes of fields (pathIn (now (path .entry))) k) (now (buffer .entry))) ⌝ }
+{
+    let end = end_of(fields);
+    let a = start_len(of.subspace);
+    if buffer.len() < a {
+        return Encoded::NoRoom;
+    }
+    let rest = put_rest(&mut buffer[a..], end, of.times, path, k);
+    let Encoded::Length(n) = rest else {
+        return rest;
+    };
+    let id = fields.subspace_id;
+    put_start(buffer, of.times, of.subspace, id, end);
+    Encoded::Length(a + n)
 }

@@ -7,49 +7,56 @@ ghost use Rattle.entry_area.specs.Records.{againstNamespaceArea};
 use codec::Encoded;
 use entry::Entry;
 use grouping::Area;
+use grouping::AreaHead;
 
 mod entry_encode;
-pub mod parts;
+pub mod lent;
+pub mod sized;
 
 // How many bytes an entry against a namespace and an area takes.
 pub fn relative_len_of_encoding(entry: Entry, namespace: [u8; 32], area: Area) -> Encoded
     ensures { λ r. ⌜ outcomeOf r ≡ lengthAnswer (againstNamespaceArea namespace area) entry ⌝ }
 {
+    let of_well = area.well_formed();
+    if !of_well {
+        return Encoded::Malformed;
+    }
+    let well = entry.well_formed();
+    if !well {
+        return Encoded::Malformed;
+    }
+    let path = entry.path.flat();
+    let of_path = area.path.flat();
     let fields = entry.fields();
-    let path = entry.path;
-    let of = area.path;
-    parts::relative_len_of_encoding(
-        fields,
-        &path.bytes,
-        &path.lengths,
-        path.count,
-        namespace,
-        area.subspace,
-        area.times,
-        &of.bytes,
-        &of.lengths,
-        of.count,
-    )
+    let subspace = area.subspace;
+    let times = area.times;
+    let of = AreaHead {
+        subspace: subspace,
+        times: times,
+    };
+    sized::relative_len_of_encoding(fields, &path, namespace, of, &of_path)
 }
 
 // Writes an entry against a namespace and an area.
 pub fn relative_encode(buffer: &mut [u8], entry: Entry, namespace: [u8; 32], area: Area) -> Encoded
     ensures { λ r. ⌜ (outcomeOf r ≡ writeAnswer (againstNamespaceArea namespace area) entry (length (now (buffer .entry)))) × (now (buffer .exit) ≡ writeBuffer (againstNamespaceArea namespace area) entry (now (buffer .entry))) ⌝ }
 {
+    let of_well = area.well_formed();
+    if !of_well {
+        return Encoded::Malformed;
+    }
+    let well = entry.well_formed();
+    if !well {
+        return Encoded::Malformed;
+    }
+    let path = entry.path.flat();
+    let of_path = area.path.flat();
     let fields = entry.fields();
-    let path = entry.path;
-    let of = area.path;
-    parts::relative_encode(
-        buffer,
-        fields,
-        &path.bytes,
-        &path.lengths,
-        path.count,
-        namespace,
-        area.subspace,
-        area.times,
-        &of.bytes,
-        &of.lengths,
-        of.count,
-    )
+    let subspace = area.subspace;
+    let times = area.times;
+    let of = AreaHead {
+        subspace: subspace,
+        times: times,
+    };
+    sized::relative_encode(buffer, fields, &path, namespace, of, &of_path)
 }

@@ -1,6 +1,6 @@
 -- docs/FORMAT.md, "Entries against an entry": the same, as the code holds entries. 5 is tested on the reference and on the entry; nothing lies outside.
 use mathlib.Core.List.{List, _++_}
-use mathlib.Core.Bool.{true, _&&_}
+use mathlib.Core.Bool.{Bool, true, _&&_}
 use Prim.Native.Nat.{ℕ}
 use Rattle.codec.specs.Format.{Format, verdictBy}
 use Rattle.codec.specs.Reader.{Reader, mapped, onFormed}
@@ -11,11 +11,15 @@ use Rattle.entry_numbers.specs.declared.Header.{Header}
 use Rattle.entry_numbers.specs.Numbers.{headerOf, numbersBytes}
 use Rattle.entry_entry.specs.Entry.{idWritten, idBytes, entryBytes, readEntry}
 
-abbrev pub againstEntry : Entry → Format Entry
-againstEntry r = record {
-  check = λ e. verdictBy (wellFormedEntry r && wellFormedEntry e) true;
+-- 5 unless both entries pass the test
+abbrev pub againstEntryBy : (Entry → Bool) → Entry → Format Entry
+againstEntryBy formed r = record {
+  check = λ e. verdictBy (formed r && formed e) true;
   encode = λ e. entryBytes (entryOf r) (entryOf e);
 }
+
+abbrev pub againstEntry : Entry → Format Entry
+againstEntry = againstEntryBy wellFormedEntry
 
 unfoldable pub readAgainstEntry : Entry → Reader Entry
 readAgainstEntry r = onFormed (wellFormedEntry r) (mapped entryFrom (readEntry (entryOf r)))

@@ -4,8 +4,9 @@ ghost use mathlib.Core.List.{_∷_, _++_};
 ghost use Prim.Native.Nat.{_+_, _≤_};
 ghost use lib.ListN.{length};
 ghost use Rattle.codec.specs.Format.{allowed, over};
-ghost use Rattle.path.specs.Record.{pathOf};
-ghost use Rattle.path_relative.specs.Records.{sharedFrom};
+ghost use Rattle.path.specs.Record.{sized};
+ghost use Rattle.path.specs.Flat.{pathIn};
+ghost use Rattle.path_relative.specs.Records.{sharedBy};
 ghost use Rattle.entry_numbers.specs.Header.{packHeader};
 ghost use Rattle.entry_numbers.specs.Numbers.{numbersBytes};
 ghost use Rattle.entry_entry.specs.Entry.{idWritten, idBytes};
@@ -100,18 +101,11 @@ fn put_ids(buffer: &mut [u8], fields: EntryFields, of: EntryFields) -> usize
 }
 
 // The path, `k` components of which are shared, and the digest.
-fn put_end<'a>(
-    buffer: &mut [u8],
-    digest: [u8; 32],
-    bytes: &'a [u8],
-    lengths: &'a [usize],
-    count: usize,
-    k: usize,
-)
-    requires { ⌜ (sharedFrom k .check (pathOf (now bytes) (now lengths) count) ≡ allowed) × (length (sharedFrom k .encode (pathOf (now bytes) (now lengths) count) ++ digest) ≤ length (now buffer)) ⌝ }
-    ensures { λ _. ⌜ now (buffer .exit) ≡ over (sharedFrom k .encode (pathOf (now (bytes .entry)) (now (lengths .entry)) count) ++ digest) (now (buffer .entry)) ⌝ }
+fn put_end(buffer: &mut [u8], digest: [u8; 32], path: &[u8], k: usize)
+    requires { ⌜ (sharedBy sized k .check (pathIn (now path)) ≡ allowed) × (length (sharedBy sized k .encode (pathIn (now path)) ++ digest) ≤ length (now buffer)) ⌝ }
+    ensures { λ _. ⌜ now (buffer .exit) ≡ over (sharedBy sized k .encode (pathIn (now (path .entry))) ++ digest) (now (buffer .entry)) ⌝ }
 {
-    let whole = path_relative_encode::parts::encode_shared(buffer, bytes, lengths, count, k);
+    let whole = path_relative_encode::sized::encode_shared(buffer, path, k);
     let Encoded::Length(n) = whole else {
         return;
     };
@@ -119,17 +113,9 @@ fn put_end<'a>(
 }
 
 // What follows the ids.
-fn put_rest<'a>(
-    buffer: &mut [u8],
-    fields: EntryFields,
-    of: EntryFields,
-    bytes: &'a [u8],
-    lengths: &'a [usize],
-    count: usize,
-    k: usize,
-)
-    requires { ⌜ (sharedFrom k .check (pathOf (now bytes) (now lengths) count) ≡ allowed) × (length (restWith of fields (sharedFrom k .encode (pathOf (now bytes) (now lengths) count))) ≤ length (now buffer)) ⌝ }
-    ensures { λ _. ⌜ now (buffer .exit) ≡ over (restWith of fields (sharedFrom k .encode (pathOf (now (bytes .entry)) (now (lengths .entry)) count))) (now (buffer .entry)) ⌝ }
+fn put_rest(buffer: &mut [u8], fields: EntryFields, of: EntryFields, path: &[u8], k: usize)
+    requires { ⌜ (sharedBy sized k .check (pathIn (now path)) ≡ allowed) × (length (restWith of fields (sharedBy sized k .encode (pathIn (now path)))) ≤ length (now buffer)) ⌝ }
+    ensures { λ _. ⌜ now (buffer .exit) ≡ over (restWith of fields (sharedBy sized k .encode (pathIn (now (path .entry))))) (now (buffer .entry)) ⌝ }
 {
     let n = entry_numbers::relative_len_of_encoding(
         fields.timestamp,
@@ -143,39 +129,29 @@ fn put_rest<'a>(
         of.timestamp,
     );
     let digest = fields.payload_digest;
-    put_end(&mut buffer[n..], digest, bytes, lengths, count, k);
+    put_end(&mut buffer[n..], digest, path, k);
 }
 
 // What follows the header.
-fn put_parts<'a>(
-    buffer: &mut [u8],
-    fields: EntryFields,
-    of: EntryFields,
-    bytes: &'a [u8],
-    lengths: &'a [usize],
-    count: usize,
-    k: usize,
-)
-    requires { ⌜ (sharedFrom k .check (pathOf (now bytes) (now lengths) count) ≡ allowed) × (length (partsWith of fields (sharedFrom k .encode (pathOf (now bytes) (now lengths) count))) ≤ length (now buffer)) ⌝ }
-    ensures { λ _. ⌜ now (buffer .exit) ≡ over (partsWith of fields (sharedFrom k .encode (pathOf (now (bytes .entry)) (now (lengths .entry)) count))) (now (buffer .entry)) ⌝ }
+fn put_parts(buffer: &mut [u8], fields: EntryFields, of: EntryFields, path: &[u8], k: usize)
+    requires { ⌜ (sharedBy sized k .check (pathIn (now path)) ≡ allowed) × (length (partsWith of fields (sharedBy sized k .encode (pathIn (now path)))) ≤ length (now buffer)) ⌝ }
+    ensures { λ _. ⌜ now (buffer .exit) ≡ over (partsWith of fields (sharedBy sized k .encode (pathIn (now (path .entry))))) (now (buffer .entry)) ⌝ }
 {
     let n = put_ids(buffer, fields, of);
-    put_rest(&mut buffer[n..], fields, of, bytes, lengths, count, k);
+    put_rest(&mut buffer[n..], fields, of, path, k);
 }
 
 // Writes an entry, `k` components of whose path are shared.
-pub(crate) fn put_entry<'a>(
+pub(crate) fn put_entry(
     buffer: &mut [u8],
     fields: EntryFields,
     of: EntryFields,
-    bytes: &'a [u8],
-    lengths: &'a [usize],
-    count: usize,
+    path: &[u8],
     k: usize,
 )
-    requires { ⌜ (sharedFrom k .check (pathOf (now bytes) (now lengths) count) ≡ allowed) × (1 + length (partsWith of fields (sharedFrom k .encode (pathOf (now bytes) (now lengths) count))) ≤ length (now buffer)) ⌝ }
-    ensures { λ _. ⌜ now (buffer .exit) ≡ over (packHeader (headerWith of fields) ∷ partsWith of fields (sharedFrom k .encode (pathOf (now (bytes .entry)) (now (lengths .entry)) count))) (now (buffer .entry)) ⌝ }
+    requires { ⌜ (sharedBy sized k .check (pathIn (now path)) ≡ allowed) × (1 + length (partsWith of fields (sharedBy sized k .encode (pathIn (now path)))) ≤ length (now buffer)) ⌝ }
+    ensures { λ _. ⌜ now (buffer .exit) ≡ over (packHeader (headerWith of fields) ∷ partsWith of fields (sharedBy sized k .encode (pathIn (now (path .entry))))) (now (buffer .entry)) ⌝ }
 {
     buffer[0] = header_byte(fields, of);
-    put_parts(&mut buffer[1..], fields, of, bytes, lengths, count, k);
+    put_parts(&mut buffer[1..], fields, of, path, k);
 }

@@ -8,41 +8,43 @@ use codec::Encoded;
 use entry::Entry;
 
 mod entry_encode;
-pub mod parts;
+pub mod lent;
+pub mod sized;
 
 // How many bytes an entry against a reference takes.
 pub fn relative_len_of_encoding(entry: Entry, reference: Entry) -> Encoded
     ensures { λ r. ⌜ outcomeOf r ≡ lengthAnswer (againstEntry reference) entry ⌝ }
 {
+    let of_well = reference.well_formed();
+    if !of_well {
+        return Encoded::Malformed;
+    }
+    let well = entry.well_formed();
+    if !well {
+        return Encoded::Malformed;
+    }
+    let path = entry.path.flat();
+    let of_path = reference.path.flat();
     let fields = entry.fields();
     let of = reference.fields();
-    parts::relative_len_of_encoding(
-        fields,
-        &entry.path.bytes,
-        &entry.path.lengths,
-        entry.path.count,
-        of,
-        &reference.path.bytes,
-        &reference.path.lengths,
-        reference.path.count,
-    )
+    sized::relative_len_of_encoding(fields, &path, of, &of_path)
 }
 
 // Writes an entry against a reference.
 pub fn relative_encode(buffer: &mut [u8], entry: Entry, reference: Entry) -> Encoded
     ensures { λ r. ⌜ (outcomeOf r ≡ writeAnswer (againstEntry reference) entry (length (now (buffer .entry)))) × (now (buffer .exit) ≡ writeBuffer (againstEntry reference) entry (now (buffer .entry))) ⌝ }
 {
+    let of_well = reference.well_formed();
+    if !of_well {
+        return Encoded::Malformed;
+    }
+    let well = entry.well_formed();
+    if !well {
+        return Encoded::Malformed;
+    }
+    let path = entry.path.flat();
+    let of_path = reference.path.flat();
     let fields = entry.fields();
     let of = reference.fields();
-    parts::relative_encode(
-        buffer,
-        fields,
-        &entry.path.bytes,
-        &entry.path.lengths,
-        entry.path.count,
-        of,
-        &reference.path.bytes,
-        &reference.path.lengths,
-        reference.path.count,
-    )
+    sized::relative_encode(buffer, fields, &path, of, &of_path)
 }

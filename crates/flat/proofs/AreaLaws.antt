@@ -1,15 +1,17 @@
 -- Areas as flat bytes: there and back.
-use Rattle.codec.proofs.Prelude.{_≡_, refl, sym, ap, _∙_, List, [], _∷_, _++_, Bool, true, false, _&&_, ℕ, suc, _≤_, arith, leb, length, take, drop, getD, length-append, length-drop, take-at, drop-at, leb-true}
+use Rattle.codec.proofs.Prelude.{_≡_, refl, sym, ap, _∙_, List, [], _∷_, _++_, Bool, true, false, true≢false, _&&_, and-false, ℕ, suc, _≤_, arith, leb, length, take, drop, getD, length-append, length-drop, take-at, drop-at, leb-true}
 use Rattle.codec.specs.Answers.{AllBytes}
 use Rattle.codec.proofs.Bytes.{AllBytes·drop}
 use Rattle.codec.proofs.Tests.{and-left, and-right}
 use Rattle.path.specs.Record.{wellFormed}
 use Rattle.grouping.specs.declared.Area.{Area}
-use Rattle.grouping.specs.Record.{wellFormedArea, wellFormedSubspace, TypedArea}
-use Rattle.flat.specs.PathRecord.{pathFlat, pathIf, pathIn}
+use Rattle.grouping.specs.Record.{headOf, headed, wellFormedArea, wellFormedSubspace, TypedArea}
+use Rattle.path.specs.Flat.{pathFlat, pathIn}
+use Rattle.flat.specs.PathRecord.{pathIf}
 use Rattle.flat.specs.Times.{timesFlat, timesMarked, timesIn}
 use Rattle.flat.specs.AreaRecord.{subspaceFlat, areaFlat, areaMarked, areaIn}
-use Rattle.flat.proofs.PathLaws.{path-long, path-loads, path-stores, unmarked}
+use Rattle.path.proofs.Loads.{path-long, path-loads, path-stores, path-within}
+use Rattle.flat.proofs.PathLaws.{unmarked}
 use Rattle.flat.proofs.TimesLaws.{mark-loads, mark-small, mark-stores, times-marked, times-loads, times-stores, times-long, drop-two, three}
 
 pub area-long : (a : Area) → TypedArea a → length (areaFlat a) ≡ 691
@@ -60,3 +62,30 @@ area-stores s long b w = go (leb (getD s 0 0) 1 && timesMarked (drop 674 s)) ref
     go : (ok : Bool) → (leb (getD s 0 0) 1 && timesMarked (drop 674 s)) ≡ ok → wellFormed (pathIf ok (drop 33 s)) ≡ true → stored ok ≡ s
     go true e f = fields (and-left (leb (getD s 0 0) 1) (timesMarked (drop 674 s)) e) (and-right (leb (getD s 0 0) 1) (timesMarked (drop 674 s)) e)
     go false e f = absurd (unmarked (drop 33 s) f)
+
+-- an area whose marks are 0 or 1, by its head and the record of its path; any other is not well formed
+pub area-lent : (s p : List ℕ) → (p ≡ take 641 (drop 33 s)) × (length p ≡ 641) → areaMarked s ≡ true → headed (headOf (areaIn s)) (pathIn p) ≡ areaIn s
+unfolding areaIn pathIn
+area-lent s p e m =
+    let path : pathIn p ≡ pathIf (areaMarked s) (drop 33 s) = path-within p (drop 33 s) e ∙ whole (areaMarked s) m in
+    λ i. record { subspace = areaIn s .subspace; path = path i; times = areaIn s .times }
+  where
+    whole : (b : Bool) → b ≡ true → pathIn (drop 33 s) ≡ pathIf b (drop 33 s)
+    whole b e = rw e
+
+pub area-unmarked : (s : List ℕ) → areaMarked s ≡ false → wellFormedArea (areaIn s) ≡ false
+unfolding areaIn wellFormedArea
+area-unmarked s m = rw m (none (wellFormedSubspace (areaIn s .subspace)) (wellFormed (pathIf false (drop 33 s))) refl)
+  where
+    none : (a b : Bool) → wellFormed (pathIf false (drop 33 s)) ≡ b → (a && b) ≡ false
+    none a true e = absurd (unmarked (drop 33 s) e)
+    none true false e = refl
+    none false false e = refl
+
+pub areas-unmarked : (s t : List ℕ) → (areaMarked s && areaMarked t) ≡ false → (wellFormedArea (areaIn s) && wellFormedArea (areaIn t)) ≡ false
+areas-unmarked s t e = go (areaMarked s) (areaMarked t) refl refl e
+  where
+    go : (a b : Bool) → areaMarked s ≡ a → areaMarked t ≡ b → (a && b) ≡ false → (wellFormedArea (areaIn s) && wellFormedArea (areaIn t)) ≡ false
+    go true true f g e = absurd (true≢false e)
+    go true false f g e = rw (area-unmarked t g) (and-false (wellFormedArea (areaIn s)))
+    go false b f g e = rw (area-unmarked s f)

@@ -4,10 +4,10 @@ use Rattle.codec.specs.Answers.{AllBytes}
 use Rattle.codec.proofs.Bytes.{AllBytes·drop}
 use Rattle.compact_u64.specs.BigEndian.{bigEndian, valueOf}
 use Rattle.entry.specs.declared.Entry.{Entry}
-use Rattle.entry.specs.Record.{wellFormedEntry, TypedEntry}
-use Rattle.flat.specs.PathRecord.{pathFlat, pathIn}
+use Rattle.entry.specs.Record.{fieldsOf, entryWith, wellFormedEntry, TypedEntry}
+use Rattle.path.specs.Flat.{pathFlat, pathIn}
 use Rattle.flat.specs.EntryRecord.{entryFlat, entryIn}
-use Rattle.flat.proofs.PathLaws.{number-loads, number-stores, path-long, path-loads, path-stores}
+use Rattle.path.proofs.Loads.{number-loads, number-stores, path-long, path-loads, path-stores, path-within}
 use Rattle.flat.proofs.TimesLaws.{drop-two, three}
 
 pub entry-long : (e : Entry) → TypedEntry e → length (entryFlat e) ≡ 753
@@ -88,3 +88,10 @@ entry-stores s long b w =
     whole : (p a b : List ℕ) → p ≡ take 641 (drop 64 s) → a ≡ take 8 (drop 705 s) → b ≡ take 8 (drop 713 s)
         → (take 32 s ++ take 32 (drop 32 s)) ++ (p ++ (a ++ (b ++ take 32 (drop 721 s)))) ≡ s
     whole p a b ep ea eb = rw (ep, ea, eb, end, ← (take-add 32 32 s)) (three s 64 641)
+
+-- an entry by its fields and the record of its path
+pub entry-lent : (s p : List ℕ) → (p ≡ take 641 (drop 64 s)) × (length p ≡ 641) → entryWith (fieldsOf (entryIn s)) (pathIn p) ≡ entryIn s
+unfolding entryIn
+entry-lent s p e =
+    let path = path-within p (drop 64 s) e in
+    λ i. entryWith (fieldsOf (entryIn s)) (path i)

@@ -1,6 +1,4 @@
-pub mod Puts
 pub mod Parts
-pub mod Shorts
 pub mod PathLaws
 pub mod TimesLaws
 pub mod AreaLaws

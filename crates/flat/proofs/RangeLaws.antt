@@ -1,16 +1,18 @@
 -- 3d ranges as flat bytes: there and back.
-use Rattle.codec.proofs.Prelude.{_≡_, refl, sym, _∙_, List, _∷_, _++_, append-assoc, Bool, true, false, _&&_, ℕ, suc, _+_, _≤_, _<_, arith, leb, length, take, drop, getD, length-append, length-drop, take-at, drop-at, drop-drop, take-add, drop-cons, getD-drop, leb-true}
+use Rattle.codec.proofs.Prelude.{_≡_, refl, sym, _∙_, List, _∷_, _++_, append-assoc, Bool, true, false, true≢false, _&&_, and-false, ℕ, suc, _+_, _≤_, _<_, arith, leb, length, take, drop, getD, length-append, length-drop, take-at, drop-at, drop-drop, take-add, drop-cons, getD-drop, leb-true}
 use Rattle.codec.specs.Answers.{AllBytes}
 use Rattle.codec.specs.Header.{bit}
 use Rattle.codec.proofs.Bytes.{AllBytes·drop}
 use Rattle.codec.proofs.Tests.{and-left, and-right}
 use Rattle.path.specs.Record.{wellFormed}
 use Rattle.range_3d.specs.declared.Range3d.{Range3d}
-use Rattle.range_3d.specs.Record.{wellFormedSubspaces, wellFormedPaths, wellFormedRange3d, TypedRange3d}
-use Rattle.flat.specs.PathRecord.{pathFlat, pathIf, pathIn}
+use Rattle.range_3d.specs.Record.{headOf, headed, wellFormedSubspaces, wellFormedPaths, wellFormedRange3d, TypedRange3d}
+use Rattle.path.specs.Flat.{pathFlat, pathIn}
+use Rattle.flat.specs.PathRecord.{pathIf}
 use Rattle.flat.specs.Times.{timesFlat, timesMarked, timesIn}
 use Rattle.flat.specs.RangeRecord.{subspacesFlat, rangeFlat, rangeMarked, subspacesIn, rangeIn}
-use Rattle.flat.proofs.PathLaws.{path-long, path-loads, path-stores, unmarked}
+use Rattle.path.proofs.Loads.{path-long, path-loads, path-stores, path-within}
+use Rattle.flat.proofs.PathLaws.{unmarked}
 use Rattle.flat.proofs.TimesLaws.{mark-loads, mark-small, mark-stores, times-marked, times-loads, times-stores, times-long, three}
 
 pub range-long : (r : Range3d) → TypedRange3d r → length (rangeFlat r) ≡ 1365
@@ -144,3 +146,33 @@ range-stores s long b w = go (rangeMarked s) refl (and-left (wellFormed (rangeIn
     go : (ok : Bool) → rangeMarked s ≡ ok → wellFormed (pathIf ok (drop 65 s)) ≡ true → stored ok ≡ s
     go true e f = fields (marks s e)
     go false e f = absurd (unmarked (drop 65 s) f)
+
+-- a 3d range whose marks are 0 or 1, by its head and the records of its paths; any other is not well formed
+pub range-lent : (s p q : List ℕ) → (p ≡ take 641 (drop 65 s)) × (length p ≡ 641) → (q ≡ take 641 (drop 707 s)) × (length q ≡ 641) → rangeMarked s ≡ true → headed (headOf (rangeIn s)) (pathIn p) (pathIn q) ≡ rangeIn s
+unfolding rangeIn pathIn
+range-lent s p q e f m =
+    let start : pathIn p ≡ pathIf (rangeMarked s) (drop 65 s) = path-within p (drop 65 s) e ∙ whole (rangeMarked s) m in
+    let end : pathIn q ≡ pathIn (drop 707 s) = path-within q (drop 707 s) f in
+    λ i. headed (headOf (rangeIn s)) (start i) (end i)
+  where
+    whole : (b : Bool) → b ≡ true → pathIn (drop 65 s) ≡ pathIf b (drop 65 s)
+    whole b e = rw e
+
+range-marks : (s : List ℕ) → rangeMarked s ≡ false → wellFormedRange3d (rangeIn s) ≡ true → ⊥
+unfolding rangeIn wellFormedRange3d wellFormedPaths
+range-marks s m w = unmarked (drop 65 s) (rw m at (and-left (wellFormed (rangeIn s .paths .start)) _ (and-right (wellFormedSubspaces (rangeIn s .subspaces)) _ w)))
+
+range-unmarked : (s : List ℕ) → rangeMarked s ≡ false → wellFormedRange3d (rangeIn s) ≡ false
+range-unmarked s m = go (wellFormedRange3d (rangeIn s)) refl
+  where
+    go : (b : Bool) → wellFormedRange3d (rangeIn s) ≡ b → b ≡ false
+    go true e = absurd (range-marks s m e)
+    go false e = refl
+
+pub ranges-unmarked : (s t : List ℕ) → (rangeMarked s && rangeMarked t) ≡ false → (wellFormedRange3d (rangeIn s) && wellFormedRange3d (rangeIn t)) ≡ false
+ranges-unmarked s t e = go (rangeMarked s) (rangeMarked t) refl refl e
+  where
+    go : (a b : Bool) → rangeMarked s ≡ a → rangeMarked t ≡ b → (a && b) ≡ false → (wellFormedRange3d (rangeIn s) && wellFormedRange3d (rangeIn t)) ≡ false
+    go true true f g e = absurd (true≢false e)
+    go true false f g e = rw (range-unmarked t g) (and-false (wellFormedRange3d (rangeIn s)))
+    go false b f g e = rw (range-unmarked s f)

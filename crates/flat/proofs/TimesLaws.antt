@@ -9,7 +9,7 @@ use Rattle.grouping.specs.declared.RangeEnd.the-variants.{Closed, Open}
 use Rattle.grouping.specs.declared.TimeRange.{TimeRange}
 use Rattle.grouping.specs.Range.{TypedRange, isOpen, endValue, top}
 use Rattle.flat.specs.Times.{endTime, timesFlat, timesMarked, timesIn}
-use Rattle.flat.proofs.PathLaws.{number-loads, number-stores}
+use Rattle.path.proofs.Loads.{number-loads, number-stores}
 
 -- ---- marks
 pub mark-loads : (b : Bool) → eqb (bit b) 1 ≡ b

@@ -7,7 +7,8 @@ use lib.ListN.{take, drop, getD}
 use Rattle.codec.specs.Header.{bit}
 use Rattle.grouping.specs.declared.Area.{Area}
 use Rattle.grouping.specs.declared.AreaSubspace.{AreaSubspace}
-use Rattle.flat.specs.PathRecord.{pathFlat, pathIf}
+use Rattle.path.specs.Flat.{pathFlat}
+use Rattle.flat.specs.PathRecord.{pathIf}
 use Rattle.flat.specs.Times.{timesFlat, timesMarked, timesIn}
 
 abbrev pub subspaceFlat : AreaSubspace → List ℕ

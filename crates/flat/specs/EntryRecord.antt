@@ -6,7 +6,7 @@ use Rattle.compact_u64.specs.BigEndian.{bigEndian, valueOf}
 use Rattle.entry.specs.declared.Entry.{Entry}
 use Rattle.entry.specs.declared.EntryFields.{EntryFields}
 use Rattle.entry.specs.Record.{fieldsOf}
-use Rattle.flat.specs.PathRecord.{pathFlat, pathIn}
+use Rattle.path.specs.Flat.{pathFlat, pathIn}
 
 abbrev pub idsFlat : EntryFields → List ℕ
 idsFlat f = f .«namespace_id» ++ f .«subspace_id»

@@ -13,7 +13,7 @@ use Rattle.entry.specs.declared.Entry.{Entry}
 use Rattle.entry.specs.Record.{wellFormedEntry, TypedEntry}
 use Rattle.range_3d.specs.declared.Range3d.{Range3d}
 use Rattle.range_3d.specs.Record.{wellFormedRange3d, TypedRange3d}
-use Rattle.flat.specs.PathRecord.{pathFlat, pathIn}
+use Rattle.path.specs.Flat.{pathFlat, pathIn}
 use Rattle.flat.specs.AreaRecord.{areaFlat, areaIn}
 use Rattle.flat.specs.EntryRecord.{entryFlat, entryIn}
 use Rattle.flat.specs.RangeRecord.{rangeFlat, rangeIn}

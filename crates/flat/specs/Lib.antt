@@ -1,4 +1,3 @@
-pub mod Puts
 pub mod PathRecord
 pub mod Times
 pub mod AreaRecord

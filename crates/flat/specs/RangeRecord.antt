@@ -8,7 +8,8 @@ use Rattle.codec.specs.Header.{bit}
 use Rattle.path.specs.declared.Path.{Path}
 use Rattle.range_3d.specs.declared.SubspaceRange.{SubspaceRange}
 use Rattle.range_3d.specs.declared.Range3d.{Range3d}
-use Rattle.flat.specs.PathRecord.{pathFlat, pathIf, pathIn}
+use Rattle.path.specs.Flat.{pathFlat, pathIn}
+use Rattle.flat.specs.PathRecord.{pathIf}
 use Rattle.flat.specs.Times.{timesFlat, timesMarked, timesIn}
 
 abbrev pub subspacesFlat : SubspaceRange → List ℕ

@@ -1,14 +1,18 @@
 // An area: the mark of any subspace, the id, the path, the times.
 ghost use mathlib.Core.Path.{_≡_};
+ghost use mathlib.Core.Bool.{_&&_};
+ghost use mathlib.Core.List.{_++_};
 ghost use Prim.Native.Nat.{_≤_};
-ghost use lib.ListN.{length};
-ghost use Rattle.path.specs.Record.{pathOf};
-ghost use Rattle.grouping.specs.Record.{areaWith};
-ghost use Rattle.flat.specs.PathRecord.{sizesOf, PathLong};
+ghost use lib.ListN.{length, take, drop};
+ghost use Rattle.path.specs.Flat.{pathSize};
+ghost use Rattle.grouping.specs.Record.{headOf};
+ghost use Rattle.flat.specs.PathRecord.{sizesOf};
+ghost use Rattle.flat.specs.Times.{timesFlat};
 ghost use Rattle.flat.specs.AreaRecord.{subspaceFlat, areaMarked, areaIn, areaFlat};
-ghost use Rattle.flat.specs.Puts.{Puts};
+ghost use Rattle.path.specs.Puts.{Puts};
 use flat::PathSizes;
 use grouping::Area;
+use grouping::AreaHead;
 use grouping::AreaSubspace;
 use grouping::TimeRange;
 
@@ -78,19 +82,12 @@ fn put_subspace(flat: &mut [u8], subspace: AreaSubspace)
 }
 
 // Writes an area from the first byte on.
-fn put_area<'a>(
-    flat: &mut [u8],
-    subspace: AreaSubspace,
-    times: TimeRange,
-    bytes: &'a [u8],
-    lengths: &'a [usize],
-    count: usize,
-)
-    requires { ⌜ (691 ≤ length (now flat)) × PathLong (now bytes) (now lengths) ⌝ }
-    ensures { λ _. ⌜ Puts 691 (areaFlat (areaWith subspace (pathOf (now (bytes .entry)) (now (lengths .entry)) count) times)) (now (flat .entry)) (now (flat .exit)) ⌝ }
+fn put_area(flat: &mut [u8], subspace: AreaSubspace, times: TimeRange, path: &[u8])
+    requires { ⌜ (691 ≤ length (now flat)) × (length (now path) ≡ pathSize) ⌝ }
+    ensures { λ _. ⌜ Puts 691 (subspaceFlat subspace ++ (now (path .entry) ++ timesFlat times)) (now (flat .entry)) (now (flat .exit)) ⌝ }
 {
     put_subspace(flat, subspace);
-    crate::path_record::put_path(&mut flat[PATH..], bytes, lengths, count);
+    crate::path_record::put_path(&mut flat[PATH..], path);
     crate::times::put_times(&mut flat[TIMES..], times);
 }
 
@@ -118,15 +115,59 @@ pub fn path_bytes<'a>(flat: &'a [u8; SIZE]) -> &'a [u8]
     path_bytes_in(flat)
 }
 
+fn head_in(flat: &[u8]) -> AreaHead
+    requires { ⌜ 691 ≤ length (now flat) ⌝ }
+    ensures { λ r. ⌜ r ≡ headOf (areaIn (now (flat .entry))) ⌝ }
+{
+    let subspace = subspace_in(flat);
+    let times = times_in(flat);
+    AreaHead {
+        subspace: subspace,
+        times: times,
+    }
+}
+
+fn path_in<'a>(flat: &'a [u8]) -> &'a [u8]
+    requires { ⌜ 691 ≤ length (now flat) ⌝ }
+    ensures { λ r. ⌜ (now r ≡ take pathSize (drop 33 (now (flat .entry)))) × (length (now r) ≡ pathSize) ⌝ }
+{
+    &flat[PATH..TIMES]
+}
+
+// What an area has beside its path, and the record of its path.
+pub fn head(flat: &[u8; SIZE]) -> AreaHead
+    ensures { λ r. ⌜ r ≡ headOf (areaIn (now (flat .entry))) ⌝ }
+{
+    head_in(flat)
+}
+
+pub fn path<'a>(flat: &'a [u8; SIZE]) -> &'a [u8]
+    ensures { λ r. ⌜ (now r ≡ take pathSize (drop 33 (now (flat .entry)))) × (length (now r) ≡ pathSize) ⌝ }
+{
+    path_in(flat)
+}
+
+// Whether the marks are 0 or 1.
+pub fn is_marked(flat: &[u8; SIZE]) -> bool
+    ensures { λ r. ⌜ r ≡ areaMarked (now (flat .entry)) ⌝ }
+{
+    marked(flat)
+}
+
+// Whether those of two areas are.
+pub fn both_marked<'a>(flat: &'a [u8; SIZE], other: &'a [u8; SIZE]) -> bool
+    ensures { λ r. ⌜ r ≡ (areaMarked (now (flat .entry)) && areaMarked (now (other .entry))) ⌝ }
+{
+    let first = marked(flat);
+    if !first {
+        return false;
+    }
+    marked(other)
+}
+
 pub fn store(flat: &mut [u8; SIZE], area: Area)
     ensures { λ _. ⌜ now (flat .exit) ≡ areaFlat area ⌝ }
 {
-    put_area(
-        flat,
-        area.subspace,
-        area.times,
-        &area.path.bytes,
-        &area.path.lengths,
-        area.path.count,
-    );
+    let path = area.path.flat();
+    put_area(flat, area.subspace, area.times, &path);
 }

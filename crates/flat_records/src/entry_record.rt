@@ -1,12 +1,13 @@
 // An entry: namespace id, subspace id, path, timestamp, payload length, payload digest.
 ghost use mathlib.Core.Path.{_≡_};
+ghost use mathlib.Core.List.{_++_};
 ghost use Prim.Native.Nat.{_≤_};
-ghost use lib.ListN.{length};
-ghost use Rattle.path.specs.Record.{pathOf};
-ghost use Rattle.entry.specs.Record.{fieldsOf, entryWith};
-ghost use Rattle.flat.specs.PathRecord.{PathLong, sizesOf};
+ghost use lib.ListN.{length, take, drop};
+ghost use Rattle.path.specs.Flat.{pathSize};
+ghost use Rattle.entry.specs.Record.{fieldsOf};
+ghost use Rattle.flat.specs.PathRecord.{sizesOf};
 ghost use Rattle.flat.specs.EntryRecord.{idsFlat, endFlat, entryIn, entryFlat};
-ghost use Rattle.flat.specs.Puts.{Puts};
+ghost use Rattle.path.specs.Puts.{Puts};
 use entry::Entry;
 use entry::EntryFields;
 use flat::PathSizes;
@@ -79,18 +80,12 @@ fn put_end(flat: &mut [u8], fields: EntryFields)
 }
 
 // Writes an entry from the first byte on.
-fn put_entry<'a>(
-    flat: &mut [u8],
-    fields: EntryFields,
-    bytes: &'a [u8],
-    lengths: &'a [usize],
-    count: usize,
-)
-    requires { ⌜ (753 ≤ length (now flat)) × PathLong (now bytes) (now lengths) ⌝ }
-    ensures { λ _. ⌜ Puts 753 (entryFlat (entryWith fields (pathOf (now (bytes .entry)) (now (lengths .entry)) count))) (now (flat .entry)) (now (flat .exit)) ⌝ }
+fn put_entry(flat: &mut [u8], fields: EntryFields, path: &[u8])
+    requires { ⌜ (753 ≤ length (now flat)) × (length (now path) ≡ pathSize) ⌝ }
+    ensures { λ _. ⌜ Puts 753 (idsFlat fields ++ (now (path .entry) ++ endFlat fields)) (now (flat .entry)) (now (flat .exit)) ⌝ }
 {
     put_ids(flat, fields);
-    crate::path_record::put_path(&mut flat[PATH..], bytes, lengths, count);
+    crate::path_record::put_path(&mut flat[PATH..], path);
     put_end(&mut flat[TIMESTAMP..], fields);
 }
 
@@ -112,15 +107,24 @@ pub fn path_bytes<'a>(flat: &'a [u8; SIZE]) -> &'a [u8]
     path_bytes_in(flat)
 }
 
+fn path_in<'a>(flat: &'a [u8]) -> &'a [u8]
+    requires { ⌜ 753 ≤ length (now flat) ⌝ }
+    ensures { λ r. ⌜ (now r ≡ take pathSize (drop 64 (now (flat .entry)))) × (length (now r) ≡ pathSize) ⌝ }
+{
+    &flat[PATH..TIMESTAMP]
+}
+
+// The record of its path.
+pub fn path<'a>(flat: &'a [u8; SIZE]) -> &'a [u8]
+    ensures { λ r. ⌜ (now r ≡ take pathSize (drop 64 (now (flat .entry)))) × (length (now r) ≡ pathSize) ⌝ }
+{
+    path_in(flat)
+}
+
 pub fn store(flat: &mut [u8; SIZE], entry: Entry)
     ensures { λ _. ⌜ now (flat .exit) ≡ entryFlat entry ⌝ }
 {
     let fields = entry.fields();
-    put_entry(
-        flat,
-        fields,
-        &entry.path.bytes,
-        &entry.path.lengths,
-        entry.path.count,
-    );
+    let path = entry.path.flat();
+    put_entry(flat, fields, &path);
 }

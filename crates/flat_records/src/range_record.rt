@@ -1,16 +1,20 @@
 // A 3d range: subspace start, mark, end; path start, mark, end; times. The marks say that an end is open.
 ghost use mathlib.Core.Path.{_≡_};
-ghost use mathlib.Core.List.{_++_};
+ghost use mathlib.Core.Bool.{_&&_};
+ghost use mathlib.Core.List.{_∷_, _++_};
 ghost use Prim.Native.Nat.{_≤_};
-ghost use lib.ListN.{length};
-ghost use Rattle.path.specs.Record.{pathOf};
-ghost use Rattle.flat.specs.PathRecord.{sizesOf, PathLong};
-ghost use Rattle.flat.specs.RangeRecord.{subspacesFlat, pathsFlat, subspacesIn, rangeMarked, rangeIn, rangeFlat};
+ghost use lib.ListN.{length, take, drop};
+ghost use Rattle.codec.specs.Header.{bit};
+ghost use Rattle.path.specs.Flat.{pathSize};
+ghost use Rattle.range_3d.specs.Record.{headOf};
+ghost use Rattle.flat.specs.PathRecord.{sizesOf};
+ghost use Rattle.flat.specs.RangeRecord.{subspacesFlat, subspacesIn, rangeMarked, rangeIn, rangeFlat};
 ghost use Rattle.flat.specs.Times.{timesFlat};
-ghost use Rattle.flat.specs.Puts.{Puts};
+ghost use Rattle.path.specs.Puts.{Puts};
 use flat::PathSizes;
 use grouping::TimeRange;
 use range_3d::Range3d;
+use range_3d::Range3dHead;
 use range_3d::SubspaceRange;
 
 // How many bytes a 3d range has, and where its parts start.
@@ -115,24 +119,15 @@ fn put_subspaces(flat: &mut [u8], subspaces: SubspaceRange)
 }
 
 // The paths, from the first byte on.
-fn put_paths<'a>(
-    flat: &mut [u8],
-    start_bytes: &'a [u8],
-    start_lengths: &'a [usize],
-    start_count: usize,
-    end_open: bool,
-    end_bytes: &'a [u8],
-    end_lengths: &'a [usize],
-    end_count: usize,
-)
-    requires { ⌜ (1283 ≤ length (now flat)) × PathLong (now «start_bytes») (now «start_lengths») × PathLong (now «end_bytes») (now «end_lengths») ⌝ }
-    ensures { λ _. ⌜ Puts 1283 (pathsFlat (pathOf (now («start_bytes» .entry)) (now («start_lengths» .entry)) «start_count») «end_open» (pathOf (now («end_bytes» .entry)) (now («end_lengths» .entry)) «end_count»)) (now (flat .entry)) (now (flat .exit)) ⌝ }
+fn put_paths<'a>(flat: &mut [u8], start: &'a [u8], end_open: bool, end: &'a [u8])
+    requires { ⌜ (1283 ≤ length (now flat)) × (length (now start) ≡ pathSize) × (length (now end) ≡ pathSize) ⌝ }
+    ensures { λ _. ⌜ Puts 1283 (now (start .entry) ++ (bit «end_open» ∷ now (end .entry))) (now (flat .entry)) (now (flat .exit)) ⌝ }
 {
     let open = PATH_OPEN - PATH_START;
-    let end = PATH_END - PATH_START;
-    crate::path_record::put_path(flat, start_bytes, start_lengths, start_count);
+    let at = PATH_END - PATH_START;
+    crate::path_record::put_path(flat, start);
     flat[open] = byte_codec::bit(end_open);
-    crate::path_record::put_path(&mut flat[end..], end_bytes, end_lengths, end_count);
+    crate::path_record::put_path(&mut flat[at..], end);
 }
 
 // Writes a 3d range from the first byte on.
@@ -140,28 +135,15 @@ fn put_range<'a>(
     flat: &mut [u8],
     subspaces: SubspaceRange,
     times: TimeRange,
-    start_bytes: &'a [u8],
-    start_lengths: &'a [usize],
-    start_count: usize,
+    start: &'a [u8],
     end_open: bool,
-    end_bytes: &'a [u8],
-    end_lengths: &'a [usize],
-    end_count: usize,
+    end: &'a [u8],
 )
-    requires { ⌜ (1365 ≤ length (now flat)) × PathLong (now «start_bytes») (now «start_lengths») × PathLong (now «end_bytes») (now «end_lengths») ⌝ }
-    ensures { λ _. ⌜ Puts 1365 (subspacesFlat subspaces ++ (pathsFlat (pathOf (now («start_bytes» .entry)) (now («start_lengths» .entry)) «start_count») «end_open» (pathOf (now («end_bytes» .entry)) (now («end_lengths» .entry)) «end_count») ++ timesFlat times)) (now (flat .entry)) (now (flat .exit)) ⌝ }
+    requires { ⌜ (1365 ≤ length (now flat)) × (length (now start) ≡ pathSize) × (length (now end) ≡ pathSize) ⌝ }
+    ensures { λ _. ⌜ Puts 1365 (subspacesFlat subspaces ++ (now (start .entry) ++ (bit «end_open» ∷ now (end .entry)) ++ timesFlat times)) (now (flat .entry)) (now (flat .exit)) ⌝ }
 {
     put_subspaces(flat, subspaces);
-    put_paths(
-        &mut flat[PATH_START..],
-        start_bytes,
-        start_lengths,
-        start_count,
-        end_open,
-        end_bytes,
-        end_lengths,
-        end_count,
-    );
+    put_paths(&mut flat[PATH_START..], start, end_open, end);
     crate::times::put_times(&mut flat[TIMES..], times);
 }
 
@@ -207,19 +189,75 @@ pub fn end_bytes<'a>(flat: &'a [u8; SIZE]) -> &'a [u8]
     end_bytes_in(flat)
 }
 
+fn head_in(flat: &[u8]) -> Range3dHead
+    requires { ⌜ 1365 ≤ length (now flat) ⌝ }
+    ensures { λ r. ⌜ r ≡ headOf (rangeIn (now (flat .entry))) ⌝ }
+{
+    let subspaces = subspaces_in(flat);
+    let end_open = end_open_in(flat);
+    let times = times_in(flat);
+    Range3dHead {
+        subspaces: subspaces,
+        end_open: end_open,
+        times: times,
+    }
+}
+
+fn path_start_in<'a>(flat: &'a [u8]) -> &'a [u8]
+    requires { ⌜ 1365 ≤ length (now flat) ⌝ }
+    ensures { λ r. ⌜ (now r ≡ take pathSize (drop 65 (now (flat .entry)))) × (length (now r) ≡ pathSize) ⌝ }
+{
+    &flat[PATH_START..PATH_OPEN]
+}
+
+fn path_end_in<'a>(flat: &'a [u8]) -> &'a [u8]
+    requires { ⌜ 1365 ≤ length (now flat) ⌝ }
+    ensures { λ r. ⌜ (now r ≡ take pathSize (drop 707 (now (flat .entry)))) × (length (now r) ≡ pathSize) ⌝ }
+{
+    &flat[PATH_END..TIMES]
+}
+
+// What a 3d range has beside its paths, and the records of its paths.
+pub fn head(flat: &[u8; SIZE]) -> Range3dHead
+    ensures { λ r. ⌜ r ≡ headOf (rangeIn (now (flat .entry))) ⌝ }
+{
+    head_in(flat)
+}
+
+pub fn path_start<'a>(flat: &'a [u8; SIZE]) -> &'a [u8]
+    ensures { λ r. ⌜ (now r ≡ take pathSize (drop 65 (now (flat .entry)))) × (length (now r) ≡ pathSize) ⌝ }
+{
+    path_start_in(flat)
+}
+
+pub fn path_end<'a>(flat: &'a [u8; SIZE]) -> &'a [u8]
+    ensures { λ r. ⌜ (now r ≡ take pathSize (drop 707 (now (flat .entry)))) × (length (now r) ≡ pathSize) ⌝ }
+{
+    path_end_in(flat)
+}
+
+// Whether the marks of two 3d ranges are 0 or 1.
+pub fn both_marked<'a>(flat: &'a [u8; SIZE], other: &'a [u8; SIZE]) -> bool
+    ensures { λ r. ⌜ r ≡ (rangeMarked (now (flat .entry)) && rangeMarked (now (other .entry))) ⌝ }
+{
+    let first = marked(flat);
+    if !first {
+        return false;
+    }
+    marked(other)
+}
+
 pub fn store(flat: &mut [u8; SIZE], range: Range3d)
     ensures { λ _. ⌜ now (flat .exit) ≡ rangeFlat range ⌝ }
 {
+    let start = range.paths.start.flat();
+    let end = range.paths.end.flat();
     put_range(
         flat,
         range.subspaces,
         range.times,
-        &range.paths.start.bytes,
-        &range.paths.start.lengths,
-        range.paths.start.count,
+        &start,
         range.paths.end_open,
-        &range.paths.end.bytes,
-        &range.paths.end.lengths,
-        range.paths.end.count,
+        &end,
     );
 }

@@ -3,7 +3,7 @@ ghost use mathlib.Core.Path.{_≡_};
 ghost use Prim.Native.Nat.{_≤_};
 ghost use lib.ListN.{length};
 ghost use Rattle.flat.specs.Times.{endTime, timesMarked, timesIn, timesFlat};
-ghost use Rattle.flat.specs.Puts.{Puts};
+ghost use Rattle.path.specs.Puts.{Puts};
 use grouping::RangeEnd;
 use grouping::TimeRange;
 

@@ -1,3 +1,4 @@
 pub mod Compare
 pub mod Typed
 pub mod Record
+pub mod Heads

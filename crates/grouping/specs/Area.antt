@@ -37,3 +37,7 @@ includesArea r a = includesSubspace (r .subspace) (a .subspace) && (isPrefix (r 
 -- a lies inside r: included, and its start and end, an open one counted as top, lie between those of r
 unfoldable pub liesInside : AreaValue → AreaValue → Bool
 liesInside r a = includesArea r a && (bounds (r .times) (a .times .start) && bounds (r .times) (endValue (a .times .end)))
+
+-- the same of what areas have beside their paths
+unfoldable pub headInside : Option (List ℕ) → TimeRange → Option (List ℕ) → TimeRange → Bool
+headInside r within s times = includesSubspace r s && (includesRange within times && (bounds within (times .start) && bounds within (endValue (times .end))))

@@ -10,11 +10,12 @@ use Rattle.codec.specs.Bytes.{sameBytes}
 use Rattle.path.specs.declared.Path.{Path}
 use Rattle.path.specs.declared.Compared.{Compared}
 use Rattle.path.specs.declared.Compared.the-variants as compared
-use Rattle.path.specs.Record.{componentsOf, pathFrom, wellFormed, TypedPath}
+use Rattle.path.specs.Record.{componentsOf, pathFrom, sized, wellFormed, TypedPath}
 use Rattle.path.specs.Answers.{verdict}
 use Rattle.grouping.specs.declared.AreaSubspace.{AreaSubspace}
 use Rattle.grouping.specs.declared.TimeRange.{TimeRange}
 use Rattle.grouping.specs.declared.Area.{Area}
+use Rattle.grouping.specs.declared.AreaHead.{AreaHead}
 use Rattle.grouping.specs.Range.{TypedRange}
 use Rattle.grouping.specs.Area.{AreaValue, includesSubspace, includesArea, liesInside}
 
@@ -33,6 +34,13 @@ areaOf a = record { subspace = subspaceOf (a .subspace); path = componentsOf (a 
 abbrev pub areaWith : AreaSubspace → Path → TimeRange → Area
 areaWith subspace path times = record { subspace = subspace; path = path; times = times }
 
+-- what an area has beside its path, and both together
+abbrev pub headOf : Area → AreaHead
+headOf a = record { subspace = a .subspace; times = a .times }
+
+abbrev pub headed : AreaHead → Path → Area
+headed h path = areaWith (h .subspace) path (h .times)
+
 unfoldable pub areaFrom : AreaValue → Area
 areaFrom v = record { subspace = subspaceFrom (v .subspace); path = pathFrom (v .path); times = v .times }
 
@@ -42,6 +50,10 @@ wellFormedSubspace s = cond (s .any) (sameBytes (s .id) (replicate 32 0)) true
 
 unfoldable pub wellFormedArea : Area → Bool
 wellFormedArea a = wellFormedSubspace (a .subspace) && wellFormed (a .path)
+
+-- the sizes of its path alone
+unfoldable pub sizedArea : Area → Bool
+sizedArea a = sized (a .path)
 
 -- what the language says of a record
 pub record TypedArea (a : Area) : Type 0 where

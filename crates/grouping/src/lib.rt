@@ -1,6 +1,7 @@
 // Groupings of entries: ranges of times, and areas: docs/FORMAT.md, "Areas". A port of grouping/range.rs and grouping/area.rs.
 ghost use mathlib.Core.Path.{_≡_};
-ghost use Rattle.grouping.specs.Record.{wellFormedSubspace, subspaceIncludes, wellFormedArea, areaIncludes, areaInside};
+ghost use Rattle.grouping.specs.Area.{headInside};
+ghost use Rattle.grouping.specs.Record.{headOf, subspaceOf, wellFormedSubspace, subspaceIncludes, wellFormedArea, areaIncludes, areaInside};
 use path::Compared;
 use path::Path;
 
@@ -31,6 +32,12 @@ pub struct Area {
     pub times: TimeRange,
 }
 
+// What an area has beside its path.
+pub struct AreaHead {
+    pub subspace: AreaSubspace,
+    pub times: TimeRange,
+}
+
 impl AreaSubspace {
     pub fn well_formed(self) -> bool
         ensures { λ r. ⌜ r ≡ wellFormedSubspace self ⌝ }
@@ -58,7 +65,43 @@ impl AreaSubspace {
     }
 }
 
+impl AreaHead {
+    // Whether another area lies inside, as far as subspaces and times tell.
+    pub fn contains(self, other: AreaHead) -> bool
+        ensures { λ r. ⌜ r ≡ headInside (subspaceOf (self .subspace)) (self .times) (subspaceOf (other .subspace)) (other .times) ⌝ }
+    {
+        let included = self.subspace.includes_area_subspace(other.subspace);
+        if !included {
+            return false;
+        }
+        let times = self.times;
+        let other_times = other.times;
+        let within = times.includes_range(other_times);
+        if !within {
+            return false;
+        }
+        let first = times.bounds(other_times.start);
+        if !first {
+            return false;
+        }
+        let end = other_times.end;
+        times.bounds(end.value())
+    }
+}
+
 impl Area {
+    // What it has beside its path.
+    pub fn head(self) -> AreaHead
+        ensures { λ r. ⌜ r ≡ headOf self ⌝ }
+    {
+        let subspace = self.subspace;
+        let times = self.times;
+        AreaHead {
+            subspace: subspace,
+            times: times,
+        }
+    }
+
     pub fn well_formed(self) -> bool
         ensures { λ r. ⌜ r ≡ wellFormedArea self ⌝ }
     {

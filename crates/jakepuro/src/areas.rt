@@ -5,6 +5,7 @@ ghost use Rattle.codec.specs.Format.{lengthAnswer};
 ghost use Rattle.area_area.specs.Records.{againstArea, readAgainstArea};
 ghost use Rattle.flat.specs.AreaRecord.{areaIn, areaFlat};
 ghost use Rattle.calls.specs.Calls.{Encodes, Told, Stores};
+use codec::Encoded;
 
 // Writes an area against a reference.
 #[no_mangle]
@@ -16,20 +17,16 @@ pub extern "C" fn jakepuro_area_area_encode<'a>(
 ) -> u8
     ensures { λ r. ⌜ Encodes (againstArea (areaIn (now (reference .entry)))) (areaIn (now (area .entry))) (now (buffer .entry)) (now (buffer .exit)) r (now (written .exit)) ⌝ }
 {
-    let sizes = flat_records::area_record::path_sizes(area);
-    let of = flat_records::area_record::path_sizes(reference);
-    let answer = area_area_encode::parts::relative_encode(
+    let marked = flat_records::area_record::both_marked(reference, area);
+    if !marked {
+        return calls::tell_length(Encoded::Malformed, written);
+    }
+    let answer = area_area_encode::lent::relative_encode(
         buffer,
-        flat_records::area_record::subspace(area),
-        flat_records::area_record::times(area),
-        flat_records::area_record::path_bytes(area),
-        &sizes.lengths,
-        sizes.count,
-        flat_records::area_record::subspace(reference),
-        flat_records::area_record::times(reference),
-        flat_records::area_record::path_bytes(reference),
-        &of.lengths,
-        of.count,
+        flat_records::area_record::head(area),
+        flat_records::area_record::path(area),
+        flat_records::area_record::head(reference),
+        flat_records::area_record::path(reference),
     );
     calls::tell_length(answer, written)
 }
@@ -43,19 +40,15 @@ pub extern "C" fn jakepuro_area_area_len_of_encoding<'a>(
 ) -> u8
     ensures { λ r. ⌜ Told (lengthAnswer (againstArea (areaIn (now (reference .entry)))) (areaIn (now (area .entry)))) r (now (length .exit)) ⌝ }
 {
-    let sizes = flat_records::area_record::path_sizes(area);
-    let of = flat_records::area_record::path_sizes(reference);
-    let answer = area_area_encode::parts::relative_len_of_encoding(
-        flat_records::area_record::subspace(area),
-        flat_records::area_record::times(area),
-        flat_records::area_record::path_bytes(area),
-        &sizes.lengths,
-        sizes.count,
-        flat_records::area_record::subspace(reference),
-        flat_records::area_record::times(reference),
-        flat_records::area_record::path_bytes(reference),
-        &of.lengths,
-        of.count,
+    let marked = flat_records::area_record::both_marked(reference, area);
+    if !marked {
+        return calls::tell_length(Encoded::Malformed, length);
+    }
+    let answer = area_area_encode::lent::relative_len_of_encoding(
+        flat_records::area_record::head(area),
+        flat_records::area_record::path(area),
+        flat_records::area_record::head(reference),
+        flat_records::area_record::path(reference),
     );
     calls::tell_length(answer, length)
 }

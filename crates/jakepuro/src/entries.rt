@@ -7,6 +7,7 @@ ghost use Rattle.entry_entry.specs.Records.{againstEntry, readAgainstEntry};
 ghost use Rattle.flat.specs.AreaRecord.{areaIn};
 ghost use Rattle.flat.specs.EntryRecord.{entryIn, entryFlat};
 ghost use Rattle.calls.specs.Calls.{Encodes, Told, Stores};
+use codec::Encoded;
 
 // Writes an entry against a namespace and an area.
 #[no_mangle]
@@ -19,22 +20,18 @@ pub extern "C" fn jakepuro_entry_area_encode<'a>(
 ) -> u8
     ensures { λ r. ⌜ Encodes (againstNamespaceArea (now (namespace .entry)) (areaIn (now (area .entry)))) (entryIn (now (entry .entry))) (now (buffer .entry)) (now (buffer .exit)) r (now (written .exit)) ⌝ }
 {
-    let fields = flat_records::entry_record::fields(entry);
-    let sizes = flat_records::entry_record::path_sizes(entry);
+    let marked = flat_records::area_record::is_marked(area);
+    if !marked {
+        return calls::tell_length(Encoded::Malformed, written);
+    }
     let space = *namespace;
-    let of = flat_records::area_record::path_sizes(area);
-    let answer = entry_area_encode::parts::relative_encode(
+    let answer = entry_area_encode::lent::relative_encode(
         buffer,
-        fields,
-        flat_records::entry_record::path_bytes(entry),
-        &sizes.lengths,
-        sizes.count,
+        flat_records::entry_record::fields(entry),
+        flat_records::entry_record::path(entry),
         space,
-        flat_records::area_record::subspace(area),
-        flat_records::area_record::times(area),
-        flat_records::area_record::path_bytes(area),
-        &of.lengths,
-        of.count,
+        flat_records::area_record::head(area),
+        flat_records::area_record::path(area),
     );
     calls::tell_length(answer, written)
 }
@@ -49,21 +46,17 @@ pub extern "C" fn jakepuro_entry_area_len_of_encoding<'a>(
 ) -> u8
     ensures { λ r. ⌜ Told (lengthAnswer (againstNamespaceArea (now (namespace .entry)) (areaIn (now (area .entry)))) (entryIn (now (entry .entry)))) r (now (length .exit)) ⌝ }
 {
-    let fields = flat_records::entry_record::fields(entry);
-    let sizes = flat_records::entry_record::path_sizes(entry);
+    let marked = flat_records::area_record::is_marked(area);
+    if !marked {
+        return calls::tell_length(Encoded::Malformed, length);
+    }
     let space = *namespace;
-    let of = flat_records::area_record::path_sizes(area);
-    let answer = entry_area_encode::parts::relative_len_of_encoding(
-        fields,
-        flat_records::entry_record::path_bytes(entry),
-        &sizes.lengths,
-        sizes.count,
+    let answer = entry_area_encode::lent::relative_len_of_encoding(
+        flat_records::entry_record::fields(entry),
+        flat_records::entry_record::path(entry),
         space,
-        flat_records::area_record::subspace(area),
-        flat_records::area_record::times(area),
-        flat_records::area_record::path_bytes(area),
-        &of.lengths,
-        of.count,
+        flat_records::area_record::head(area),
+        flat_records::area_record::path(area),
     );
     calls::tell_length(answer, length)
 }
@@ -109,20 +102,12 @@ pub extern "C" fn jakepuro_entry_entry_encode<'a>(
 ) -> u8
     ensures { λ r. ⌜ Encodes (againstEntry (entryIn (now (reference .entry)))) (entryIn (now (entry .entry))) (now (buffer .entry)) (now (buffer .exit)) r (now (written .exit)) ⌝ }
 {
-    let fields = flat_records::entry_record::fields(entry);
-    let sizes = flat_records::entry_record::path_sizes(entry);
-    let of = flat_records::entry_record::fields(reference);
-    let of_sizes = flat_records::entry_record::path_sizes(reference);
-    let answer = entry_entry_encode::parts::relative_encode(
+    let answer = entry_entry_encode::lent::relative_encode(
         buffer,
-        fields,
-        flat_records::entry_record::path_bytes(entry),
-        &sizes.lengths,
-        sizes.count,
-        of,
-        flat_records::entry_record::path_bytes(reference),
-        &of_sizes.lengths,
-        of_sizes.count,
+        flat_records::entry_record::fields(entry),
+        flat_records::entry_record::path(entry),
+        flat_records::entry_record::fields(reference),
+        flat_records::entry_record::path(reference),
     );
     calls::tell_length(answer, written)
 }
@@ -136,19 +121,11 @@ pub extern "C" fn jakepuro_entry_entry_len_of_encoding<'a>(
 ) -> u8
     ensures { λ r. ⌜ Told (lengthAnswer (againstEntry (entryIn (now (reference .entry)))) (entryIn (now (entry .entry)))) r (now (length .exit)) ⌝ }
 {
-    let fields = flat_records::entry_record::fields(entry);
-    let sizes = flat_records::entry_record::path_sizes(entry);
-    let of = flat_records::entry_record::fields(reference);
-    let of_sizes = flat_records::entry_record::path_sizes(reference);
-    let answer = entry_entry_encode::parts::relative_len_of_encoding(
-        fields,
-        flat_records::entry_record::path_bytes(entry),
-        &sizes.lengths,
-        sizes.count,
-        of,
-        flat_records::entry_record::path_bytes(reference),
-        &of_sizes.lengths,
-        of_sizes.count,
+    let answer = entry_entry_encode::lent::relative_len_of_encoding(
+        flat_records::entry_record::fields(entry),
+        flat_records::entry_record::path(entry),
+        flat_records::entry_record::fields(reference),
+        flat_records::entry_record::path(reference),
     );
     calls::tell_length(answer, length)
 }

@@ -4,7 +4,7 @@ ghost use lib.ListN.{drop};
 ghost use Rattle.codec.specs.Format.{lengthAnswer};
 ghost use Rattle.path_codec.specs.Plain.{plainPath, readPath};
 ghost use Rattle.path_relative.specs.Records.{againstPath, extendsPath, readAgainstPath, readExtendsPath};
-ghost use Rattle.flat.specs.PathRecord.{pathIn, pathFlat};
+ghost use Rattle.path.specs.Flat.{pathIn, pathFlat};
 ghost use Rattle.calls.specs.Calls.{Encodes, Told, Stores};
 
 // Writes a plain path.
@@ -16,9 +16,7 @@ pub extern "C" fn jakepuro_path_encode(
 ) -> u8
     ensures { λ r. ⌜ Encodes (plainPath) (pathIn (now (path .entry))) (now (buffer .entry)) (now (buffer .exit)) r (now (written .exit)) ⌝ }
 {
-    let sizes = flat_records::path_record::sizes(path);
-    let bytes = flat_records::path_record::bytes(path);
-    let answer = path_codec::parts::encode(buffer, bytes, &sizes.lengths, sizes.count);
+    let answer = path_codec::lent::encode(buffer, path);
     calls::tell_length(answer, written)
 }
 
@@ -27,9 +25,7 @@ pub extern "C" fn jakepuro_path_encode(
 pub extern "C" fn jakepuro_path_len_of_encoding(path: &[u8; 641], length: &mut usize) -> u8
     ensures { λ r. ⌜ Told (lengthAnswer (plainPath) (pathIn (now (path .entry)))) r (now (length .exit)) ⌝ }
 {
-    let sizes = flat_records::path_record::sizes(path);
-    let bytes = flat_records::path_record::bytes(path);
-    let answer = path_codec::parts::len_of_encoding(bytes, &sizes.lengths, sizes.count);
+    let answer = path_codec::lent::len_of_encoding(path);
     calls::tell_length(answer, length)
 }
 
@@ -44,10 +40,9 @@ pub extern "C" fn jakepuro_path_decode(
 ) -> u8
     ensures { λ r. ⌜ Stores pathFlat (readPath canonic (drop start (now (message .entry)))) (now (path .entry)) (now (path .exit)) r (now (consumed .exit)) ⌝ }
 {
-    let read = path_codec::decode(message, start, canonic);
-    let answer = read.answer;
-    let value = read.path;
-    calls::give_path(answer, value, path, consumed)
+    let mut out = [0u8; 641];
+    let answer = path_codec::lent_decode::decode(message, start, canonic, &mut out);
+    calls::give_path(answer, &out, path, consumed)
 }
 
 // Writes a path against a reference.
@@ -60,17 +55,7 @@ pub extern "C" fn jakepuro_path_path_encode<'a>(
 ) -> u8
     ensures { λ r. ⌜ Encodes (againstPath (pathIn (now (reference .entry)))) (pathIn (now (path .entry))) (now (buffer .entry)) (now (buffer .exit)) r (now (written .exit)) ⌝ }
 {
-    let sizes = flat_records::path_record::sizes(path);
-    let of = flat_records::path_record::sizes(reference);
-    let answer = path_relative_encode::parts::relative_encode(
-        buffer,
-        flat_records::path_record::bytes(path),
-        &sizes.lengths,
-        sizes.count,
-        flat_records::path_record::bytes(reference),
-        &of.lengths,
-        of.count,
-    );
+    let answer = path_relative_encode::lent::relative_encode(buffer, path, reference);
     calls::tell_length(answer, written)
 }
 
@@ -83,16 +68,7 @@ pub extern "C" fn jakepuro_path_path_len_of_encoding<'a>(
 ) -> u8
     ensures { λ r. ⌜ Told (lengthAnswer (againstPath (pathIn (now (reference .entry)))) (pathIn (now (path .entry)))) r (now (length .exit)) ⌝ }
 {
-    let sizes = flat_records::path_record::sizes(path);
-    let of = flat_records::path_record::sizes(reference);
-    let answer = path_relative_encode::parts::relative_len_of_encoding(
-        flat_records::path_record::bytes(path),
-        &sizes.lengths,
-        sizes.count,
-        flat_records::path_record::bytes(reference),
-        &of.lengths,
-        of.count,
-    );
+    let answer = path_relative_encode::lent::relative_len_of_encoding(path, reference);
     calls::tell_length(answer, length)
 }
 
@@ -108,19 +84,15 @@ pub extern "C" fn jakepuro_path_path_decode<'a>(
 ) -> u8
     ensures { λ r. ⌜ Stores pathFlat (readAgainstPath canonic (pathIn (now (reference .entry))) (drop start (now (message .entry)))) (now (path .entry)) (now (path .exit)) r (now (consumed .exit)) ⌝ }
 {
-    let of = flat_records::path_record::sizes(reference);
-    let bytes = flat_records::path_record::bytes(reference);
-    let read = path_relative_decode::path_decode::relative_decode(
+    let mut out = [0u8; 641];
+    let answer = path_relative_decode::lent::relative_decode(
         message,
         start,
         canonic,
-        bytes,
-        &of.lengths,
-        of.count,
+        reference,
+        &mut out,
     );
-    let answer = read.answer;
-    let value = read.path;
-    calls::give_path(answer, value, path, consumed)
+    calls::give_path(answer, &out, path, consumed)
 }
 
 // Writes a path as an extension of another.
@@ -133,17 +105,7 @@ pub extern "C" fn jakepuro_path_extends_encode<'a>(
 ) -> u8
     ensures { λ r. ⌜ Encodes (extendsPath (pathIn (now (extends .entry)))) (pathIn (now (path .entry))) (now (buffer .entry)) (now (buffer .exit)) r (now (written .exit)) ⌝ }
 {
-    let sizes = flat_records::path_record::sizes(path);
-    let of = flat_records::path_record::sizes(extends);
-    let answer = path_relative_encode::parts::encode_path_extends_path(
-        buffer,
-        flat_records::path_record::bytes(path),
-        &sizes.lengths,
-        sizes.count,
-        flat_records::path_record::bytes(extends),
-        &of.lengths,
-        of.count,
-    );
+    let answer = path_relative_encode::lent::encode_path_extends_path(buffer, path, extends);
     calls::tell_length(answer, written)
 }
 
@@ -156,16 +118,7 @@ pub extern "C" fn jakepuro_path_extends_len_of_encoding<'a>(
 ) -> u8
     ensures { λ r. ⌜ Told (lengthAnswer (extendsPath (pathIn (now (extends .entry)))) (pathIn (now (path .entry)))) r (now (length .exit)) ⌝ }
 {
-    let sizes = flat_records::path_record::sizes(path);
-    let of = flat_records::path_record::sizes(extends);
-    let answer = path_relative_encode::parts::path_extends_path_encoding_len(
-        flat_records::path_record::bytes(path),
-        &sizes.lengths,
-        sizes.count,
-        flat_records::path_record::bytes(extends),
-        &of.lengths,
-        of.count,
-    );
+    let answer = path_relative_encode::lent::path_extends_path_encoding_len(path, extends);
     calls::tell_length(answer, length)
 }
 
@@ -181,17 +134,13 @@ pub extern "C" fn jakepuro_path_extends_decode<'a>(
 ) -> u8
     ensures { λ r. ⌜ Stores pathFlat (readExtendsPath canonic (pathIn (now (extends .entry))) (drop start (now (message .entry)))) (now (path .entry)) (now (path .exit)) r (now (consumed .exit)) ⌝ }
 {
-    let of = flat_records::path_record::sizes(extends);
-    let bytes = flat_records::path_record::bytes(extends);
-    let read = path_relative_decode::path_decode::decode_path_extends_path(
+    let mut out = [0u8; 641];
+    let answer = path_relative_decode::lent::decode_path_extends_path(
         message,
         start,
         canonic,
-        bytes,
-        &of.lengths,
-        of.count,
+        extends,
+        &mut out,
     );
-    let answer = read.answer;
-    let value = read.path;
-    calls::give_path(answer, value, path, consumed)
+    calls::give_path(answer, &out, path, consumed)
 }

@@ -5,6 +5,7 @@ ghost use Rattle.codec.specs.Format.{lengthAnswer};
 ghost use Rattle.range3d_range3d.specs.Records.{againstRange, readAgainstRange};
 ghost use Rattle.flat.specs.RangeRecord.{rangeIn, rangeFlat};
 ghost use Rattle.calls.specs.Calls.{Encodes, Told, Stores};
+use codec::Encoded;
 
 // Writes a 3d range against a 3d range.
 #[no_mangle]
@@ -16,30 +17,18 @@ pub extern "C" fn jakepuro_range3d_range3d_encode<'a>(
 ) -> u8
     ensures { λ r. ⌜ Encodes (againstRange (rangeIn (now (reference .entry)))) (rangeIn (now (range .entry))) (now (buffer .entry)) (now (buffer .exit)) r (now (written .exit)) ⌝ }
 {
-    let start = flat_records::range_record::start_sizes(range);
-    let end = flat_records::range_record::end_sizes(range);
-    let of_start = flat_records::range_record::start_sizes(reference);
-    let of_end = flat_records::range_record::end_sizes(reference);
-    let answer = range3d_range3d_encode::parts::relative_encode(
+    let marked = flat_records::range_record::both_marked(reference, range);
+    if !marked {
+        return calls::tell_length(Encoded::Malformed, written);
+    }
+    let answer = range3d_range3d_encode::lent::relative_encode(
         buffer,
-        flat_records::range_record::subspaces(range),
-        flat_records::range_record::start_bytes(range),
-        &start.lengths,
-        start.count,
-        flat_records::range_record::end_open(range),
-        flat_records::range_record::end_bytes(range),
-        &end.lengths,
-        end.count,
-        flat_records::range_record::times(range),
-        flat_records::range_record::subspaces(reference),
-        flat_records::range_record::start_bytes(reference),
-        &of_start.lengths,
-        of_start.count,
-        flat_records::range_record::end_open(reference),
-        flat_records::range_record::end_bytes(reference),
-        &of_end.lengths,
-        of_end.count,
-        flat_records::range_record::times(reference),
+        flat_records::range_record::head(range),
+        flat_records::range_record::path_start(range),
+        flat_records::range_record::path_end(range),
+        flat_records::range_record::head(reference),
+        flat_records::range_record::path_start(reference),
+        flat_records::range_record::path_end(reference),
     );
     calls::tell_length(answer, written)
 }
@@ -53,29 +42,17 @@ pub extern "C" fn jakepuro_range3d_range3d_len_of_encoding<'a>(
 ) -> u8
     ensures { λ r. ⌜ Told (lengthAnswer (againstRange (rangeIn (now (reference .entry)))) (rangeIn (now (range .entry)))) r (now (length .exit)) ⌝ }
 {
-    let start = flat_records::range_record::start_sizes(range);
-    let end = flat_records::range_record::end_sizes(range);
-    let of_start = flat_records::range_record::start_sizes(reference);
-    let of_end = flat_records::range_record::end_sizes(reference);
-    let answer = range3d_range3d_encode::parts::relative_len_of_encoding(
-        flat_records::range_record::subspaces(range),
-        flat_records::range_record::start_bytes(range),
-        &start.lengths,
-        start.count,
-        flat_records::range_record::end_open(range),
-        flat_records::range_record::end_bytes(range),
-        &end.lengths,
-        end.count,
-        flat_records::range_record::times(range),
-        flat_records::range_record::subspaces(reference),
-        flat_records::range_record::start_bytes(reference),
-        &of_start.lengths,
-        of_start.count,
-        flat_records::range_record::end_open(reference),
-        flat_records::range_record::end_bytes(reference),
-        &of_end.lengths,
-        of_end.count,
-        flat_records::range_record::times(reference),
+    let marked = flat_records::range_record::both_marked(reference, range);
+    if !marked {
+        return calls::tell_length(Encoded::Malformed, length);
+    }
+    let answer = range3d_range3d_encode::lent::relative_len_of_encoding(
+        flat_records::range_record::head(range),
+        flat_records::range_record::path_start(range),
+        flat_records::range_record::path_end(range),
+        flat_records::range_record::head(reference),
+        flat_records::range_record::path_start(reference),
+        flat_records::range_record::path_end(reference),
     );
     calls::tell_length(answer, length)
 }

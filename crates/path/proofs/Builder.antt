@@ -11,8 +11,8 @@ use Rattle.codec.proofs.Tests.{and-left, and-right}
 use Rattle.codec.proofs.Lending.{put-over}
 use Rattle.path.proofs.Lists.{drop-zeros, length-joined, joined-append, fill-more, rest-part, put-inside, cut, take-cut}
 use Rattle.path.proofs.Limits.{total-append, total-snoc}
-use Rattle.path.proofs.Record.{well-formed, formed-well, remade, made, count-of, components-of, sum-of, bytes-long, lengths-long}
-use Rattle.path.proofs.Components.{Formed, prefix-count, start-small, start-is}
+use Rattle.path.proofs.Record.{well-formed, remade, made, count-of, components-of, sum-of, bytes-long, lengths-long}
+use Rattle.path.proofs.Components.{Formed, prefix-count, start-small, start-is, parts-formed}
 
 joined-snoc : (cs : List (List ℕ)) (c : List ℕ) → joined (cs ++ (c ∷ [])) ≡ joined cs ++ c
 joined-snoc [] c = append-nil c
@@ -133,8 +133,8 @@ extendable b cs p k e formed there few fits = record {
 }
 
 -- the empty builder, by any part of a path
-pub extendable-empty : (b : PathBuilder) (p : Path) (k : ℕ) → b ≡ builderFrom [] → Formed p → k ≤ p .count → Extendable b p k
-extendable-empty b p k e f there = extendable b [] p k e (formed-well p (f .well)) there (omega (arith, f .well .count)) (omega (arith, start-small p f k))
+pub extendable-empty : (b : PathBuilder) (p : Path) (k : ℕ) → b ≡ builderFrom [] → wellFormed p ≡ true → k ≤ p .count → Extendable b p k
+extendable-empty b p k e w there = let f = parts-formed w in extendable b [] p k e w there (omega (arith, f .well .count)) (omega (arith, start-small p f k))
 
 -- their bytes and their lengths, put after those that are there
 module _ (cs ds : List (List ℕ)) (few : length cs + length ds ≤ 20) (fits : totalOf cs + totalOf ds ≤ 600) where

@@ -3,14 +3,17 @@ use Rattle.codec.proofs.Prelude.{_≡_, refl, sym, ap, _∙_, List, Bool, true,
 use Rattle.path.specs.declared.Path.{Path}
 use Rattle.path.specs.declared.ComponentCount.the-variants as count
 use Rattle.path.specs.declared.Compared.the-variants as compared
-use Rattle.path.specs.Record.{componentsOf, wellFormed, lengthAt, startAt}
+use Rattle.path.specs.Record.{componentsOf, sized, wellFormed, lengthAt, startAt}
 use Rattle.codec.specs.Bytes.{sameBytes}
 use Rattle.codec.proofs.SameBytes.{same-refl, different}
 use Rattle.path.specs.Prefix.{shared, isPrefix, samePath}
-use Rattle.path.specs.Answers.{commonPrefix, verdict, prefixOf, equalTo}
+use Rattle.path.specs.Answers.{said, unsaid, saidIf, commonPrefix, verdict, prefixOf, equalTo}
 use Rattle.codec.proofs.Tests.{and-left, and-right}
 use Rattle.path.proofs.Prefix.{shared-nil, shared-sym}
-use Rattle.path.proofs.Components.{Formed, parts-formed, bytesAt, count-is, next-start, ends, component}
+use Rattle.path.specs.Flat.{pathIn, lent}
+use Rattle.path.proofs.Records.{whole-in, lent-is}
+use Rattle.path.proofs.Verdicts.{said-known, unsaid-known}
+use Rattle.path.proofs.Components.{Formed, parts-formed, sized-formed, bytesAt, count-is, next-start, ends, component}
 
 -- ---- parts of two lists, from at on: i elements that agree and one more; parts that differ
 pub agree-next : (x y : List ℕ) (at i : ℕ) → at + i < length x → at + i < length y
@@ -114,6 +117,27 @@ module _ {p q : Path} {k at : ℕ} (t : Together p q k at) where
             start-right = rw (same, t .start-right) (sym (next-start q (t .right) k hq));
             more = t .more ∙ rw n (omega arith);
           }
+
+-- ---- a prefix, from the number of components that both have
+module _ (p q : Path) where
+  pub prefix-said : (k : ℕ) → said k ≡ saidIf (sized p && sized q) (shared (componentsOf p) (componentsOf q))
+      → said (eqb k (p .count)) ≡ saidIf (sized p && sized q) (isPrefix (componentsOf p) (componentsOf q))
+  unfolding isPrefix
+  prefix-said k e =
+      let x = said-known (sized p && sized q) (shared (componentsOf p) (componentsOf q)) k e in
+      rw (x .0, x .1, count-is p (sized-formed (and-left _ _ (x .0))))
+
+  -- by the count of a lent record
+  pub prefix-told : (s : List ℕ) → p ≡ pathIn s → (k n : ℕ) → said k ≡ saidIf (sized p && sized q) (shared (componentsOf p) (componentsOf q)) → n ≡ lent 0 (λ x. x .count) s
+      → said (eqb k n) ≡ saidIf (sized p && sized q) (isPrefix (componentsOf p) (componentsOf q))
+  prefix-told s same k n e count =
+      let x = said-known (sized p && sized q) (shared (componentsOf p) (componentsOf q)) k e in
+      let whole = whole-in s (rw same at (sized-formed (and-left (sized p) (sized q) (x .0)))) in
+      let is : n ≡ p .count = count ∙ lent-is s whole 0 (λ x. x .count) ∙ rw same in
+      rw is (prefix-said k e)
+
+  pub prefix-unsaid : unsaid 5 ≡ saidIf (sized p && sized q) (shared (componentsOf p) (componentsOf q)) → unsaid 5 ≡ saidIf (sized p && sized q) (isPrefix (componentsOf p) (componentsOf q))
+  prefix-unsaid e = rw (unsaid-known (sized p && sized q) (shared (componentsOf p) (componentsOf q)) 5 e .0)
 
 -- ---- what comparing answers, from the number of components that both have
 record Common (p q : Path) (k : ℕ) : Type 0 where

@@ -1,31 +1,57 @@
 -- The components of a well-formed record, one by one: where each starts, how long it is, and what is left after it.
-use Rattle.codec.proofs.Prelude.{_≡_, sym, _∙_, List, _∷_, true, ℕ, _+_, _-_, _≤_, _<_, add-one, arith, length, take, drop, getD, length-drop, drop-cons, drop-drop, length-take-le, getD-take, take-suc, take-take, take-all}
+use Rattle.codec.proofs.Prelude.{_≡_, sym, _∙_, List, _∷_, true, ℕ, _+_, _-_, _≤_, _<_, add-one, arith, leb, eqb, leb-true, le-leb, eqb-true, eq-eqb, length, take, drop, getD, length-drop, drop-cons, drop-drop, length-take-le, getD-take, take-suc, take-take, take-all}
 use Rattle.path.specs.declared.Path.{Path}
 use Rattle.path.specs.Limits.{totalOf}
-use Rattle.path.specs.Record.{sumOf, used, componentsOf, wellFormed, TypedPath, lengthAt, startAt}
+use Rattle.path.specs.Record.{sumOf, used, componentsOf, sized, wellFormed, TypedPath, lengthAt, startAt}
 use Rattle.path.proofs.Lists.{sum-snoc, sum-take, cut, drop-cut}
 use Rattle.path.proofs.Limits.{total-split}
-use Rattle.path.proofs.Record.{WellFormed, well-formed}
+use Rattle.codec.proofs.Tests.{and-left, and-right}
+use Rattle.path.proofs.Record.{well-formed}
 
--- what a function knows of a path whose form it tested
+-- sizes within the limits
+pub record Fits (p : Path) : Type 0 where
+  pub count : p .count ≤ 20
+  pub total : sumOf (used p) ≤ 600
+
+-- what a function knows of a path whose sizes it tested
 pub record Formed (p : Path) : Type 0 where
   pub bytes : length (p .bytes) ≡ 600
   pub lengths : length (p .lengths) ≡ 20
-  pub well : WellFormed p
+  pub well : Fits p
 
 pub formed : {p : Path} → TypedPath p → wellFormed p ≡ true → Formed p
-formed {p} t e = record { bytes = t .bytes; lengths = t .lengths; well = well-formed p e }
+formed {p} t e = let w = well-formed p e in record { bytes = t .bytes; lengths = t .lengths; well = record { count = w .count; total = w .total } }
 
--- the same of parts that are lent
+-- the same of parts that are lent, and of sizes alone
 pub parts-formed : {p : Path} → wellFormed p ≡ true → Formed p
-parts-formed {p} e = let w = well-formed p e in record { bytes = w .room; lengths = w .slots; well = w }
+parts-formed {p} e = let w = well-formed p e in record { bytes = w .room; lengths = w .slots; well = record { count = w .count; total = w .total } }
+
+pub sized-formed : {p : Path} → sized p ≡ true → Formed p
+unfolding sized
+sized-formed {p} e =
+    let f = and-right (eqb (length (p .bytes)) 600) _ e in
+    let g = and-right (eqb (length (p .lengths)) 20) _ f in
+    record {
+      bytes = eqb-true (length (p .bytes)) 600 (and-left _ _ e);
+      lengths = eqb-true (length (p .lengths)) 20 (and-left _ _ f);
+      well = record {
+        count = leb-true (p .count) 20 (and-left _ _ g);
+        total = leb-true (sumOf (used p)) 600 (and-right (leb (p .count) 20) _ g);
+      };
+    }
+
+pub well-sized : (p : Path) → wellFormed p ≡ true → sized p ≡ true
+unfolding sized
+well-sized p e =
+    let f = parts-formed e in
+    rw (eq-eqb _ _ (f .bytes), eq-eqb _ _ (f .lengths), le-leb (p .count) 20 (f .well .count)) (le-leb (sumOf (used p)) 600 (f .well .total))
 
 -- the bytes of the i-th component
 abbrev pub bytesAt : Path → ℕ → List ℕ
 bytesAt p i = take (lengthAt p i) (drop (startAt p i) (p .bytes))
 
 module _ (p : Path) (f : Formed p) where
-  used-long : length (used p) ≡ p .count
+  pub used-long : length (used p) ≡ p .count
   used-long = length-take-le (p .count) (p .lengths) (omega (arith, f .lengths, f .well .count))
 
   fits-bytes : sumOf (used p) ≤ length (p .bytes)
@@ -46,7 +72,7 @@ module _ (p : Path) (f : Formed p) where
   pub rest-count : (k : ℕ) → length (drop k (componentsOf p)) ≡ p .count - k
   rest-count k = length-drop k (componentsOf p) ∙ rw count-is
 
-  rest-total : (k : ℕ) → totalOf (drop k (componentsOf p)) ≡ sumOf (drop k (used p))
+  pub rest-total : (k : ℕ) → totalOf (drop k (componentsOf p)) ≡ sumOf (drop k (used p))
   rest-total k =
       let start = sumOf (take k (used p)) in
       rw (drop-cut k (used p) (p .bytes)) (cut (drop k (used p)) (drop start (p .bytes)) (rw length-drop (omega (arith, sum-take k (used p), fits-bytes))) .total)
@@ -71,7 +97,7 @@ module _ (p : Path) (f : Formed p) where
     in-use : i < length (used p)
     in-use = omega (arith, used-long)
 
-    length-used : getD (used p) i 0 ≡ lengthAt p i
+    pub length-used : getD (used p) i 0 ≡ lengthAt p i
     unfolding lengthAt
     length-used = getD-take (p .count) (p .lengths) i 0 h
 
@@ -80,6 +106,9 @@ module _ (p : Path) (f : Formed p) where
 
     pub ends : startAt p i + lengthAt p i ≤ 600
     ends = omega (arith, next-start, start-small (i + 1))
+
+    pub bytes-at-long : length (bytesAt p i) ≡ lengthAt p i
+    bytes-at-long = length-take-le (lengthAt p i) (drop (startAt p i) (p .bytes)) (rw length-drop (omega (arith, ends, f .bytes)))
 
     -- the components from the i-th on begin with it
     pub component : drop i (componentsOf p) ≡ bytesAt p i ∷ drop (i + 1) (componentsOf p)

@@ -3,7 +3,12 @@ pub mod Limits
 pub mod Record
 pub mod Typed
 pub mod Components
+pub mod Shorts
+pub mod Puts
+pub mod Loads
+pub mod Records
 pub mod Prefix
 pub mod Compare
 pub mod Builder
+pub mod Growing
 pub mod Verdicts

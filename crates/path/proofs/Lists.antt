@@ -125,6 +125,15 @@ fill-more a c n h =
     rw (take-append-seam, drop-append-add a z (length c), drop-zeros, m) (sym (append-assoc a c _))
 
 -- ---- parts of arrays, as the code takes them
+pub drop-take : (k n : ℕ) (l : List ℕ) → drop k (take n l) ≡ take (n - k) (drop k l)
+drop-take zero n l = rw (sub-zero n)
+drop-take (suc k) zero l = rw (zero-sub (suc k))
+drop-take (suc k) (suc n) [] = none (suc n - suc k)
+  where
+    none : (m : ℕ) → [] ≡ take {A = ℕ} m []
+    none zero = refl
+    none (suc m) = refl
+drop-take (suc k) (suc n) (x ∷ l) = let e : suc n - suc k ≡ n - k = omega arith in rw e (drop-take k n l)
 
 -- a part of an array of k elements that goes to its end
 pub rest-part : (n k : ℕ) (l : List ℕ) → length l ≡ k → take (k - n) (drop n l) ≡ drop n l

@@ -1,20 +1,11 @@
--- A comparison that was answered gives the verdict on a writing.
-use Rattle.codec.proofs.Prelude.{_≡_, refl, Bool, true, false, cond, ℕ, arith}
-use Rattle.codec.specs.Format.{allowed, barred, verdictBy}
-use Rattle.path.specs.declared.Compared.the-variants as compared
-use Rattle.path.specs.Answers.{verdict}
+-- What an answer says of its tests.
+use Rattle.codec.proofs.Prelude.{_≡_, refl, Bool, true, false, ℕ, arith}
+use Rattle.path.specs.Answers.{said, unsaid, saidIf}
 
-pub yes-allowed : (formed inside : Bool) → cond formed (verdict inside) compared.Malformed ≡ compared.Yes → verdictBy formed inside ≡ allowed
-yes-allowed true true e = refl
-yes-allowed true false e = let z : _≡_ {A = ℕ} 0 1 = cc in absurd (omega arith)
-yes-allowed false inside e = let z : _≡_ {A = ℕ} 0 1 = cc in absurd (omega arith)
+pub said-known : {A : Type 0} (formed : Bool) (v w : A) → said w ≡ saidIf formed v → (formed ≡ true) × (v ≡ w)
+said-known true v w e = (refl, cc)
+said-known false v w e = let z : _≡_ {A = ℕ} 0 1 = cc in absurd (omega arith)
 
-pub no-barred : (formed inside : Bool) → cond formed (verdict inside) compared.Malformed ≡ compared.No → verdictBy formed inside ≡ barred 3
-no-barred true true e = let z : _≡_ {A = ℕ} 0 1 = cc in absurd (omega arith)
-no-barred true false e = refl
-no-barred false inside e = let z : _≡_ {A = ℕ} 0 1 = cc in absurd (omega arith)
-
-pub malformed-barred : (formed inside : Bool) → cond formed (verdict inside) compared.Malformed ≡ compared.Malformed → verdictBy formed inside ≡ barred 5
-malformed-barred true true e = let z : _≡_ {A = ℕ} 0 1 = cc in absurd (omega arith)
-malformed-barred true false e = let z : _≡_ {A = ℕ} 0 1 = cc in absurd (omega arith)
-malformed-barred false inside e = refl
+pub unsaid-known : {A : Type 0} (formed : Bool) (v : A) (k : ℕ) → unsaid k ≡ saidIf formed v → (formed ≡ false) × (k ≡ 5)
+unsaid-known true v k e = let z : _≡_ {A = ℕ} 0 1 = cc in absurd (omega arith)
+unsaid-known false v k e = (refl, cc)

@@ -2,7 +2,7 @@
 use mathlib.Core.Bool.{Bool, true, false, cond, _&&_}
 use Prim.Native.Nat.{ℕ}
 use lib.Dec.{ltb}
-use Rattle.codec.specs.Answers.{Answer, accepted, refused, Outcome, wrote, denied}
+use Rattle.codec.specs.Answers.{Answer, accepted, refused}
 use Rattle.path.specs.declared.Path.{Path}
 use Rattle.path.specs.declared.PathBuilder.{PathBuilder}
 use Rattle.path.specs.declared.Appended.{Appended}
@@ -22,9 +22,18 @@ appendedAnswer appended.Grown b = accepted b (b .total)
 appendedAnswer appended.Outside b = refused 3
 appendedAnswer appended.Malformed b = refused 5
 
-abbrev pub countAnswer : ComponentCount → Outcome
-countAnswer (count.Components n) = wrote n
-countAnswer count.Malformed = denied 5
+-- what a count or a comparison says, or a refusal's number; 5 unless the records are formed
+pub data Said (A : Type 0) : Type 0 where
+  said : A → Said A
+  unsaid : ℕ → Said A
+
+abbrev pub saidIf : {A : Type 0} → Bool → A → Said A
+saidIf true a = said a
+saidIf false a = unsaid 5
+
+abbrev pub countAnswer : ComponentCount → Said ℕ
+countAnswer (count.Components n) = said n
+countAnswer count.Malformed = unsaid 5
 
 -- where the bytes start, and how many they are
 abbrev pub componentAnswer : ComponentBytes → Answer ℕ
@@ -32,10 +41,10 @@ componentAnswer (component.At i n) = accepted i n
 componentAnswer component.Outside = refused 3
 componentAnswer component.Malformed = refused 5
 
-abbrev pub comparedAnswer : Compared → Answer Bool
-comparedAnswer compared.Yes = accepted true 0
-comparedAnswer compared.No = accepted false 0
-comparedAnswer compared.Malformed = refused 5
+abbrev pub comparedAnswer : Compared → Said Bool
+comparedAnswer compared.Yes = said true
+comparedAnswer compared.No = said false
+comparedAnswer compared.Malformed = unsaid 5
 
 -- the i-th component: 5, then 3 where there is none
 unfoldable pub componentAt : Path → ℕ → ComponentBytes

@@ -1,5 +1,8 @@
 pub mod Limits
 pub mod Record
+pub mod Flat
+pub mod Puts
 pub mod Prefix
 pub mod Builder
+pub mod Lent
 pub mod Answers

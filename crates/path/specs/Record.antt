@@ -3,7 +3,7 @@
 use mathlib.Core.Path.{_≡_}
 use mathlib.Core.List.{List, [], _∷_, _++_, map}
 use mathlib.Core.Bool.{Bool, true, _&&_}
-use Prim.Native.Nat.{ℕ, _+_, _-_}
+use Prim.Native.Nat.{ℕ, _+_, _-_, _≤_}
 use lib.Dec.{leb, eqb}
 use lib.ListN.{length, take, drop, getD, replicate}
 use Rattle.codec.specs.Answers.{AllBytes}
@@ -55,6 +55,18 @@ wellFormed p =
     && (allAtMost maxComponentLength (used p)
     && (leb (sumOf (used p)) maxPathLength
     && (allAtMost 0 (drop (p .count) (p .lengths)) && allAtMost 0 (drop (sumOf (used p)) (p .bytes)))))))
+
+-- the sizes alone, by which the components stand in the bytes. Functions inside the library test these; that no component is too long and that unused
+-- parts are zero is tested where a record comes in
+unfoldable pub sized : Path → Bool
+sized p =
+    eqb (length (p .bytes)) maxPathLength
+    && (eqb (length (p .lengths)) maxComponentCount && (leb (p .count) maxComponentCount && leb (sumOf (used p)) maxPathLength))
+
+-- sizes within the limits, and k components at least
+pub record Leads (p : Path) (k : ℕ) : Type 0 where
+  pub fits : sized p ≡ true
+  pub there : k ≤ p .count
 
 -- what the language says of a record
 pub record TypedPath (p : Path) : Type 0 where

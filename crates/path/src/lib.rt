@@ -7,6 +7,9 @@ ghost use Rattle.path.specs.Limits.{maxComponentCount, maxPathLength};
 ghost use Rattle.path.specs.Record.{sumOf, allAtMost, pathFrom, pathOf, wellFormed, lengthAt};
 ghost use Rattle.path.specs.Answers.{componentAt, commonPrefix, prefixOf, equalTo};
 
+mod flat;
+pub mod lent;
+mod lent_builder;
 pub mod parts;
 mod path_builder;
 
@@ -34,6 +37,17 @@ pub enum Appended {
 pub struct Growth {
     pub answer: Appended,
     pub builder: PathBuilder,
+}
+
+// The same for a path that grows in a lent record: the sum of its components' lengths, and their number.
+pub struct LentBuilder {
+    pub total: usize,
+    pub count: usize,
+}
+
+pub struct LentGrowth {
+    pub answer: Appended,
+    pub builder: LentBuilder,
 }
 
 // A number of components.

@@ -12,7 +12,7 @@ use crate::Path;
 use crate::PathBuilder;
 
 // Whether a component of `n` bytes fits after `count` others of `total` bytes.
-fn fits_after(total: usize, count: usize, n: usize) -> bool
+pub(crate) fn fits_after(total: usize, count: usize, n: usize) -> bool
     ensures { λ r. ⌜ r ≡ fitsAfter total count n ⌝ }
 {
     if Path::MAX_COMPONENT_LENGTH < n {

@@ -4,3 +4,5 @@ pub mod Yields
 pub mod Exits
 pub mod Ahead
 pub mod Loop
+pub mod Into
+pub mod Within

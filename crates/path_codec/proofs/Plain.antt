@@ -1,6 +1,6 @@
 -- The plain path is a lawful format, and reads back leniently too.
-use Rattle.codec.proofs.Prelude.{_≡_, List, Bool, true, ℕ, arith, le-leb, length}
-use Rattle.codec.specs.Format.{Valid, Writes, verdictBy}
+use Rattle.codec.proofs.Prelude.{_≡_, List, Bool, true, false, ℕ, arith, le-leb, length}
+use Rattle.codec.specs.Format.{Valid, Writes, verdictBy, barred}
 use Rattle.codec.specs.Reader.{Reader, mapped}
 use Rattle.codec.specs.Reads.{ReadsBack}
 use Rattle.codec.specs.Lawful.{Lawful}
@@ -10,10 +10,11 @@ use Rattle.codec.proofs.Lawful.{verdict-allowed, lawful-of, reshaped-lawful, re
 use Rattle.codec.proofs.Demand3.{demand3}
 use Rattle.path.specs.declared.Path.{Path}
 use Rattle.path.specs.Limits.{totalOf, limits, pathOk, PathOk, TypedComponents}
-use Rattle.path.specs.Record.{componentsOf, pathFrom, wellFormed, TypedPath}
+use Rattle.path.specs.Record.{componentsOf, pathFrom, sized, wellFormed, TypedPath}
 use Rattle.path.proofs.Limits.{limits-total, limits-count, limits-of, path-ok, ok-path, typed-of}
 use Rattle.path.proofs.Record.{well-formed, formed-well, apart, made, components-of}
-use Rattle.path_suffix.specs.Suffix.{suffixBytes, readSuffix, suffixFrom}
+use Rattle.path.proofs.Components.{well-sized}
+use Rattle.path_suffix.specs.Suffix.{suffixBytes, readSuffix, suffixBy}
 use Rattle.path_suffix.specs.Relations.{SuffixAs}
 use Rattle.path_suffix.proofs.Suffix.{suffix-reads, suffix-back, suffix-empty}
 use Rattle.path_codec.specs.Plain.{onComponents, onRecords, plainPath, readPath}
@@ -42,10 +43,6 @@ module _ (inside : List (List ℕ) → Bool) (encode : List (List ℕ) → List 
       (reshaped-back TypedComponents (onComponents inside encode) TypedPath componentsOf pathFrom (onRecords inside encode .check) record-out record-in)
 
 -- ---- the plain path
-
--- it is the suffix from the first component on
-pub plain-suffix : suffixFrom 0 ≡ plainPath
-plain-suffix = λ i. record { check = λ p. verdictBy (wellFormed p) (le-leb 0 (p .count) (omega arith) i); encode = λ p. suffixBytes (componentsOf p) }
 
 plain-there : (cs : List (List ℕ)) (e : List ℕ) → SuffixAs limits cs e → Writes TypedComponents (onComponents (λ cs. true) suffixBytes) cs e
 plain-there cs e s =
@@ -77,3 +74,11 @@ path-demand3 = demand3 TypedPath plainPath (readPath true) path-lawful
 pub path-back : (canonic : Bool) → ReadsBack (readPath canonic) (Writes TypedPath plainPath)
 unfolding readPath
 path-back canonic = back-on-records (λ cs. true) suffixBytes (readSuffix canonic limits) (back-as _ _ _ (suffix-back limits canonic) plain-back)
+
+-- ---- a plain path is written as its suffix from the first component on
+module _ (p : Path) where
+  pub plain-malformed : wellFormed p ≡ false → plainPath .check p ≡ barred 5
+  plain-malformed w = rw w
+
+  pub plain-check : wellFormed p ≡ true → suffixBy sized 0 .check p ≡ plainPath .check p
+  plain-check w = rw (w, well-sized p w, le-leb 0 (p .count) (omega arith))

@@ -3,12 +3,12 @@ use mathlib.Core.List.{List, _++_}
 use mathlib.Core.Bool.{Bool, true, _&&_}
 use Prim.Native.Nat.{ℕ, _+_}
 use lib.Dec.{leb, eqb}
-use lib.ListN.{length}
+use lib.ListN.{length, take}
 use Rattle.codec.specs.Format.{Format, verdictBy}
 use Rattle.codec.specs.Reader.{Reader, mapped, guard, onFormed}
 use Rattle.path.specs.declared.Path.{Path}
-use Rattle.path.specs.Limits.{maxComponentLength, maxComponentCount, maxPathLength, limits, pathOk}
-use Rattle.path.specs.Record.{sumOf, cutUp, componentsOf, pathFrom, allAtMost, wellFormed}
+use Rattle.path.specs.Limits.{maxComponentLength, maxComponentCount, maxPathLength, totalOf, limits, pathOk}
+use Rattle.path.specs.Record.{sumOf, cutUp, componentsOf, pathFrom, allAtMost, sized, wellFormed}
 use Rattle.path_suffix.specs.Suffix.{suffixBytes, readComponents, readSuffix}
 
 -- a format of paths as lists of components, and the same on records: 5 unless well formed, then 3 unless inside
@@ -41,3 +41,14 @@ readAfter canonic lengths bytes total count =
     guard (limits (sumOf lengths + total) (length lengths + count)) (
     mapped (λ cs. pathFrom (cutUp lengths bytes ++ cs)) (
     readComponents canonic count 0 total)))
+
+-- components after others: 2 unless all together are within the limits
+unfoldable pub readMore : Bool → List (List ℕ) → ℕ → ℕ → Reader Path
+readMore canonic cs total count =
+    guard (limits (totalOf cs + total) (length cs + count)) (
+    mapped (λ ds. pathFrom (cs ++ ds)) (
+    readComponents canonic count 0 total))
+
+-- after the first k of a path: 5 unless its sizes are within the limits and it has so many
+unfoldable pub readOn : Bool → Path → ℕ → ℕ → ℕ → Reader Path
+readOn canonic p k total count = onFormed (sized p && leb k (p .count)) (readMore canonic (take k (componentsOf p)) total count)

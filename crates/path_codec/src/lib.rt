@@ -9,7 +9,8 @@ use codec::Decoded;
 use codec::Encoded;
 use path::Path;
 
-pub mod parts;
+pub mod lent;
+pub mod lent_decode;
 pub mod suffix_decode;
 
 // A path beside the answer; beside a refusal it is the empty one.
@@ -76,12 +77,22 @@ pub fn decode(message: &[u8], start: usize, canonic: bool) -> DecodedPath
 pub fn len_of_encoding(path: Path) -> Encoded
     ensures { λ r. ⌜ outcomeOf r ≡ lengthAnswer plainPath path ⌝ }
 {
-    parts::len_of_encoding(&path.bytes, &path.lengths, path.count)
+    let well = path.well_formed();
+    if !well {
+        return Encoded::Malformed;
+    }
+    let flat = path.flat();
+    path_suffix_encode::sized::suffix_len(&flat, 0)
 }
 
 // Writes a plain path.
 pub fn encode(buffer: &mut [u8], path: Path) -> Encoded
     ensures { λ r. ⌜ (outcomeOf r ≡ writeAnswer plainPath path (length (now (buffer .entry)))) × (now (buffer .exit) ≡ writeBuffer plainPath path (now (buffer .entry))) ⌝ }
 {
-    parts::encode(buffer, &path.bytes, &path.lengths, path.count)
+    let well = path.well_formed();
+    if !well {
+        return Encoded::Malformed;
+    }
+    let flat = path.flat();
+    path_suffix_encode::sized::encode_suffix(buffer, &flat, 0)
 }

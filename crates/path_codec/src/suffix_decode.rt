@@ -47,7 +47,7 @@ pub fn sizes_refusal(sizes: DecodedSizes) -> Decoded
     }
 }
 
-fn component_refusal(component: DecodedComponent) -> Decoded
+pub(crate) fn component_refusal(component: DecodedComponent) -> Decoded
     ensures { λ r. ⌜ r ≡ componentRefusal component ⌝ }
 {
     match component {
@@ -84,7 +84,7 @@ pub fn decode_sizes(message: &[u8], start: usize, canonic: bool) -> DecodedSizes
 }
 
 // Reads a component after its length, from `at` on.
-fn decode_sized(message: &[u8], at: usize, canonic: bool) -> DecodedComponent
+pub(crate) fn decode_sized(message: &[u8], at: usize, canonic: bool) -> DecodedComponent
     requires { ⌜ at ≤ length (now message) ⌝ }
     ensures { λ r. ⌜ ReadsSized canonic (now (message .entry)) at r ⌝ }
 {

@@ -8,43 +8,42 @@ use Rattle.codec.proofs.Bytes.{AllBytes·drop}
 use Rattle.compact_u64.specs.Number.{readStandalone}
 use Rattle.path.specs.declared.Path.{Path}
 use Rattle.path.specs.Limits.{totalOf, limits}
-use Rattle.path.specs.Record.{sumOf, used, componentsOf, pathFrom, wellFormed}
+use Rattle.path.specs.Record.{sumOf, used, componentsOf, pathFrom, wellFormed, Leads}
 use Rattle.path.specs.Prefix.{shared}
 use Rattle.path.proofs.Record.{components-of}
 use Rattle.path.proofs.Limits.{limits-of, total-append}
-use Rattle.path.proofs.Components.{parts-formed, count-is}
+use Rattle.path.proofs.Components.{Formed, parts-formed, sized-formed, count-is, prefix-count}
 use Rattle.path.proofs.Components as Components
 use Rattle.path_suffix.specs.Suffix.{sizesFrom, readSizes, readComponents, readSuffix}
 use Rattle.path_suffix.proofs.Components.{components-bounded}
 use Rattle.path_suffix.proofs.Yields.{components-yields}
-use Rattle.path_codec.specs.Plain.{readPath, readAfter}
+use Rattle.path_codec.specs.Plain.{readPath, readAfter, readMore, readOn}
 use Rattle.path_relative.specs.Against.{joinOk, readAgainst}
 use Rattle.path_relative.specs.Extension.{readExtension}
-use Rattle.path_relative.specs.Records.{readAgainstPath, readExtendsPath, readJoined}
+use Rattle.path_relative.specs.Records.{readAgainstBy, readExtendsBy, readJoined}
 use Rattle.path_relative.proofs.Leading.{lead-after}
 
 -- ---- against a path
-pub against-malformed : (canonic : Bool) (r : Path) (s : List ℕ) → wellFormed r ≡ false → readAgainstPath canonic r s ≡ refused 5
-unfolding readAgainstPath
-against-malformed canonic r s e = rw e
+pub against-malformed : (formed : Path → Bool) (canonic : Bool) (r : Path) (s : List ℕ) → formed r ≡ false → readAgainstBy formed canonic r s ≡ refused 5
+against-malformed formed canonic r s e = rw e
 
-module _ (canonic : Bool) (r : Path) (w : wellFormed r ≡ true) (s : List ℕ) (i : ℕ) where
-  pub against-first : (e : ℕ) → readStandalone canonic (drop i s) ≡ refused e → readAgainstPath canonic r (drop i s) ≡ refused e
-  unfolding readAgainstPath readAgainst
+module _ (formed : Path → Bool) (canonic : Bool) (r : Path) (w : formed r ≡ true) (s : List ℕ) (i : ℕ) where
+  pub against-first : (e : ℕ) → readStandalone canonic (drop i s) ≡ refused e → readAgainstBy formed canonic r (drop i s) ≡ refused e
+  unfolding readAgainst
   against-first e f = rw (w, f)
 
   module _ (k a : ℕ) (f : readStandalone canonic (drop i s) ≡ accepted k a) where
-    pub against-sizes : (e : ℕ) → readSizes canonic (drop (i + a) s) ≡ refused e → readAgainstPath canonic r (drop i s) ≡ refused e
-    unfolding readAgainstPath readAgainst readSuffix
+    pub against-sizes : (e : ℕ) → readSizes canonic (drop (i + a) s) ≡ refused e → readAgainstBy formed canonic r (drop i s) ≡ refused e
+    unfolding readAgainst readSuffix
     against-sizes e g = rw (w, f, drop-drop, g)
 
     module _ (total count b : ℕ) (g : readSizes canonic (drop (i + a) s) ≡ accepted (sizesFrom total count) b) where
-      pub against-above : length (componentsOf r) < k → readAgainstPath canonic r (drop i s) ≡ refused 2
-      unfolding readAgainstPath readAgainst readSuffix joinOk
+      pub against-above : length (componentsOf r) < k → readAgainstBy formed canonic r (drop i s) ≡ refused 2
+      unfolding readAgainst readSuffix joinOk
       against-above h = rw (w, f, drop-drop, g, lt-leb k (length (componentsOf r)) h)
 
-      pub against-joined : readAgainstPath canonic r (drop i s) ≡ shift a (shift b (readJoined canonic r k total count (drop (i + a + b) s)))
-      unfolding readAgainstPath readAgainst readSuffix readJoined
+      pub against-joined : readAgainstBy formed canonic r (drop i s) ≡ shift a (shift b (readJoined canonic r k total count (drop (i + a + b) s)))
+      unfolding readAgainst readSuffix readJoined
       against-joined =
           rw (w, f, drop-drop, g, drop-drop)
           (go (joinOk (componentsOf r) k total count) (readComponents canonic count 0 total (drop (i + a + b) s)) refl)
@@ -83,6 +82,25 @@ module _ (canonic : Bool) (r : Path) (w : wellFormed r ≡ true) (k : ℕ) (ther
       → readJoined canonic r k total count s ≡ passed (eqb (shared (componentsOf r) (componentsOf p)) k) (accepted p n)
   joined-strict p n e f = joined-after ∙ rw (f, e)
 
+-- by the reader after the first components of a path
+module _ (canonic : Bool) (r : Path) (k : ℕ) (here : Leads r k) (total count : ℕ) (s : List ℕ) where
+  pub joined-on : readJoined canonic r k total count s
+      ≡ bind (readOn canonic r k total count s) (λ p n. passed (cond canonic (eqb (shared (componentsOf r) (componentsOf p)) k) true) (accepted p n))
+  unfolding readJoined joinOk readOn readMore
+  joined-on =
+      let f = sized-formed (here .fits) in
+      rw (here .fits, le-leb k (r .count) (here .there), le-leb k (length (componentsOf r)) (omega (arith, count-is r f, here .there)), prefix-count r f k (here .there))
+
+  pub joined-loose : canonic ≡ false → readJoined canonic r k total count s ≡ readOn canonic r k total count s
+  joined-loose e = joined-on ∙ rw e (go (readOn false r k total count s))
+    where
+      go : (x : Answer Path) → bind x (λ p n. passed true (accepted p n)) ≡ x
+      go (accepted p n) = refl
+      go (refused j) = refl
+
+  pub joined-tested : (p : Path) (n : ℕ) → canonic ≡ true → readOn canonic r k total count s ≡ accepted p n → readJoined canonic r k total count s ≡ passed (eqb (shared (componentsOf r) (componentsOf p)) k) (accepted p n)
+  joined-tested p n e f = joined-on ∙ rw (f, e)
+
 pub joined-bounded : (canonic : Bool) (r : Path) (k total count : ℕ) → Bounded (readJoined canonic r k total count)
 unfolding readJoined
 joined-bounded canonic r k total count =
@@ -92,14 +110,13 @@ joined-bounded canonic r k total count =
     components-bounded canonic count 0 total)))
 
 -- ---- as an extension
-pub extends-unformed : (canonic : Bool) (r : Path) (s : List ℕ) → wellFormed r ≡ false → readExtendsPath canonic r s ≡ refused 5
-unfolding readExtendsPath
-extends-unformed canonic r s e = rw e
+pub extends-unformed : (formed : Path → Bool) (canonic : Bool) (r : Path) (s : List ℕ) → formed r ≡ false → readExtendsBy formed canonic r s ≡ refused 5
+extends-unformed formed canonic r s e = rw e
 
-module _ (canonic : Bool) (r : Path) (w : wellFormed r ≡ true) (s : List ℕ) (i : ℕ) where
-  pub extends-sizes : (e : ℕ) → readSizes canonic (drop i s) ≡ refused e → readExtendsPath canonic r (drop i s) ≡ refused e
-  unfolding readExtendsPath readExtension readSuffix
-  extends-sizes e f = rw (w, f)
+module _ (formed : Path → Bool) (canonic : Bool) (r : Path) (w : formed r ≡ true) (f : Formed r) (s : List ℕ) (i : ℕ) where
+  pub extends-sizes : (e : ℕ) → readSizes canonic (drop i s) ≡ refused e → readExtendsBy formed canonic r (drop i s) ≡ refused e
+  unfolding readExtension readSuffix
+  extends-sizes e g = rw (w, g)
 
   module _ (total count n : ℕ) (g : readSizes canonic (drop i s) ≡ accepted (sizesFrom total count) n) (small : AllBytes s) where
     -- the whole is as long as the sizes say
@@ -108,11 +125,11 @@ module _ (canonic : Bool) (r : Path) (w : wellFormed r ≡ true) (s : List ℕ) 
     whole cs m e =
         let y = components-yields canonic count 0 total .holds (drop (i + n) s) cs m (AllBytes·drop (i + n) s small) e in
         let t : totalOf (componentsOf r ++ cs) ≡ totalOf (componentsOf r) + total = omega (arith, total-append (componentsOf r) cs, y .sum) in
-        let l : length (componentsOf r ++ cs) ≡ r .count + count = omega (arith, length-append (componentsOf r) cs, y .count, count-is r (parts-formed w)) in
+        let l : length (componentsOf r ++ cs) ≡ r .count + count = omega (arith, length-append (componentsOf r) cs, y .count, count-is r f) in
         rw (t, l)
 
-    extends-outside : limits (totalOf (componentsOf r) + total) (r .count + count) ≡ false → readExtendsPath canonic r (drop i s) ≡ checked (λ p. false) (readPath canonic) (drop i s)
-    unfolding readExtendsPath readExtension readPath readSuffix
+    extends-outside : limits (totalOf (componentsOf r) + total) (r .count + count) ≡ false → readExtendsBy formed canonic r (drop i s) ≡ checked (λ p. false) (readPath canonic) (drop i s)
+    unfolding readExtension readPath readSuffix
     extends-outside h = rw (w, g, drop-drop) (go (limits total count) (readComponents canonic count 0 total (drop (i + n) s)) refl)
       where
         go : (b : Bool) (x : Answer (List (List ℕ))) → readComponents canonic count 0 total (drop (i + n) s) ≡ x
@@ -123,19 +140,17 @@ module _ (canonic : Bool) (r : Path) (w : wellFormed r ≡ true) (s : List ℕ) 
         go true (refused k) e = rw e
         go false x e = refl
 
-    pub extends-long : 600 < totalOf (componentsOf r) + total → readExtendsPath canonic r (drop i s) ≡ checked (λ p. false) (readPath canonic) (drop i s)
+    pub extends-long : 600 < totalOf (componentsOf r) + total → readExtendsBy formed canonic r (drop i s) ≡ checked (λ p. false) (readPath canonic) (drop i s)
     extends-long h = extends-outside (rw (lt-leb (totalOf (componentsOf r) + total) 600 h))
 
-    pub extends-many : totalOf (componentsOf r) + total ≤ 600 → 20 < r .count + count → readExtendsPath canonic r (drop i s) ≡ checked (λ p. false) (readPath canonic) (drop i s)
+    pub extends-many : totalOf (componentsOf r) + total ≤ 600 → 20 < r .count + count → readExtendsBy formed canonic r (drop i s) ≡ checked (λ p. false) (readPath canonic) (drop i s)
     extends-many h l = extends-outside (rw (le-leb (totalOf (componentsOf r) + total) 600 h, lt-leb (r .count + count) 20 l))
 
-    pub extends-after : totalOf (componentsOf r) + total ≤ 600 → r .count + count ≤ 20
-        → readExtendsPath canonic r (drop i s) ≡ shift n (readAfter canonic (used r) (take (sumOf (used r)) (r .bytes)) total count (drop (i + n) s))
-    unfolding readExtendsPath readExtension readSuffix
-    extends-after h l =
-        let f = parts-formed w in
+    pub extends-more : totalOf (componentsOf r) + total ≤ 600 → r .count + count ≤ 20 → readExtendsBy formed canonic r (drop i s) ≡ shift n (readMore canonic (componentsOf r) total count (drop (i + n) s))
+    unfolding readExtension readSuffix readMore
+    extends-more h l =
         let fits = limits-of (totalOf (componentsOf r) + total) (r .count + count) h l in
-        rw (w, g, drop-drop, limits-of total count (omega arith) (omega arith), lead-after r w (r .count) (omega arith) canonic total count (drop (i + n) s), Components.whole r f, fits)
+        rw (w, g, drop-drop, limits-of total count (omega arith) (omega arith), count-is r f, fits)
         (go fits (readComponents canonic count 0 total (drop (i + n) s)) refl)
       where
         go : limits (totalOf (componentsOf r) + total) (r .count + count) ≡ true → (x : Answer (List (List ℕ))) → readComponents canonic count 0 total (drop (i + n) s) ≡ x
@@ -144,3 +159,9 @@ module _ (canonic : Bool) (r : Path) (w : wellFormed r ≡ true) (s : List ℕ) 
             ≡ shift n (named (λ cs. pathFrom (componentsOf r ++ cs)) (readComponents canonic count 0 total (drop (i + n) s)))
         go fits (accepted cs m) e = rw (e, whole cs m e, fits)
         go fits (refused k) e = rw e
+
+    -- by the reader after parts
+    pub extends-after : wellFormed r ≡ true → totalOf (componentsOf r) + total ≤ 600 → r .count + count ≤ 20
+        → readExtendsBy formed canonic r (drop i s) ≡ shift n (readAfter canonic (used r) (take (sumOf (used r)) (r .bytes)) total count (drop (i + n) s))
+    unfolding readMore
+    extends-after v h l = extends-more h l ∙ rw (lead-after r v (r .count) (omega arith) canonic total count (drop (i + n) s), Components.whole r f, count-is r f)

@@ -11,7 +11,7 @@ use Rattle.path.specs.Record.{sumOf, joined, cutUp, used, componentsOf, pathFro
 use Rattle.path.specs.Prefix.{shared}
 use Rattle.path.proofs.Lists.{cut, cut-joined, take-cut}
 use Rattle.path.proofs.Limits.{ok-take}
-use Rattle.path.proofs.Record.{formed-well, apart, made, components-of}
+use Rattle.path.proofs.Record.{well-formed, formed-well, apart, made, components-of}
 use Rattle.path.proofs.Components.{Formed, parts-formed, bytesAt, count-is, prefix-count, start-is, start-small, ends, component}
 use Rattle.path_suffix.specs.Suffix.{readComponents}
 use Rattle.path_codec.specs.Plain.{partsOk, readAfter}
@@ -52,7 +52,7 @@ module _ (r : Path) (w : wellFormed r ≡ true) (k : ℕ) (there : k ≤ r .coun
   lead-parts : partsOk (take k (r .lengths)) (take (sumOf (take k (r .lengths))) (r .bytes)) ≡ true
   unfolding partsOk
   lead-parts =
-      let short : allAtMost 300 (take k (r .lengths)) ≡ true = rw (take-take k (r .count) (r .lengths) there) at (most-take 300 k (used r) (formed .well .short)) in
+      let short : allAtMost 300 (take k (r .lengths)) ≡ true = rw (take-take k (r .count) (r .lengths) there) at (most-take 300 k (used r) (well-formed r w .short)) in
       rw (lead-long, le-leb k 20 (omega (arith, formed .well .count)), short, le-leb (sumOf (take k (r .lengths))) 600 lead-small)
       (eq-eqb _ _ (sym (length-take-le (sumOf lead) (r .bytes) lead-fits)))
 
@@ -63,7 +63,7 @@ module _ (r : Path) (w : wellFormed r ≡ true) (k : ℕ) (there : k ≤ r .coun
   lead-after canonic total count m = rw (lead-parts, lead-cut, lead-long, start-is r formed k there)
 
   lead-ok : AllBytes (r .bytes) → PathOk (take k (componentsOf r))
-  lead-ok small = ok-take k (componentsOf r) (apart r (record { bytes = formed .bytes; lengths = formed .lengths; small = small }) (formed .well) .ok)
+  lead-ok small = ok-take k (componentsOf r) (apart r (record { bytes = formed .bytes; lengths = formed .lengths; small = small }) (well-formed r w) .ok)
 
   pub lead-read : (canonic : Bool) (total count : ℕ) (m : List ℕ) (p : Path) (n : ℕ) → AllBytes (r .bytes) → AllBytes m
       → readAfter canonic (take k (r .lengths)) (take (sumOf (take k (r .lengths))) (r .bytes)) total count m ≡ accepted p n → After (take k (componentsOf r)) p

@@ -5,4 +5,5 @@ pub mod Yields
 pub mod Leading
 pub mod Exits
 pub mod Writing
+pub mod Lent
 pub mod Orders

@@ -1,46 +1,16 @@
--- What comparing the path with its reference tells the writers.
-use Rattle.codec.proofs.Prelude.{_≡_, refl, sym, ap, _∙_, List, _++_, append-assoc, Bool, true, false, cond, _&&_, ℕ, _+_, _≤_, _<_, arith, eqb, leb, eqb-true, leb-false, length, take, drop, length-append, length-drop, take-append-drop, drop-at, drop-drop, length-take-le}
+-- Bytes written after the place of those that come first, and a path of which k components are shared.
+use Rattle.codec.proofs.Prelude.{_≡_, refl, sym, ap, _∙_, List, _++_, _+_, _≤_, _<_, append-assoc, Bool, true, false, cond, ℕ, arith, leb, leb-false, length, take, drop, length-append, length-drop, take-append-drop, drop-at, drop-drop, length-take-le}
 use Rattle.codec.specs.Answers.{wrote, denied}
 use Rattle.codec.specs.Format.{Verdict, allowed, barred, over, putAnswer, putBuffer, writeAnswer, writeBuffer}
 use Rattle.codec.proofs.Lawful.{verdict-allowed}
 use Rattle.codec.proofs.Lending.{put-barred, put-full, put-fits, put-denied, put-wrote, put-over, wrote-not-denied}
 use Rattle.compact_u64.specs.Number.{standaloneBytes}
 use Rattle.path.specs.declared.Path.{Path}
-use Rattle.path.specs.declared.Compared.the-variants as compared
-use Rattle.path.specs.declared.ComponentCount.the-variants as count
-use Rattle.path.specs.Record.{componentsOf, wellFormed}
-use Rattle.path.specs.Prefix.{shared, isPrefix}
-use Rattle.path.specs.Answers.{commonPrefix, prefixOf, verdict}
-use Rattle.codec.proofs.Tests.{and-left, and-right}
-use Rattle.path.proofs.Components.{Formed, parts-formed, count-is, rest-count, rest-small}
-use Rattle.path.proofs.Prefix.{shares}
-use Rattle.path.proofs.Verdicts.{yes-allowed}
-use Rattle.path_suffix.specs.Suffix.{suffixBytes, suffixFrom}
+use Rattle.path.specs.Record.{componentsOf}
+use Rattle.path.proofs.Components.{Formed, rest-count, rest-small}
+use Rattle.path_suffix.specs.Suffix.{suffixBy}
 use Rattle.path_suffix.proofs.Suffix.{suffix-short}
-use Rattle.path_suffix.proofs.Writing.{suffix-allowed}
-use Rattle.path_relative.specs.Records.{sharedFrom, againstPath, extendsPath}
-
--- ---- the shared components
-pub record Common (r p : Path) (k : ℕ) : Type 0 where
-  pub both : (wellFormed r && wellFormed p) ≡ true
-  pub is : shared (componentsOf r) (componentsOf p) ≡ k
-
-pub common : (r p : Path) (k : ℕ) → commonPrefix r p ≡ count.Components k → Common r p k
-unfolding commonPrefix
-common r p k e = go (wellFormed r && wellFormed p) refl e
-  where
-    go : (b : Bool) → (wellFormed r && wellFormed p) ≡ b → cond b (count.Components (shared (componentsOf r) (componentsOf p))) count.Malformed ≡ count.Components k → Common r p k
-    go true f g = record { both = f; is = cc }
-    go false f g = let z : _≡_ {A = ℕ} 0 1 = cc in absurd (omega arith)
-
-pub uncommon : (r p : Path) → commonPrefix r p ≡ count.Malformed → (wellFormed r && wellFormed p) ≡ false
-unfolding commonPrefix
-uncommon r p e = go (wellFormed r && wellFormed p) refl e
-  where
-    go : (b : Bool) → (wellFormed r && wellFormed p) ≡ b
-        → cond b (count.Components (shared (componentsOf r) (componentsOf p))) count.Malformed ≡ count.Malformed → (wellFormed r && wellFormed p) ≡ false
-    go true f g = let z : _≡_ {A = ℕ} 0 1 = cc in absurd (omega arith)
-    go false f g = f
+use Rattle.path_relative.specs.Records.{sharedBy}
 
 -- ---- a writing that was refused for room, and one that was written after the place of another
 pub no-room : (bs : List ℕ) (room why : ℕ) → putAnswer allowed bs room ≡ denied why → (why ≡ 4) × (room < length bs)
@@ -90,80 +60,22 @@ pub short-unchanged : (d : Verdict) (bs l : List ℕ) → length l < length bs �
 short-unchanged allowed bs l h = put-full allowed bs l refl _ refl h .1
 short-unchanged (barred k) bs l h = put-barred (barred k) bs l k refl .1
 
--- ---- the number of shared components and the suffix after them
-module _ (p : Path) (k : ℕ) where
-  pub suffix-within : suffixFrom k .check p ≡ allowed → length (suffixFrom k .encode p) ≤ 1000
-  suffix-within ok =
-      let f = parts-formed (verdict-allowed (wellFormed p) (leb k (p .count)) ok .0) in
+-- ---- the number of shared components and the suffix after them, whatever is tested of the record
+module _ (formed : Path → Bool) (p : Path) (k : ℕ) where
+  pub within-by : (formed p ≡ true → Formed p) → suffixBy formed k .check p ≡ allowed → length (suffixBy formed k .encode p) ≤ 1000
+  within-by known ok =
+      let f = known (verdict-allowed (formed p) (leb k (p .count)) ok .0) in
       omega (arith, suffix-short (drop k (componentsOf p)), rest-count p f k, rest-small p f k, f .well .count)
 
-  pub shared-long : (a n : ℕ) → a ≡ length (standaloneBytes k) → n ≡ length (suffixFrom k .encode p) → a + n ≡ length (sharedFrom k .encode p)
-  shared-long a n ea en = sym (length-append (standaloneBytes k) (suffixFrom k .encode p) ∙ rw (← ea, ← en))
+  pub long-by : (a n : ℕ) → a ≡ length (standaloneBytes k) → n ≡ length (suffixBy formed k .encode p) → a + n ≡ length (sharedBy formed k .encode p)
+  long-by a n ea en = sym (length-append (standaloneBytes k) (suffixBy formed k .encode p) ∙ rw (← ea, ← en))
 
   -- the suffix after the place of the number, then the number
-  pub shared-written : (l : List ℕ) (a : ℕ) → a ≡ length (standaloneBytes k) → a ≤ length l → (n : ℕ) (ys : List ℕ)
-      → writeAnswer (suffixFrom k) p (length (drop a l)) ≡ wrote n → ys ≡ writeBuffer (suffixFrom k) p (drop a l)
-      → (wrote (a + n) ≡ writeAnswer (sharedFrom k) p (length l)) × (putBuffer allowed (standaloneBytes k) (take a l ++ ys) ≡ writeBuffer (sharedFrom k) p l)
-  shared-written l a ea h n ys e put =
-      let ok = put-wrote (suffixFrom k .check p) (suffixFrom k .encode p) _ n e .allows in
-      let done = rest-written (standaloneBytes k) (suffixFrom k .encode p) l a ea h n ys (rw ok at e) (rw ok at put) in
+  pub written-by : (l : List ℕ) (a : ℕ) → a ≡ length (standaloneBytes k) → a ≤ length l → (n : ℕ) (ys : List ℕ)
+      → writeAnswer (suffixBy formed k) p (length (drop a l)) ≡ wrote n → ys ≡ writeBuffer (suffixBy formed k) p (drop a l)
+      → (wrote (a + n) ≡ writeAnswer (sharedBy formed k) p (length l)) × (putBuffer allowed (standaloneBytes k) (take a l ++ ys) ≡ writeBuffer (sharedBy formed k) p l)
+  written-by l a ea h n ys e put =
+      let ok = put-wrote (suffixBy formed k .check p) (suffixBy formed k .encode p) _ n e .allows in
+      let done = rest-written (standaloneBytes k) (suffixBy formed k .encode p) l a ea h n ys (rw ok at e) (rw ok at put) in
       let room : length (standaloneBytes k) ≤ length (take a l ++ ys) = rw (length-append, length-take-le a l h) (omega arith) in
       rw ok (done .0, put-over (standaloneBytes k) (take a l ++ ys) room ∙ done .1)
-
-module _ (r p : Path) (k : ℕ) (c : Common r p k) where
-  path-formed : Formed p
-  path-formed = parts-formed (and-right (wellFormed r) (wellFormed p) (c .both))
-
-  k-there : k ≤ p .count
-  k-there = omega (arith, shares (componentsOf r) (componentsOf p) .in-p, c .is, count-is p path-formed)
-
-  pub rest-allowed : suffixFrom k .check p ≡ allowed
-  rest-allowed = suffix-allowed p k (and-right (wellFormed r) (wellFormed p) (c .both)) k-there
-
-  -- the path against the reference is that
-  pub shared-against : (sharedFrom k .check p ≡ againstPath r .check p) × (sharedFrom k .encode p ≡ againstPath r .encode p)
-  shared-against = (rest-allowed ∙ rw (c .both), rw (c .is))
-
--- ---- a prefix
-module _ (r p : Path) where
-  pub extends-malformed : prefixOf r p ≡ compared.Malformed → extendsPath r .check p ≡ barred 5
-  unfolding prefixOf
-  extends-malformed e = go (wellFormed r && wellFormed p) (isPrefix (componentsOf r) (componentsOf p)) refl e
-    where
-      go : (b i : Bool) → (wellFormed r && wellFormed p) ≡ b → cond b (verdict i) compared.Malformed ≡ compared.Malformed → extendsPath r .check p ≡ barred 5
-      go true true f g = let z : _≡_ {A = ℕ} 0 1 = cc in absurd (omega arith)
-      go true false f g = let z : _≡_ {A = ℕ} 0 1 = cc in absurd (omega arith)
-      go false i f g = rw f
-
-  pub extends-outside : prefixOf r p ≡ compared.No → extendsPath r .check p ≡ barred 3
-  unfolding prefixOf
-  extends-outside e = go (wellFormed r && wellFormed p) (isPrefix (componentsOf r) (componentsOf p)) refl refl e
-    where
-      go : (b i : Bool) → (wellFormed r && wellFormed p) ≡ b → isPrefix (componentsOf r) (componentsOf p) ≡ i → cond b (verdict i) compared.Malformed ≡ compared.No → extendsPath r .check p ≡ barred 3
-      go true true f h g = let z : _≡_ {A = ℕ} 0 1 = cc in absurd (omega arith)
-      go true false f h g = rw (f, h)
-      go false i f h g = let z : _≡_ {A = ℕ} 0 1 = cc in absurd (omega arith)
-
-  -- a path that the reference is a prefix of shares its components
-  pub extends-common : prefixOf r p ≡ compared.Yes → Common r p (r .count)
-  unfolding prefixOf isPrefix
-  extends-common e = go (wellFormed r && wellFormed p) (eqb (shared (componentsOf r) (componentsOf p)) (length (componentsOf r))) refl refl e
-    where
-      go : (b i : Bool) → (wellFormed r && wellFormed p) ≡ b → eqb (shared (componentsOf r) (componentsOf p)) (length (componentsOf r)) ≡ i
-          → cond b (verdict i) compared.Malformed ≡ compared.Yes → Common r p (r .count)
-      go true true f h g =
-          record {
-            both = f;
-            is = eqb-true (shared (componentsOf r) (componentsOf p)) (length (componentsOf r)) h
-                ∙ count-is r (parts-formed (and-left (wellFormed r) (wellFormed p) f));
-          }
-      go true false f h g = let z : _≡_ {A = ℕ} 0 1 = cc in absurd (omega arith)
-      go false i f h g = let z : _≡_ {A = ℕ} 0 1 = cc in absurd (omega arith)
-
-  -- and is written as the suffix after it
-  pub extends-suffix : prefixOf r p ≡ compared.Yes → (suffixFrom (r .count) .check p ≡ extendsPath r .check p) × (suffixFrom (r .count) .encode p ≡ extendsPath r .encode p)
-  unfolding prefixOf
-  extends-suffix e =
-      let c = extends-common e in
-      let cr : length (componentsOf r) ≡ r .count = count-is r (parts-formed (and-left (wellFormed r) (wellFormed p) (c .both))) in
-      (rest-allowed r p (r .count) c ∙ sym (yes-allowed (wellFormed r && wellFormed p) (isPrefix (componentsOf r) (componentsOf p)) e), ap (λ (k : ℕ). suffixBytes (drop k (componentsOf p))) (sym cr))

@@ -12,35 +12,49 @@ use Rattle.path.specs.Limits.{maxComponentCount, maxPathLength}
 use Rattle.path.specs.Record.{componentsOf, pathFrom, wellFormed}
 use Rattle.path.specs.Prefix.{shared, isPrefix}
 use Rattle.compact_u64.specs.Number.{standaloneBytes}
-use Rattle.path_suffix.specs.Suffix.{suffixFrom, readComponents}
+use Rattle.path_suffix.specs.Suffix.{suffixBy, readComponents}
 use Rattle.path_relative.specs.Against.{againstBytes, joinOk, readAgainst}
 use Rattle.path_relative.specs.Extension.{extensionBytes, readExtension}
 
-abbrev pub againstPath : Path → Format Path
-againstPath r = record {
-  check = λ p. verdictBy (wellFormed r && wellFormed p) true;
+-- 5 unless both records pass the test
+abbrev pub againstBy : (Path → Bool) → Path → Format Path
+againstBy formed r = record {
+  check = λ p. verdictBy (formed r && formed p) true;
   encode = λ p. againstBytes (componentsOf r) (componentsOf p);
 }
 
+abbrev pub againstPath : Path → Format Path
+againstPath = againstBy wellFormed
+
 -- the same where it is known that k components are shared: their number and the components after them
-abbrev pub sharedFrom : ℕ → Format Path
-sharedFrom k = record {
-  check = suffixFrom k .check;
-  encode = λ p. standaloneBytes k ++ suffixFrom k .encode p;
+abbrev pub sharedBy : (Path → Bool) → ℕ → Format Path
+sharedBy formed k = record {
+  check = suffixBy formed k .check;
+  encode = λ p. standaloneBytes k ++ suffixBy formed k .encode p;
 }
 
 -- 3 unless the reference is a prefix
-abbrev pub extendsPath : Path → Format Path
-extendsPath r = record {
-  check = λ p. verdictBy (wellFormed r && wellFormed p) (isPrefix (componentsOf r) (componentsOf p));
+abbrev pub extendsBy : (Path → Bool) → Path → Format Path
+extendsBy formed r = record {
+  check = λ p. verdictBy (formed r && formed p) (isPrefix (componentsOf r) (componentsOf p));
   encode = λ p. extensionBytes (componentsOf r) (componentsOf p);
 }
 
+abbrev pub extendsPath : Path → Format Path
+extendsPath = extendsBy wellFormed
+
+-- 5 unless the reference passes the test
+abbrev pub readAgainstBy : (Path → Bool) → Bool → Path → Reader Path
+readAgainstBy formed canonic r = onFormed (formed r) (mapped pathFrom (readAgainst canonic (componentsOf r)))
+
 unfoldable pub readAgainstPath : Bool → Path → Reader Path
-readAgainstPath canonic r = onFormed (wellFormed r) (mapped pathFrom (readAgainst canonic (componentsOf r)))
+readAgainstPath = readAgainstBy wellFormed
+
+abbrev pub readExtendsBy : (Path → Bool) → Bool → Path → Reader Path
+readExtendsBy formed canonic r = onFormed (formed r) (mapped pathFrom (readExtension canonic (componentsOf r)))
 
 unfoldable pub readExtendsPath : Bool → Path → Reader Path
-readExtendsPath canonic r = onFormed (wellFormed r) (mapped pathFrom (readExtension canonic (componentsOf r)))
+readExtendsPath = readExtendsBy wellFormed
 
 -- ---- inside the reader against a path
 

@@ -5,7 +5,9 @@ ghost use Rattle.path_relative.specs.Records.{readAgainstPath, readExtendsPath}
 use path::Path;
 use path_codec::DecodedPath;
 
+pub mod lent;
 pub mod path_decode;
+pub mod sized;
 
 // Reads a path against a reference.
 pub fn relative_decode(message: &[u8], start: usize, canonic: bool, reference: Path) -> DecodedPath

@@ -1,12 +1,10 @@
 -- Laws of the bytes that writers put: the components of a record one by one, a component after its length, the sizes, and a suffix by its parts.
-use Rattle.codec.proofs.Prelude.{_≡_, refl, List, _∷_, _++_, true, false, ℕ, _+_, _-_, _≤_, _<_, arith, le-leb, lt-leb, length, take, drop, set, length-append, length-drop, length-set, drop-at}
-use Rattle.codec.specs.Format.{allowed, barred, over, putBuffer}
+use Rattle.codec.proofs.Prelude.{_≡_, refl, List, _∷_, _++_, ℕ, _+_, _-_, _≤_, arith, length, take, drop, set, length-append, length-drop, length-set, drop-at}
+use Rattle.codec.specs.Format.{allowed, over, putBuffer}
 use Rattle.codec.proofs.Lending.{put-over, over-then, over-cons}
 use Rattle.compact_u64.specs.Number.{numberBytes, standaloneBytes}
-use Rattle.path.specs.declared.Path.{Path}
-use Rattle.path.specs.Record.{wellFormed}
 use Rattle.path_suffix.specs.Header.{packTags}
-use Rattle.path_suffix.specs.Suffix.{Sizes, sizesFrom, sizesOf, tagsOf, sizesBytes, sizedBytes, componentBytes, suffixBytes, suffixFrom}
+use Rattle.path_suffix.specs.Suffix.{Sizes, sizesFrom, sizesOf, tagsOf, sizesBytes, sizedBytes, componentBytes, suffixBytes}
 
 -- ---- bytes put at the start of a buffer
 
@@ -58,14 +56,3 @@ pub suffix-put : (l : List ℕ) (cs : List (List ℕ))
     ≡ over (suffixBytes cs) l
 unfolding suffixBytes
 suffix-put l cs = over-then l (sizesBytes (sizesOf cs)) (componentBytes cs)
-
--- ---- what the tests of a suffix say
-module _ (p : Path) (k : ℕ) where
-  pub suffix-malformed : wellFormed p ≡ false → suffixFrom k .check p ≡ barred 5
-  suffix-malformed w = rw w
-
-  pub suffix-outside : wellFormed p ≡ true → p .count < k → suffixFrom k .check p ≡ barred 3
-  suffix-outside w h = rw (w, lt-leb k (p .count) h)
-
-  pub suffix-allowed : wellFormed p ≡ true → k ≤ p .count → suffixFrom k .check p ≡ allowed
-  suffix-allowed w h = rw (w, le-leb k (p .count) h)

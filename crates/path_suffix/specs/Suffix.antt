@@ -10,7 +10,7 @@ use Rattle.codec.specs.Header.{readHeader}
 use Rattle.compact_u64.specs.Number.{minTag, numberBytes, readNumber, standaloneBytes, readStandalone}
 use Rattle.path.specs.declared.Path.{Path}
 use Rattle.path.specs.Limits.{maxComponentLength, totalOf}
-use Rattle.path.specs.Record.{componentsOf, wellFormed}
+use Rattle.path.specs.Record.{componentsOf}
 use Rattle.path_suffix.specs.declared.Tags.{Tags}
 use Rattle.path_suffix.specs.Header.{unpackTags, packTags}
 
@@ -81,6 +81,6 @@ readSuffix canonic within =
 
 -- ---- as the code holds paths
 
--- the suffix of a path from its k-th component on: 3 where the path has fewer components
-abbrev pub suffixFrom : ℕ → Format Path
-suffixFrom k = record { check = λ p. verdictBy (wellFormed p) (leb k (p .count)); encode = λ p. suffixBytes (drop k (componentsOf p)) }
+-- the suffix of a path from its k-th component on: 5 unless the record passes the test, then 3 where the path has fewer components
+abbrev pub suffixBy : (Path → Bool) → ℕ → Format Path
+suffixBy formed k = record { check = λ p. verdictBy (formed p) (leb k (p .count)); encode = λ p. suffixBytes (drop k (componentsOf p)) }

@@ -1,28 +1,32 @@
 -- docs/FORMAT.md, "3d ranges": 3d ranges against a 3d range, as the code holds them. 5 is tested on the reference and on the range; nothing lies outside.
 use mathlib.Core.List.{List, _++_}
-use mathlib.Core.Bool.{Bool, true, cond, _&&_}
+use mathlib.Core.Bool.{Bool, true, _&&_}
 use Prim.Native.Nat.{ℕ}
-use Rattle.codec.specs.Format.{Format, verdictBy}
+use Rattle.codec.specs.Format.{Format, allowed, verdictBy}
 use Rattle.codec.specs.Reader.{Reader, andThen, mapped, onFormed}
 use Rattle.grouping.specs.declared.TimeRange.{TimeRange}
 use Rattle.range_3d.specs.declared.SubspaceRange.{SubspaceRange}
 use Rattle.range_3d.specs.declared.PathRange.{PathRange}
 use Rattle.range_3d.specs.declared.Range3d.{Range3d}
-use Rattle.range_3d.specs.Record.{subspacesOf, rangeOf, rangeFrom, wellFormedSubspaces, wellFormedPaths, wellFormedRange3d}
+use Rattle.range_3d.specs.declared.Range3dHead.{Range3dHead}
+use Rattle.range_3d.specs.Record.{subspacesOf, rangeOf, rangeFrom, headOf, wellFormedPaths, wellFormedRange3d}
 use Rattle.range_subspaces.specs.Subspaces.{subspacesBytes}
-use Rattle.range_paths.specs.declared.Measured.{Measured}
-use Rattle.range_paths.specs.declared.Measured.the-variants as measured
-use Rattle.range_paths.specs.Records.{bothBytes, readAgainstPaths, measureIn as measurePaths}
+use Rattle.range_paths.specs.declared.MeasuredPaths.{MeasuredPaths}
+use Rattle.range_paths.specs.Records.{bothBytes, readAgainstPaths}
 use Rattle.range_times.specs.Header.{unpackHeader as unpackTimes}
 use Rattle.range_times.specs.Times.{timesBytes, readTimes}
 use Rattle.range_header.specs.declared.Header.{Header}
 use Rattle.range3d_range3d.specs.Range.{headerWith, headBytes, rangeBytes, sidesIn, readParts, readRange}
 
-abbrev pub againstRange : Range3d → Format Range3d
-againstRange r = record {
-  check = λ v. verdictBy (wellFormedRange3d r && wellFormedRange3d v) true;
+-- 5 unless both records pass the test
+abbrev pub againstRangeBy : (Range3d → Bool) → Range3d → Format Range3d
+againstRangeBy formed r = record {
+  check = λ v. verdictBy (formed r && formed v) true;
   encode = λ v. rangeBytes (rangeOf r) (rangeOf v);
 }
+
+abbrev pub againstRange : Range3d → Format Range3d
+againstRange = againstRangeBy wellFormedRange3d
 
 unfoldable pub readAgainstRange : Range3d → Reader Range3d
 readAgainstRange r = onFormed (wellFormedRange3d r) (mapped rangeFrom (readRange (rangeOf r)))
@@ -42,17 +46,15 @@ readRestOf subspaces r times h b =
     mapped (rangeWith subspaces paths) (
     readTimes times (h .«times_end_open») (unpackTimes b)))
 
--- ---- inside: bytes by the sides of the paths and what they share
+-- ---- inside: bytes by the sides of the paths and what they share, the reference by its head
+abbrev pub headWith : Range3dHead → Range3dHead → MeasuredPaths → List ℕ
+headWith r v m = headBytes (headerWith (subspacesOf (r .subspaces)) (subspacesOf (v .subspaces)) (m .start .«from_start») (v .«end_open») (m .end .«from_start») (v .times)) (r .times) (v .times)
 
--- the sides and shared counts of well-formed paths beside well-formed subspaces
-unfoldable pub measureIn : SubspaceRange → SubspaceRange → PathRange → PathRange → Measured
-measureIn known subspaces r v = cond (wellFormedSubspaces known && wellFormedSubspaces subspaces) (measurePaths r v) measured.Malformed
-
-abbrev pub headWith : SubspaceRange → SubspaceRange → Bool → Bool → Bool → TimeRange → TimeRange → List ℕ
-headWith known subspaces startFromStart endOpen endFromStart r times = headBytes (headerWith (subspacesOf known) (subspacesOf subspaces) startFromStart endOpen endFromStart times) r times
-
-abbrev pub measuredBytes : SubspaceRange → TimeRange → Range3d → Bool → ℕ → Bool → ℕ → List ℕ
-measuredBytes known r v startFromStart i endFromStart j =
-    headWith known (v .subspaces) startFromStart (v .paths .«end_open») endFromStart r (v .times) ++ (
-    subspacesBytes (subspacesOf known) (subspacesOf (v .subspaces)) ++ (
-    bothBytes (v .paths) i j ++ timesBytes r (v .times)))
+abbrev pub measuredRange : Range3dHead → MeasuredPaths → Format Range3d
+measuredRange r m = record {
+  check = λ v. allowed;
+  encode = λ v.
+      headWith r (headOf v) m ++ (
+      subspacesBytes (subspacesOf (r .subspaces)) (subspacesOf (v .subspaces)) ++ (
+      bothBytes (v .paths) m ++ timesBytes (r .times) (v .times)));
+}

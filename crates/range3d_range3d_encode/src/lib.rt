@@ -7,32 +7,33 @@ ghost use Rattle.range3d_range3d.specs.Records.{againstRange};
 use codec::Encoded;
 use range_3d::Range3d;
 
-pub mod parts;
+pub mod lent;
 mod range_encode;
+pub mod sized;
 
 // How many bytes a 3d range against a reference takes.
 pub fn relative_len_of_encoding(range: Range3d, reference: Range3d) -> Encoded
     ensures { λ r. ⌜ outcomeOf r ≡ lengthAnswer (againstRange reference) range ⌝ }
 {
-    parts::relative_len_of_encoding(
-        range.subspaces,
-        &range.paths.start.bytes,
-        &range.paths.start.lengths,
-        range.paths.start.count,
-        range.paths.end_open,
-        &range.paths.end.bytes,
-        &range.paths.end.lengths,
-        range.paths.end.count,
-        range.times,
-        reference.subspaces,
-        &reference.paths.start.bytes,
-        &reference.paths.start.lengths,
-        reference.paths.start.count,
-        reference.paths.end_open,
-        &reference.paths.end.bytes,
-        &reference.paths.end.lengths,
-        reference.paths.end.count,
-        reference.times,
+    let known = reference.well_formed();
+    if !known {
+        return Encoded::Malformed;
+    }
+    let well = range.well_formed();
+    if !well {
+        return Encoded::Malformed;
+    }
+    let start = range.paths.start.flat();
+    let end = range.paths.end.flat();
+    let of_start = reference.paths.start.flat();
+    let of_end = reference.paths.end.flat();
+    sized::relative_len_of_encoding(
+        range.head(),
+        &start,
+        &end,
+        reference.head(),
+        &of_start,
+        &of_end,
     )
 }
 
@@ -40,25 +41,25 @@ pub fn relative_len_of_encoding(range: Range3d, reference: Range3d) -> Encoded
 pub fn relative_encode(buffer: &mut [u8], range: Range3d, reference: Range3d) -> Encoded
     ensures { λ r. ⌜ (outcomeOf r ≡ writeAnswer (againstRange reference) range (length (now (buffer .entry)))) × (now (buffer .exit) ≡ writeBuffer (againstRange reference) range (now (buffer .entry))) ⌝ }
 {
-    parts::relative_encode(
+    let known = reference.well_formed();
+    if !known {
+        return Encoded::Malformed;
+    }
+    let well = range.well_formed();
+    if !well {
+        return Encoded::Malformed;
+    }
+    let start = range.paths.start.flat();
+    let end = range.paths.end.flat();
+    let of_start = reference.paths.start.flat();
+    let of_end = reference.paths.end.flat();
+    sized::relative_encode(
         buffer,
-        range.subspaces,
-        &range.paths.start.bytes,
-        &range.paths.start.lengths,
-        range.paths.start.count,
-        range.paths.end_open,
-        &range.paths.end.bytes,
-        &range.paths.end.lengths,
-        range.paths.end.count,
-        range.times,
-        reference.subspaces,
-        &reference.paths.start.bytes,
-        &reference.paths.start.lengths,
-        reference.paths.start.count,
-        reference.paths.end_open,
-        &reference.paths.end.bytes,
-        &reference.paths.end.lengths,
-        reference.paths.end.count,
-        reference.times,
+        range.head(),
+        &start,
+        &end,
+        reference.head(),
+        &of_start,
+        &of_end,
     )
 }

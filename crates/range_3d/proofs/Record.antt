@@ -7,11 +7,12 @@ use Rattle.path.specs.declared.Path.{Path}
 use Rattle.path.specs.Limits.{PathOk}
 use Rattle.path.specs.Record.{componentsOf, pathFrom, wellFormed, TypedPath}
 use Rattle.path.proofs.Record.{well-formed, apart}
+use Rattle.path.proofs.Components.{well-sized}
 use Rattle.range_3d.specs.declared.SubspaceRange.{SubspaceRange}
 use Rattle.range_3d.specs.declared.PathRange.{PathRange}
 use Rattle.range_3d.specs.declared.Range3d.{Range3d}
 use Rattle.range_3d.specs.Range3d.{OnEnd, Both}
-use Rattle.range_3d.specs.Record.{subspacesOf, subspacesFor, subspacesFrom, pathsOf, pathsFor, pathsFrom, rangeOf, rangeFrom, wellFormedSubspaces, wellFormedPaths, wellFormedRange3d, TypedSubspaces, TypedPaths, TypedRange3d}
+use Rattle.range_3d.specs.Record.{subspacesOf, subspacesFor, subspacesFrom, pathsOf, pathsFor, pathsFrom, rangeOf, rangeFrom, wellFormedSubspaces, wellFormedPaths, wellFormedRange3d, sizedPaths, sizedRange3d, TypedSubspaces, TypedPaths, TypedRange3d}
 
 -- ---- subspaces
 pub typed-ids : (s : SubspaceRange) → TypedSubspaces s → Both TypedId (subspacesOf s)
@@ -42,6 +43,10 @@ formed-paths p w =
     let rest = and-right (wellFormed (p .start)) _ w in
     record { start = and-left _ _ w; end = and-left _ _ rest; none = and-right (wellFormed (p .end)) _ rest }
 
+pub well-sized-paths : (p : PathRange) → wellFormedPaths p ≡ true → sizedPaths p ≡ true
+unfolding sizedPaths
+well-sized-paths p w = rw (well-sized (p .start) (formed-paths p w .start)) (well-sized (p .end) (formed-paths p w .end))
+
 path-ok : (p : Path) → TypedPath p → wellFormed p ≡ true → PathOk (componentsOf p)
 path-ok p t w = apart p t (well-formed p w) .ok
 
@@ -71,6 +76,14 @@ module _ (p : PathRange) (t : TypedPaths p) (w : wellFormedPaths p ≡ true) whe
       go false f q = rw (path-made (p .end) (t .end) (formed-paths p w .end), ← f)
 
 -- ---- 3d ranges
+pub formed-range : (r : Range3d) → wellFormedRange3d r ≡ true → FormedPaths (r .paths)
+unfolding wellFormedRange3d
+formed-range r w = formed-paths (r .paths) (and-right (wellFormedSubspaces (r .subspaces)) _ w)
+
+pub well-sized-range : (r : Range3d) → wellFormedRange3d r ≡ true → sizedRange3d r ≡ true
+unfolding wellFormedRange3d sizedRange3d
+well-sized-range r w = well-sized-paths (r .paths) (and-right (wellFormedSubspaces (r .subspaces)) _ w)
+
 pub made-range : (r : Range3d) → TypedRange3d r → wellFormedRange3d r ≡ true → rangeFrom (rangeOf r) ≡ r
 unfolding wellFormedRange3d rangeFrom
 made-range r t w = rw (made-subspaces (r .subspaces) (and-left _ _ w), made-paths (r .paths) (t .paths) (and-right (wellFormedSubspaces (r .subspaces)) _ w))

@@ -6,13 +6,14 @@ use Prim.Native.Nat.{ℕ}
 use lib.Dec.{eqb}
 use Rattle.codec.specs.Bytes.{sameBytes, zeroId, TypedId}
 use Rattle.path.specs.declared.Path.{Path}
-use Rattle.path.specs.Record.{componentsOf, pathFrom, wellFormed, TypedPath}
+use Rattle.path.specs.Record.{componentsOf, pathFrom, sized, wellFormed, TypedPath}
 use Rattle.grouping.specs.declared.RangeEnd.the-variants.{Closed}
 use Rattle.grouping.specs.declared.TimeRange.{TimeRange}
 use Rattle.grouping.specs.Range.{TypedRange}
 use Rattle.range_3d.specs.declared.SubspaceRange.{SubspaceRange}
 use Rattle.range_3d.specs.declared.PathRange.{PathRange}
 use Rattle.range_3d.specs.declared.Range3d.{Range3d}
+use Rattle.range_3d.specs.declared.Range3dHead.{Range3dHead}
 use Rattle.range_3d.specs.Range3d.{Range, Range3dValue}
 
 -- ---- the values of a record, and the record of values
@@ -42,6 +43,13 @@ pathsFrom v = pathsFor (pathFrom (v .start)) (v .end)
 unfoldable pub rangeFrom : Range3dValue → Range3d
 rangeFrom v = record { subspaces = subspacesFrom (v .subspaces); paths = pathsFrom (v .paths); times = v .times }
 
+-- ---- a 3d range by its head and its two paths
+abbrev pub headOf : Range3d → Range3dHead
+headOf r = record { subspaces = r .subspaces; «end_open» = r .paths .«end_open»; times = r .times }
+
+abbrev pub headed : Range3dHead → Path → Path → Range3d
+headed h start end = record { subspaces = h .subspaces; paths = record { start = start; «end_open» = h .«end_open»; end = end }; times = h .times }
+
 -- ---- well formed: what 5 tests. Beside the mark of open an id is zero and a path has no components
 unfoldable pub wellFormedSubspaces : SubspaceRange → Bool
 wellFormedSubspaces s = cond (s .«end_open») (sameBytes (s .end) zeroId) true
@@ -51,6 +59,13 @@ wellFormedPaths p = wellFormed (p .start) && (wellFormed (p .end) && cond (p .«
 
 unfoldable pub wellFormedRange3d : Range3d → Bool
 wellFormedRange3d r = wellFormedSubspaces (r .subspaces) && wellFormedPaths (r .paths)
+
+-- the sizes of the paths alone, also of one beside the mark of open
+unfoldable pub sizedPaths : PathRange → Bool
+sizedPaths p = sized (p .start) && sized (p .end)
+
+unfoldable pub sizedRange3d : Range3d → Bool
+sizedRange3d r = sizedPaths (r .paths)
 
 -- ---- ranges in which nothing lies: what stands beside a refusal
 abbrev pub noSubspaces : SubspaceRange

@@ -1,8 +1,10 @@
 // Ranges of subspaces and of paths, and 3d ranges: docs/FORMAT.md, "3d ranges". A port of grouping/range_3d.rs, as far as the codecs use it.
 ghost use mathlib.Core.Path.{_≡_};
-ghost use Rattle.range_3d.specs.Record.{wellFormedSubspaces, wellFormedPaths, wellFormedRange3d};
+ghost use Rattle.range_3d.specs.Record.{headOf, wellFormedSubspaces, wellFormedPaths, wellFormedRange3d};
 use grouping::TimeRange;
 use path::Path;
+
+pub mod lent;
 
 // The subspaces from a start on, before an end; beside an open end the id is zero.
 pub struct SubspaceRange {
@@ -21,6 +23,13 @@ pub struct PathRange {
 pub struct Range3d {
     pub subspaces: SubspaceRange,
     pub paths: PathRange,
+    pub times: TimeRange,
+}
+
+// What a 3d range has beside its two paths.
+pub struct Range3dHead {
+    pub subspaces: SubspaceRange,
+    pub end_open: bool,
     pub times: TimeRange,
 }
 
@@ -65,5 +74,18 @@ impl Range3d {
             return false;
         }
         self.paths.well_formed()
+    }
+
+    pub fn head(self) -> Range3dHead
+        ensures { λ r. ⌜ r ≡ headOf self ⌝ }
+    {
+        let subspaces = self.subspaces;
+        let end_open = self.paths.end_open;
+        let times = self.times;
+        Range3dHead {
+            subspaces: subspaces,
+            end_open: end_open,
+            times: times,
+        }
     }
 }

@@ -1,3 +1,3 @@
 pub mod Paths
-pub mod Writing
 pub mod DecodeExits
+pub mod Writing

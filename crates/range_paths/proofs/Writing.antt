@@ -1,26 +1,25 @@
 -- What the writers' definitions say at each step of the code.
-use Rattle.codec.proofs.Prelude.{_≡_, refl, sym, ap, List, [], _++_, append-nil, Bool, true, false, true≢false, cond, _&&_, none, some, ℕ, _+_, _≤_, _<_, arith, eqb, le-leb, lt-leb, length, drop, length-append}
+use Rattle.codec.proofs.Prelude.{_≡_, refl, sym, ap, _∙_, List, [], _++_, append-nil, Bool, true, false, true≢false, cond, _&&_, none, some, ℕ, _+_, _≤_, _<_, arith, le-leb, lt-leb, length, drop, length-append}
 use Rattle.codec.specs.Format.{allowed}
 use Rattle.codec.proofs.Tests.{and-left, and-right}
 use Rattle.compact_u64.specs.Number.{standaloneBytes}
 use Rattle.compact_u64.proofs.Standalone.{standalone-short}
 use Rattle.path.specs.declared.Path.{Path}
 use Rattle.path.specs.Prefix.{shared}
-use Rattle.path.specs.Record.{componentsOf, wellFormed}
-use Rattle.path.proofs.Components.{parts-formed, count-is, rest-count, rest-small}
+use Rattle.path.specs.Record.{componentsOf, sized}
+use Rattle.path.specs.Answers.{Said, said, unsaid, saidIf}
+use Rattle.path.proofs.Components.{sized-formed, count-is, rest-count, rest-small}
 use Rattle.path.proofs.Prefix.{shares}
-use Rattle.path_suffix.specs.Suffix.{suffixFrom}
+use Rattle.path.proofs.Verdicts.{said-known, unsaid-known}
+use Rattle.path_suffix.specs.Suffix.{suffixBy}
 use Rattle.path_suffix.proofs.Suffix.{suffix-short}
-use Rattle.path_suffix.proofs.Writing.{suffix-allowed}
-use Rattle.path_relative.specs.Records.{sharedFrom}
-use Rattle.path_relative.proofs.Writing.{Common}
+use Rattle.path_relative.specs.Records.{sharedBy}
 use Rattle.range_3d.specs.declared.PathRange.{PathRange}
-use Rattle.range_3d.specs.Record.{pathsOf, wellFormedPaths}
-use Rattle.range_3d.proofs.Record.{formed-paths}
-use Rattle.range_paths.specs.declared.Near.the-variants as near
-use Rattle.range_paths.specs.declared.Measured.the-variants as measured
-use Rattle.range_paths.specs.Paths.{fromStart, sidesOf, nearer, sharedWith, endShared, pathBytes, endBytes, pathsBytes}
-use Rattle.range_paths.specs.Records.{nearIn, measureIn, bothBytes, Shares}
+use Rattle.range_3d.specs.Record.{pathsOf, sizedPaths}
+use Rattle.range_paths.specs.declared.NearPath.{NearPath}
+use Rattle.range_paths.specs.declared.MeasuredPaths.{MeasuredPaths}
+use Rattle.range_paths.specs.Paths.{nearer, endShared, pathBytes, endBytes, pathsBytes}
+use Rattle.range_paths.specs.Records.{nearOf, nearIn, measureOf, measureIn, bothBytes, Shares}
 
 -- ---- tests that fail
 first-fails : (a b c : Bool) → (a && c) ≡ false → ((a && b) && c) ≡ false
@@ -33,227 +32,192 @@ second-fails : (a b c : Bool) → (b && c) ≡ false → ((a && b) && c) ≡ fal
 second-fails true b c e = e
 second-fails false b c e = refl
 
-always : (a c : Bool) → (a && c) ≡ false → ((a && true) && c) ≡ false
-always true c e = e
-always false c e = refl
-
 early-fails : (a b c : Bool) → (a && b) ≡ false → (a && (b && c)) ≡ false
 early-fails true true c e = absurd (true≢false e)
 early-fails true false c e = refl
 early-fails false b c e = refl
-
-and-none : (a : Bool) → (a && false) ≡ false
-and-none true = refl
-and-none false = refl
 
 late-fails : (a b c : Bool) → (a && c) ≡ false → (a && (b && c)) ≡ false
 late-fails true true c e = e
 late-fails true false c e = refl
 late-fails false b c e = refl
 
+and-none : (a : Bool) → (a && false) ≡ false
+and-none true = refl
+and-none false = refl
+
 -- ---- the nearer path
+abbrev common : Path → Path → Said ℕ
+common r p = saidIf (sized r && sized p) (shared (componentsOf r) (componentsOf p))
+
 module _ (r : PathRange) (p : Path) where
-  near-unformed : (wellFormedPaths r && wellFormed p) ≡ false → near.Malformed ≡ nearIn r p
-  unfolding nearIn
-  near-unformed e = rw e
+  near-unsized : ((sized (r .start) && sized (r .end)) && sized p) ≡ false → unsaid 5 ≡ nearIn r p
+  unfolding nearIn sizedPaths
+  near-unsized e = rw e
 
-  pub near-no-start : (wellFormed (r .start) && wellFormed p) ≡ false → near.Malformed ≡ nearIn r p
-  unfolding wellFormedPaths
-  near-no-start e = near-unformed (first-fails (wellFormed (r .start)) _ (wellFormed p) e)
+  pub near-no-start : unsaid 5 ≡ common (r .start) p → unsaid 5 ≡ nearIn r p
+  near-no-start e = near-unsized (first-fails (sized (r .start)) (sized (r .end)) (sized p) (unsaid-known (sized (r .start) && sized p) _ 5 e .0))
 
-  module _ (o : r .«end_open» ≡ true) where
-    pub near-not-empty : (wellFormed (r .end) && eqb (r .end .count) 0) ≡ false → near.Malformed ≡ nearIn r p
-    unfolding wellFormedPaths
-    near-not-empty e = near-unformed (rw (o, e) (second-fails (wellFormed (r .start)) false (wellFormed p) refl))
+  pub near-no-end : unsaid 5 ≡ common (r .end) p → unsaid 5 ≡ nearIn r p
+  near-no-end e = near-unsized (second-fails (sized (r .start)) (sized (r .end)) (sized p) (unsaid-known (sized (r .end) && sized p) _ 5 e .0))
 
-    pub near-open : (a : ℕ) → Common (r .start) p a → (wellFormed (r .end) && eqb (r .end .count) 0) ≡ true → near.At true a ≡ nearIn r p
-    unfolding nearIn wellFormedPaths
-    near-open a c e = rw (o, e, and-left (wellFormed (r .start)) (wellFormed p) (c .both), and-right (wellFormed (r .start)) (wellFormed p) (c .both), c .is)
+  pub near-end-unsized : sized (r .end) ≡ false → unsaid 5 ≡ nearIn r p
+  near-end-unsized e = near-unsized (rw e (second-fails (sized (r .start)) false (sized p) refl))
 
-  module _ (o : r .«end_open» ≡ false) where
-    pub near-no-end : (wellFormed (r .end) && wellFormed p) ≡ false → near.Malformed ≡ nearIn r p
-    unfolding wellFormedPaths
-    near-no-end e = near-unformed (rw o (second-fails (wellFormed (r .start)) (wellFormed (r .end) && true) (wellFormed p) (always (wellFormed (r .end)) (wellFormed p) e)))
+  near-sized : (n : NearPath) → sized (r .end) ≡ true → (sized (r .start) && sized p) ≡ true → nearOf (pathsOf r) (componentsOf p) ≡ n → said n ≡ nearIn r p
+  unfolding nearIn sizedPaths
+  near-sized n end both is = rw (end, and-left (sized (r .start)) (sized p) both, and-right (sized (r .start)) (sized p) both) (ap said (sym is))
 
-    module _ (a b : ℕ) (c : Common (r .start) p a) (d : Common (r .end) p b) where
-      pub near-start : b ≤ a → near.At true a ≡ nearIn r p
-      unfolding nearIn wellFormedPaths
+  module _ (a : ℕ) (c : said a ≡ common (r .start) p) where
+    start-known : ((sized (r .start) && sized p) ≡ true) × (shared (componentsOf (r .start)) (componentsOf p) ≡ a)
+    start-known = said-known (sized (r .start) && sized p) (shared (componentsOf (r .start)) (componentsOf p)) a c
+
+    pub near-open : r .«end_open» ≡ true → sized (r .end) ≡ true → said (record { «from_start» = true; shared = a }) ≡ nearIn r p
+    near-open o e = near-sized (record { «from_start» = true; shared = a }) e (start-known .0) (rw (o, start-known .1))
+
+    module _ (o : r .«end_open» ≡ false) (b : ℕ) (d : said b ≡ common (r .end) p) where
+      end-known : ((sized (r .end) && sized p) ≡ true) × (shared (componentsOf (r .end)) (componentsOf p) ≡ b)
+      end-known = said-known (sized (r .end) && sized p) (shared (componentsOf (r .end)) (componentsOf p)) b d
+
+      pub near-start : b ≤ a → said (record { «from_start» = true; shared = a }) ≡ nearIn r p
       near-start h =
-          rw (
-            o,
-            and-left (wellFormed (r .start)) (wellFormed p) (c .both),
-            and-left (wellFormed (r .end)) (wellFormed p) (d .both),
-            and-right
-                (wellFormed (r .start)) (wellFormed p) (c .both),
-            c .is,
-            d .is,
-            le-leb b a h,
-          )
-          (ap (near.At true) (sym (c .is)))
+          near-sized (record { «from_start» = true; shared = a }) (and-left (sized (r .end)) (sized p) (end-known .0)) (start-known .0)
+          (rw (o, start-known .1, end-known .1, le-leb b a h, start-known .1))
 
-      pub near-end : a < b → near.At false b ≡ nearIn r p
-      unfolding nearIn wellFormedPaths
+      pub near-end : a < b → said (record { «from_start» = false; shared = b }) ≡ nearIn r p
       near-end h =
-          rw (
-            o,
-            and-left (wellFormed (r .start)) (wellFormed p) (c .both),
-            and-left (wellFormed (r .end)) (wellFormed p) (d .both),
-            and-right
-                (wellFormed (r .start)) (wellFormed p) (c .both),
-            c .is,
-            d .is,
-            lt-leb b a h,
-          )
-          (ap (near.At false) (sym (d .is)))
-
--- what an answer tells
-pub record Nears (r : PathRange) (p : Path) (a : Bool) (k : ℕ) : Type 0 where
-  pub both : (wellFormedPaths r && wellFormed p) ≡ true
-  pub side : fromStart (pathsOf r) (componentsOf p) ≡ a
-  pub is : sharedWith (pathsOf r) (componentsOf p) ≡ k
-
-pub nears : (r : PathRange) (p : Path) (a : Bool) (k : ℕ) → nearIn r p ≡ near.At a k → Nears r p a k
-unfolding nearIn
-nears r p a k e = go (wellFormedPaths r && wellFormed p) refl e
-  where
-    go : (b : Bool) → (wellFormedPaths r && wellFormed p) ≡ b
-        → cond b (near.At (fromStart (pathsOf r) (componentsOf p)) (sharedWith (pathsOf r) (componentsOf p))) near.Malformed ≡ near.At a k → Nears r p a k
-    go true f g = record { both = f; side = cc; is = cc }
-    go false f g = let z : _≡_ {A = ℕ} 0 1 = cc in absurd (omega arith)
-
-not-near : (r : PathRange) (p : Path) → nearIn r p ≡ near.Malformed → (wellFormedPaths r && wellFormed p) ≡ false
-unfolding nearIn
-not-near r p e = go (wellFormedPaths r && wellFormed p) refl e
-  where
-    go : (b : Bool) → (wellFormedPaths r && wellFormed p) ≡ b
-        → cond b (near.At (fromStart (pathsOf r) (componentsOf p)) (sharedWith (pathsOf r) (componentsOf p))) near.Malformed ≡ near.Malformed
-        → (wellFormedPaths r && wellFormed p) ≡ false
-    go true f g = let z : _≡_ {A = ℕ} 0 1 = cc in absurd (omega arith)
-    go false f g = f
+          near-sized (record { «from_start» = false; shared = b }) (and-left (sized (r .end)) (sized p) (end-known .0)) (start-known .0)
+          (rw (o, start-known .1, end-known .1, lt-leb b a h, end-known .1))
 
 -- ---- the bytes after what is shared
-pub shared-short : (p : Path) (k : ℕ) → wellFormed p ≡ true → length (sharedFrom k .encode p) ≤ 900
+pub shared-short : (p : Path) (k : ℕ) → sized p ≡ true → length (sharedBy sized k .encode p) ≤ 900
 shared-short p k w =
-    let f = parts-formed w in
-    omega (arith, length-append (standaloneBytes k) (suffixFrom k .encode p), standalone-short k, suffix-short (drop k (componentsOf p)), rest-count p f k, rest-small p f k, f .well .count)
+    let f = sized-formed w in
+    omega (arith, length-append (standaloneBytes k) (suffixBy sized k .encode p), standalone-short k, suffix-short (drop k (componentsOf p)), rest-count p f k, rest-small p f k, f .well .count)
 
 -- a count that a path shares with another
-shared-allowed : (r : List (List ℕ)) (p : Path) (k : ℕ) → wellFormed p ≡ true → shared r (componentsOf p) ≡ k → sharedFrom k .check p ≡ allowed
-shared-allowed r p k w e = suffix-allowed p k w (omega (arith, shares r (componentsOf p) .in-p, e, count-is p (parts-formed w)))
+shared-allowed : (r : List (List ℕ)) (p : Path) (k : ℕ) → sized p ≡ true → shared r (componentsOf p) ≡ k → sharedBy sized k .check p ≡ allowed
+shared-allowed r p k w e = rw (w, le-leb k (p .count) (omega (arith, shares r (componentsOf p) .in-p, e, count-is p (sized-formed w))))
 
-module _ (r : PathRange) (p : Path) (a : Bool) (k : ℕ) (n : Nears r p a k) where
-  near-formed : wellFormed p ≡ true
-  near-formed = and-right (wellFormedPaths r) _ (n .both)
+-- what an answer tells
+module _ (r : PathRange) (p : Path) (n : NearPath) (e : said n ≡ nearIn r p) where
+  near-known : ((sizedPaths r && sized p) ≡ true) × (nearOf (pathsOf r) (componentsOf p) ≡ n)
+  unfolding nearIn
+  near-known = said-known (sizedPaths r && sized p) (nearOf (pathsOf r) (componentsOf p)) n e
 
-  pub near-allowed : sharedFrom k .check p ≡ allowed
-  near-allowed = shared-allowed (nearer (pathsOf r .start) (pathsOf r .end) (componentsOf p)) p k near-formed (n .is)
+  near-is : nearOf (pathsOf r) (componentsOf p) ≡ n
+  near-is = near-known .1
 
-  near-bytes : sharedFrom k .encode p ≡ pathBytes (pathsOf r) (componentsOf p)
+  reference-fits : sizedPaths r ≡ true
+  reference-fits = and-left (sizedPaths r) (sized p) (near-known .0)
+
+  path-fits : sized p ≡ true
+  path-fits = and-right (sizedPaths r) (sized p) (near-known .0)
+
+  pub near-allowed : sharedBy sized (n .shared) .check p ≡ allowed
+  near-allowed = shared-allowed (nearer (pathsOf r .start) (pathsOf r .end) (componentsOf p)) p (n .shared) path-fits (ap (λ (x : NearPath). x .shared) near-is)
+
+  near-bytes : sharedBy sized (n .shared) .encode p ≡ pathBytes (pathsOf r) (componentsOf p)
   unfolding pathBytes
-  near-bytes = rw (n .is)
+  near-bytes = rw (← near-is)
+
+not-near : (r : PathRange) (p : Path) → unsaid 5 ≡ nearIn r p → (sizedPaths r && sized p) ≡ false
+unfolding nearIn
+not-near r p e = unsaid-known (sizedPaths r && sized p) (nearOf (pathsOf r) (componentsOf p)) 5 e .0
 
 -- ---- both paths
 module _ (r v : PathRange) where
-  unmeasured : (wellFormedPaths r && wellFormedPaths v) ≡ false → measured.Malformed ≡ measureIn r v
-  unfolding measureIn
+  unmeasured : (sizedPaths r && (sized (v .start) && sized (v .end))) ≡ false → unsaid 5 ≡ measureIn r v
+  unfolding measureIn sizedPaths
   unmeasured e = rw e
 
-  pub no-start : nearIn r (v .start) ≡ near.Malformed → measured.Malformed ≡ measureIn r v
-  unfolding wellFormedPaths
-  no-start e = unmeasured (early-fails (wellFormedPaths r) (wellFormed (v .start)) _ (not-near r (v .start) e))
+  pub no-start : unsaid 5 ≡ nearIn r (v .start) → unsaid 5 ≡ measureIn r v
+  no-start e = unmeasured (early-fails (sizedPaths r) (sized (v .start)) (sized (v .end)) (not-near r (v .start) e))
 
-  pub not-empty : v .«end_open» ≡ true → (wellFormed (v .end) && eqb (v .end .count) 0) ≡ false → measured.Malformed ≡ measureIn r v
-  unfolding wellFormedPaths
-  not-empty o e = unmeasured (rw (o, e) (late-fails (wellFormedPaths r) (wellFormed (v .start)) false (and-none (wellFormedPaths r))))
+  pub no-end : unsaid 5 ≡ nearIn r (v .end) → unsaid 5 ≡ measureIn r v
+  no-end e = unmeasured (late-fails (sizedPaths r) (sized (v .start)) (sized (v .end)) (not-near r (v .end) e))
 
-  pub no-end : v .«end_open» ≡ false → nearIn r (v .end) ≡ near.Malformed → measured.Malformed ≡ measureIn r v
-  unfolding wellFormedPaths
-  no-end o e = unmeasured (late-fails (wellFormedPaths r) (wellFormed (v .start)) _ (rw o (early-fails (wellFormedPaths r) (wellFormed (v .end)) true (not-near r (v .end) e))))
+  pub end-unsized : sized (v .end) ≡ false → unsaid 5 ≡ measureIn r v
+  end-unsized e = unmeasured (late-fails (sizedPaths r) (sized (v .start)) (sized (v .end)) (rw e (and-none (sizedPaths r))))
 
-  module _ (a : Bool) (i m : ℕ) (s : Nears r (v .start) a i) (em : m ≡ length (sharedFrom i .encode (v .start))) where
-    pub measured-open : v .«end_open» ≡ true → (wellFormed (v .end) && eqb (v .end .count) 0) ≡ true → measured.Paths a i false 0 m ≡ measureIn r v
-    unfolding measureIn wellFormedPaths sidesOf pathsBytes
+  measured-by : (m : MeasuredPaths) → sizedPaths r ≡ true → sized (v .start) ≡ true → sized (v .end) ≡ true → measureOf (pathsOf r) (pathsOf v) ≡ m → said m ≡ measureIn r v
+  unfolding measureIn sizedPaths
+  measured-by m known start end is = rw (known, start, end) (ap said (sym is))
+
+  module _ (s : NearPath) (m : ℕ) (es : said s ≡ nearIn r (v .start)) (em : m ≡ length (sharedBy sized (s .shared) .encode (v .start))) where
+    pub measured-open : v .«end_open» ≡ true → sized (v .end) ≡ true → said (record { start = s; end = record { «from_start» = false; shared = 0 }; len = m }) ≡ measureIn r v
+    unfolding pathsBytes
     measured-open o e =
-        let long : length (pathBytes (pathsOf r) (componentsOf (v .start)) ++ []) ≡ m = rw (append-nil (pathBytes (pathsOf r) (componentsOf (v .start))), ← (near-bytes r (v .start) a i s)) (sym em) in
-        rw (and-left (wellFormedPaths r) (wellFormed (v .start)) (s .both), near-formed r (v .start) a i s, o, e, s .side, s .is, long)
+        let long : length (pathBytes (pathsOf r) (componentsOf (v .start)) ++ []) ≡ m =
+        rw (append-nil (pathBytes (pathsOf r) (componentsOf (v .start))), ← (near-bytes r (v .start) s es)) (sym em) in
+        measured-by _ (reference-fits r (v .start) s es) (path-fits r (v .start) s es) e (rw (o, near-is r (v .start) s es, long))
 
-    pub measured-closed : v .«end_open» ≡ false → (b : Bool) (j n : ℕ) → Nears r (v .end) b j → n ≡ length (sharedFrom j .encode (v .end)) → measured.Paths a i b j (m + n) ≡ measureIn r v
-    unfolding measureIn wellFormedPaths sidesOf pathsBytes
-    measured-closed o b j n t en =
+    pub measured-closed : v .«end_open» ≡ false → (t : NearPath) (n : ℕ) → said t ≡ nearIn r (v .end) → n ≡ length (sharedBy sized (t .shared) .encode (v .end))
+        → said (record { start = s; end = t; len = m + n }) ≡ measureIn r v
+    unfolding pathsBytes
+    measured-closed o t n et en =
         let long : length (pathBytes (pathsOf r) (componentsOf (v .start)) ++ pathBytes (pathsOf r) (componentsOf (v .end))) ≡ m + n =
-        rw (length-append, ← (near-bytes r (v .start) a i s), ← (near-bytes r (v .end) b j t)) (omega (arith, em, en)) in
-        rw (and-left (wellFormedPaths r) (wellFormed (v .start)) (s .both), near-formed r (v .start) a i s, near-formed r (v .end) b j t, o, s .side, s .is, t .side, t .is, long)
+        rw (length-append, ← (near-bytes r (v .start) s es), ← (near-bytes r (v .end) t et)) (omega (arith, em, en)) in
+        measured-by _ (reference-fits r (v .start) s es) (path-fits r (v .start) s es) (path-fits r (v .end) t et) (rw (o, near-is r (v .start) s es, near-is r (v .end) t et, long))
 
 -- what an answer tells
-pub record Told (r v : PathRange) (a : Bool) (i : ℕ) (b : Bool) (j n : ℕ) : Type 0 where
-  pub both : (wellFormedPaths r && wellFormedPaths v) ≡ true
-  pub start : sidesOf (pathsOf r) (pathsOf v) .«start_from_start» ≡ a
-  pub end : sidesOf (pathsOf r) (pathsOf v) .«end_from_start» ≡ b
-  pub first : sharedWith (pathsOf r) (componentsOf (v .start)) ≡ i
-  pub last : endShared (pathsOf r) (pathsOf v .end) ≡ j
-  pub long : length (pathsBytes (pathsOf r) (pathsOf v)) ≡ n
+pub untold : (r v : PathRange) → unsaid 5 ≡ measureIn r v → (sizedPaths r && sizedPaths v) ≡ false
+unfolding measureIn
+untold r v e = unsaid-known (sizedPaths r && sizedPaths v) (measureOf (pathsOf r) (pathsOf v)) 5 e .0
 
-module _ (r v : PathRange) where
-  pub untold : measureIn r v ≡ measured.Malformed → (wellFormedPaths r && wellFormedPaths v) ≡ false
+module _ (r v : PathRange) (m : MeasuredPaths) (e : said m ≡ measureIn r v) where
+  told : ((sizedPaths r && sizedPaths v) ≡ true) × (measureOf (pathsOf r) (pathsOf v) ≡ m)
   unfolding measureIn
-  untold e = go (wellFormedPaths r && wellFormedPaths v) refl e
+  told = said-known (sizedPaths r && sizedPaths v) (measureOf (pathsOf r) (pathsOf v)) m e
+
+  pub told-sized : (sizedPaths r && sizedPaths v) ≡ true
+  told-sized = told .0
+
+  pub told-is : measureOf (pathsOf r) (pathsOf v) ≡ m
+  told-is = told .1
+
+  both-fit : (sized (v .start) && sized (v .end)) ≡ true
+  unfolding sizedPaths
+  both-fit = and-right (sizedPaths r) _ told-sized
+
+  start-fits : sized (v .start) ≡ true
+  start-fits = and-left (sized (v .start)) (sized (v .end)) both-fit
+
+  end-fits : sized (v .end) ≡ true
+  end-fits = and-right (sized (v .start)) (sized (v .end)) both-fit
+
+  last : endShared (pathsOf r) (pathsOf v .end) ≡ m .end .shared
+  last = ap (λ (x : MeasuredPaths). x .end .shared) told-is
+
+  pub told-shares : Shares v m
+  told-shares = record {
+    start = shared-allowed (nearer (pathsOf r .start) (pathsOf r .end) (componentsOf (v .start))) (v .start) (m .start .shared) start-fits (ap (λ (x : MeasuredPaths). x .start .shared) told-is);
+    end = λ o. shared-allowed (nearer (pathsOf r .start) (pathsOf r .end) (componentsOf (v .end))) (v .end) (m .end .shared) end-fits (rw o at last);
+  }
+
+  pub told-bytes : bothBytes v m ≡ pathsBytes (pathsOf r) (pathsOf v)
+  unfolding pathsBytes pathBytes
+  told-bytes = rw (← told-is) (ap (λ (bs : List ℕ). sharedBy sized (measureOf (pathsOf r) (pathsOf v) .start .shared) .encode (v .start) ++ bs) (go (v .«end_open»)))
     where
-      go : (c : Bool) → (wellFormedPaths r && wellFormedPaths v) ≡ c
-          → cond c
-          (measured.Paths (sidesOf (pathsOf r) (pathsOf v) .«start_from_start») (sharedWith (pathsOf r) (componentsOf (v .start)))
-          (sidesOf (pathsOf r) (pathsOf v) .«end_from_start») (endShared (pathsOf r) (pathsOf v .end))
-          (length (pathsBytes (pathsOf r) (pathsOf v)))) measured.Malformed
-          ≡ measured.Malformed
-          → (wellFormedPaths r && wellFormedPaths v) ≡ false
-      go true f g = let z : _≡_ {A = ℕ} 0 1 = cc in absurd (omega arith)
-      go false f g = f
+      go : (o : Bool) → let end = cond o none (some (componentsOf (v .end))) in
+          cond o [] (sharedBy sized (endShared (pathsOf r) end) .encode (v .end)) ≡ endBytes (pathsOf r) end
+      go true = refl
+      go false = refl
 
-  module _ (a : Bool) (i : ℕ) (b : Bool) (j n : ℕ) where
-    pub told : measureIn r v ≡ measured.Paths a i b j n → Told r v a i b j n
-    unfolding measureIn
-    told e = go (wellFormedPaths r && wellFormedPaths v) refl e
-      where
-        go : (c : Bool) → (wellFormedPaths r && wellFormedPaths v) ≡ c
-            → cond c
-            (measured.Paths (sidesOf (pathsOf r) (pathsOf v) .«start_from_start») (sharedWith (pathsOf r) (componentsOf (v .start)))
-            (sidesOf (pathsOf r) (pathsOf v) .«end_from_start») (endShared (pathsOf r) (pathsOf v .end))
-            (length (pathsBytes (pathsOf r) (pathsOf v)))) measured.Malformed
-            ≡ measured.Paths a i b j n
-            → Told r v a i b j n
-        go true f g = record { both = f; start = cc; end = cc; first = cc; last = cc; long = cc }
-        go false f g = let z : _≡_ {A = ℕ} 0 1 = cc in absurd (omega arith)
+  pub told-long : m .len ≡ length (bothBytes v m)
+  told-long = sym (ap length told-bytes ∙ ap (λ (x : MeasuredPaths). x .len) told-is)
 
-    module _ (t : Told r v a i b j n) where
-      formed : wellFormedPaths v ≡ true
-      formed = and-right (wellFormedPaths r) _ (t .both)
-
-      pub told-shares : Shares v i j
-      told-shares = record {
-        start = shared-allowed (nearer (pathsOf r .start) (pathsOf r .end) (componentsOf (v .start))) (v .start) i (formed-paths v formed .start) (t .first);
-        end = λ o. shared-allowed (nearer (pathsOf r .start) (pathsOf r .end) (componentsOf (v .end))) (v .end) j (formed-paths v formed .end) (rw o at (t .last));
-      }
-
-      pub told-bytes : bothBytes v i j ≡ pathsBytes (pathsOf r) (pathsOf v)
-      unfolding pathsBytes pathBytes
-      told-bytes = rw (t .first) (ap (λ (bs : List ℕ). sharedFrom i .encode (v .start) ++ bs) (go (v .«end_open») (t .last)))
-        where
-          go : (o : Bool) → endShared (pathsOf r) (cond o none (some (componentsOf (v .end)))) ≡ j
-              → cond o [] (sharedFrom j .encode (v .end)) ≡ endBytes (pathsOf r) (cond o none (some (componentsOf (v .end))))
-          go true e = refl
-          go false e = rw e
-
-      pub told-short : n ≤ 1800
-      told-short =
-          omega (
-            arith,
-            t .long,
-            ap length told-bytes,
-            length-append (sharedFrom i .encode (v .start))
-                (cond (v .«end_open») [] (sharedFrom j .encode (v .end))),
-            shared-short (v .start) i (formed-paths v formed .start),
-            go (v .«end_open»),
-          )
-        where
-          go : (o : Bool) → length (cond o [] (sharedFrom j .encode (v .end))) ≤ 900
-          go true = omega arith
-          go false = shared-short (v .end) j (formed-paths v formed .end)
+  pub told-short : m .len ≤ 1800
+  told-short =
+      omega (
+        arith,
+        told-long,
+        length-append (sharedBy sized (m .start .shared) .encode (v .start))
+            (cond (v .«end_open») [] (sharedBy sized (m .end .shared) .encode (v .end))),
+        shared-short (v .start) (m .start .shared) start-fits,
+        go (v .«end_open»),
+      )
+    where
+      go : (o : Bool) → length (cond o [] (sharedBy sized (m .end .shared) .encode (v .end))) ≤ 900
+      go true = omega arith
+      go false = shared-short (v .end) (m .end .shared) end-fits

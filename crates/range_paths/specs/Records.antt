@@ -8,16 +8,20 @@ use lib.ListN.{length}
 use Rattle.codec.specs.Format.{allowed}
 use Rattle.codec.specs.Reader.{Reader, give, guard, mapped, choose, onFormed}
 use Rattle.path.specs.declared.Path.{Path}
-use Rattle.path.specs.Record.{componentsOf, pathFrom, wellFormed}
-use Rattle.path_relative.specs.Records.{sharedFrom, readAgainstPath}
+use Rattle.path.specs.Record.{componentsOf, pathFrom, sized, wellFormed}
+use Rattle.path.specs.Answers.{Said, said, unsaid, saidIf}
+use Rattle.path_relative.specs.Records.{sharedBy, readAgainstPath}
 use Rattle.range_3d.specs.declared.PathRange.{PathRange}
-use Rattle.range_3d.specs.Record.{pathsOf, pathsFrom, wellFormedPaths}
+use Rattle.range_3d.specs.Range3d.{Range}
+use Rattle.range_3d.specs.Record.{pathsOf, pathsFrom, wellFormedPaths, sizedPaths}
 use Rattle.range_paths.specs.declared.Sides.{Sides}
+use Rattle.range_paths.specs.declared.NearPath.{NearPath}
+use Rattle.range_paths.specs.declared.MeasuredPaths.{MeasuredPaths}
 use Rattle.range_paths.specs.declared.Near.{Near}
 use Rattle.range_paths.specs.declared.Near.the-variants as near
 use Rattle.range_paths.specs.declared.Measured.{Measured}
 use Rattle.range_paths.specs.declared.Measured.the-variants as measured
-use Rattle.range_paths.specs.Paths.{fromStart, sidesOf, sharedWith, endShared, pathsBytes, readPaths}
+use Rattle.range_paths.specs.Paths.{fromStart, endFromStart, sharedWith, endShared, pathsBytes, readPaths}
 
 unfoldable pub readAgainstPaths : Bool → Sides → PathRange → Reader PathRange
 readAgainstPaths endOpen s r = onFormed (wellFormedPaths r) (mapped pathsFrom (readPaths (pathsOf r) endOpen s))
@@ -26,27 +30,42 @@ readAgainstPaths endOpen s r = onFormed (wellFormedPaths r) (mapped pathsFrom (r
 abbrev pub pathsWith : Path → Bool → Path → PathRange
 pathsWith start endOpen end = record { start = start; «end_open» = endOpen; end = end }
 
+-- ---- writing: what is answered of records, with the numbers of docs/FORMAT.md, "Refusals". The sizes of the paths are tested
+
 -- a path's side, and how many components it shares there
-unfoldable pub nearIn : PathRange → Path → Near
-nearIn r p = cond (wellFormedPaths r && wellFormed p) (near.At (fromStart (pathsOf r) (componentsOf p)) (sharedWith (pathsOf r) (componentsOf p))) near.Malformed
+abbrev pub nearOf : Range (List (List ℕ)) → List (List ℕ) → NearPath
+nearOf r p = record { «from_start» = fromStart r p; shared = sharedWith r p }
+
+abbrev pub nearAnswer : Near → Said NearPath
+nearAnswer (near.At n) = said n
+nearAnswer near.Malformed = unsaid 5
+
+unfoldable pub nearIn : PathRange → Path → Said NearPath
+nearIn r p = saidIf (sizedPaths r && sized p) (nearOf (pathsOf r) (componentsOf p))
 
 -- the same of start and end, and the length of their bytes
-unfoldable pub measureIn : PathRange → PathRange → Measured
-measureIn r v =
-    let known = pathsOf r in
-    let paths = pathsOf v in
-    cond (wellFormedPaths r && wellFormedPaths v)
-    (measured.Paths (sidesOf known paths .«start_from_start») (sharedWith known (paths .start)) (sidesOf known paths .«end_from_start») (endShared known (paths .end)) (length (pathsBytes known paths)))
-    measured.Malformed
+abbrev pub measureOf : Range (List (List ℕ)) → Range (List (List ℕ)) → MeasuredPaths
+measureOf r v = record {
+  start = nearOf r (v .start);
+  end = record { «from_start» = endFromStart r (v .end); shared = endShared r (v .end) };
+  len = length (pathsBytes r v);
+}
+
+abbrev pub measuredAnswer : Measured → Said MeasuredPaths
+measuredAnswer (measured.Paths m) = said m
+measuredAnswer measured.Malformed = unsaid 5
+
+unfoldable pub measureIn : PathRange → PathRange → Said MeasuredPaths
+measureIn r v = saidIf (sizedPaths r && sizedPaths v) (measureOf (pathsOf r) (pathsOf v))
 
 -- ---- inside: bytes by what is shared
-abbrev pub bothBytes : PathRange → ℕ → ℕ → List ℕ
-bothBytes v i j = sharedFrom i .encode (v .start) ++ cond (v .«end_open») [] (sharedFrom j .encode (v .end))
+abbrev pub bothBytes : PathRange → MeasuredPaths → List ℕ
+bothBytes v m = sharedBy sized (m .start .shared) .encode (v .start) ++ cond (v .«end_open») [] (sharedBy sized (m .end .shared) .encode (v .end))
 
 -- counts that the paths have
-pub record Shares (v : PathRange) (i j : ℕ) : Type 0 where
-  pub start : sharedFrom i .check (v .start) ≡ allowed
-  pub end : v .«end_open» ≡ false → sharedFrom j .check (v .end) ≡ allowed
+pub record Shares (v : PathRange) (m : MeasuredPaths) : Type 0 where
+  pub start : sharedBy sized (m .start .shared) .check (v .start) ≡ allowed
+  pub end : v .«end_open» ≡ false → sharedBy sized (m .end .shared) .check (v .end) ≡ allowed
 
 -- ---- inside the reader: 5 is tested on a path where it is read against, and before that on what is left of the reference
 abbrev pub readSideOf : PathRange → Bool → Reader Path

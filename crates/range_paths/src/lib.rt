@@ -4,6 +4,7 @@ use range_3d::PathRange;
 
 pub mod parts;
 pub mod paths_decode;
+pub mod sized;
 
 // Whether start and end are written against the reference's start, not its end.
 pub struct Sides {
@@ -12,14 +13,25 @@ pub struct Sides {
 }
 
 // Whether a path is written against the reference's start, not its end, and how many components the two share.
+pub struct NearPath {
+    pub from_start: bool,
+    pub shared: usize,
+}
+
 pub enum Near {
-    At(bool, usize),
+    At(NearPath),
     Malformed,
 }
 
 // The same of start and end, and how many bytes both take.
+pub struct MeasuredPaths {
+    pub start: NearPath,
+    pub end: NearPath,
+    pub len: usize,
+}
+
 pub enum Measured {
-    Paths(bool, usize, bool, usize, usize),
+    Paths(MeasuredPaths),
     Malformed,
 }
 

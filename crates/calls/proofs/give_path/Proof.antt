@@ -1,17 +1,19 @@
 use Rattle.calls.proofs.Calls.{stores-refused, stores-accepted}
-use Rattle.flat.specs.PathRecord.{pathFlat}
-use Rattle.codec.proofs.Prelude.{needs}
+use Rattle.codec.proofs.Prelude.{now, needs}
+use Rattle.path.specs.Flat.{pathFlat, pathIn}
 use Rattle.calls.proofs.give_path.Statement.{statement}
 use Rattle.calls.proofs.give_path.Tie as tie
 
 returns : tie.Need-returns
-returns c = stores-refused pathFlat (c .before .before .args .path) (c .before .before .args .answer) (c .before .match .keys2) (c .refusal .ensures)
+returns c =
+    let s : tie.Start = search in
+    stores-refused pathFlat (pathIn (now (s .args .path))) (s .args .answer) (c .before .match .keys2) (c .refusal .ensures)
 
 returns-2 : tie.Need-returns-2
 returns-2 c =
     let after-answer : tie.After-answer = search in
-    let start : tie.Start = search in
-    stores-accepted pathFlat (start .args .path) (start .args .answer) _ (after-answer .answer .given .1) (c .store .ensures)
+    let s : tie.Start = search in
+    stores-accepted pathFlat (pathIn (now (s .args .path))) (s .args .answer) _ (after-answer .answer .given .1) (c .copy-path .ensures)
 
 pub give-path-spec : {M : Type 1} → statement M
 give-path-spec = tie.close (tie.spec (λ c. search needs) (λ c κs. search needs) returns (λ c κs. search needs) returns-2)

@@ -27,7 +27,7 @@ returns c =
     let l = now (a .buffer) in
     let h = c .before .before .header-byte in
     let is = start-one (a .subspace) (a .times) (a .t4) (a .end) (header-is (c .before .before)) (not-true (a .subspace .any) (c .if1 .taken)) in
-    (sym (ap length is), over-one l (h .result) (omega (arith, start .pre)) ∙ ap (λ (bs : List ℕ). over bs l) (sym is))
+    over-one l (h .result) (omega (arith, start .pre)) ∙ ap (λ (bs : List ℕ). over bs l) (sym is)
 
 sub-put-bytes : tie.Need-sub-put-bytes
 sub-put-bytes c =
@@ -56,13 +56,10 @@ returns-2 c =
     let l = now (a .buffer) in
     let h = after-header-byte .header-byte .result in
     let w = c .before .before .put-bytes in
-    let t : length (a .t4) ≡ 32 = start .good .1 .1 .1 .0 .1 .0 .1 in
     let is = start-any (a .subspace) (a .times) (a .t4) (a .end) (header-is after-header-byte) (not-false (a .subspace .any) (else1 .if1 .left)) in
     let rest = rw (to-end 1 (set l 0 h)) at (w .ensures .1) in
-    let room : length (a .t4) ≤ length (drop 1 (set l 0 h)) = rw (length-drop, length-set) (omega (arith, start .pre, ap length is)) in (
-      omega (arith, ap length is, t),
-      put-end 1 (set l 0 h) (w .last .0) ∙ rw (rest, put-over (a .t4) (drop 1 (set l 0 h)) room) (over-cons l (a .t4) h (omega (arith, start .pre))) ∙ ap (λ (bs : List ℕ). over bs l) (sym is),
-    )
+    let room : length (a .t4) ≤ length (drop 1 (set l 0 h)) = rw (length-drop, length-set) (omega (arith, start .pre, ap length is)) in
+    put-end 1 (set l 0 h) (w .last .0) ∙ rw (rest, put-over (a .t4) (drop 1 (set l 0 h)) room) (over-cons l (a .t4) h (omega (arith, start .pre))) ∙ ap (λ (bs : List ℕ). over bs l) (sym is)
 
 pub put-start-spec : {M : Type 1} → statement M
 put-start-spec =

@@ -3,31 +3,32 @@ use Rattle.codec.specs.Format.{over, writeAnswer, writeBuffer}
 use Rattle.codec.specs.Answers.{outcomeOf, wrote}
 use Rattle.codec.proofs.Lending.{put-over, put-fits, over-then, to-end, put-end, no-length, written-is, wrote-not-denied}
 use Rattle.path.specs.declared.Path.{Path}
-use Rattle.path.specs.Record.{pathOf}
-use Rattle.path_relative.specs.Records.{sharedFrom}
+use Rattle.path.specs.Record.{sized}
+use Rattle.path.specs.Flat.{pathIn}
+use Rattle.path_relative.specs.Records.{sharedBy}
 use Rattle.entry_entry_encode.proofs.entry_encode.put_end.Statement.{statement}
 use Rattle.entry_entry_encode.proofs.entry_encode.put_end.Tie as tie
 
 abbrev path : tie.Start → Path
-path c = pathOf (now (c .args .bytes)) (now (c .args .lengths)) (c .args .count)
+path c = pathIn (now (c .args .path))
 
 abbrev bytes : tie.Start → List ℕ
-bytes c = sharedFrom (c .args .k) .encode (path c)
+bytes c = sharedBy sized (c .args .k) .encode (path c)
 
 -- the parts fit
 parts : (c : tie.Start) → length (bytes c) + length (c .args .t2) ≤ length (now (c .args .buffer))
 parts c = omega (arith, c .pre .1, length-append (bytes c) (c .args .t2))
 
-fits : (c : tie.Start) → let f = sharedFrom (c .args .k) in let l = now (c .args .buffer) in
+fits : (c : tie.Start) → let f = sharedBy sized (c .args .k) in let l = now (c .args .buffer) in
     (wrote (length (bytes c)) ≡ writeAnswer f (path c) (length l)) × (over (bytes c) l ≡ writeBuffer f (path c) l)
-fits c = put-fits (sharedFrom (c .args .k) .check (path c)) (bytes c) (now (c .args .buffer)) (c .pre .0) _ refl (omega (arith, parts c))
+fits c = put-fits (sharedBy sized (c .args .k) .check (path c)) (bytes c) (now (c .args .buffer)) (c .pre .0) _ refl (omega (arith, parts c))
 
-answer : (c : tie.After-encode-shared) → outcomeOf (c .encode-shared .result) ≡ wrote (length (bytes (c .before .before .before .before .before)))
+answer : (c : tie.After-encode-shared) → outcomeOf (c .encode-shared .result) ≡ wrote (length (bytes (c .before .before .before .before)))
 answer c =
     let start : tie.Start = search in
-    c .encode-shared .ensures .0 ∙ sym (fits start .0)
+    c .encode-shared .ensures .answer ∙ sym (fits start .0)
 
-long : (c : tie.After-known-told) → c .before .whole .given .0 .0 ≡ length (bytes (c .before .before .before .before .before .before .before .before .before .before))
+long : (c : tie.After-known-told) → c .before .whole .given .0 .0 ≡ length (bytes (c .before .before .before .before .before .before .before .before .before))
 long c =
     let after-encode-shared : tie.After-encode-shared = search in
     written-is _ _ (sym (ap outcomeOf (c .before .whole .given .1)) ∙ answer after-encode-shared)
@@ -61,7 +62,7 @@ returns-2 c =
     let p = after-encode-shared .encode-shared in
     let w = c .before .before .put-bytes in
     let y = s .args .t2 in
-    let first : p .last .0 ≡ over (bytes s) l = p .ensures .1 ∙ sym (fits s .1) in
+    let first : p .last .0 ≡ over (bytes s) l = p .ensures .buffer ∙ sym (fits s .1) in
     let rest = rw (to-end n (p .last .0)) at (w .ensures .1) in
     let room : length y ≤ length (drop n (p .last .0)) = rw length-drop (omega (arith, parts s, long after-known-told, p .kept .0)) in
     put-end n (p .last .0) (w .last .0) ∙ rw (rest, put-over y (drop n (p .last .0)) room, first, long after-known-told) (over-then l (bytes s) y)

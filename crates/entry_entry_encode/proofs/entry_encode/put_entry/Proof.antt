@@ -1,14 +1,15 @@
 use Rattle.codec.proofs.Prelude.{needs, ap, _∙_, List, _∷_, ℕ, arith, now, set, length-drop, length-set}
 use Rattle.codec.specs.Format.{over}
 use Rattle.codec.proofs.Lending.{over-cons, to-end, put-end, put-end-long}
-use Rattle.path.specs.Record.{pathOf}
-use Rattle.path_relative.specs.Records.{sharedFrom}
+use Rattle.path.specs.Record.{sized}
+use Rattle.path.specs.Flat.{pathIn}
+use Rattle.path_relative.specs.Records.{sharedBy}
 use Rattle.entry_entry.specs.Records.{partsWith}
 use Rattle.entry_entry_encode.proofs.entry_encode.put_entry.Statement.{statement}
 use Rattle.entry_entry_encode.proofs.entry_encode.put_entry.Tie as tie
 
 abbrev bytes : tie.Start → List ℕ
-bytes c = sharedFrom (c .args .k) .encode (pathOf (now (c .args .bytes)) (now (c .args .lengths)) (c .args .count))
+bytes c = sharedBy sized (c .args .k) .encode (pathIn (now (c .args .path)))
 
 slice-write-buffer : tie.Need-slice-write-buffer
 slice-write-buffer c =

@@ -1,13 +1,14 @@
 use Rattle.codec.proofs.Prelude.{needs, _∙_, List, ℕ, _+_, _≤_, arith, now, length, length-append, length-drop}
 use Rattle.codec.proofs.Lending.{over-then, to-end, put-end}
-use Rattle.path.specs.Record.{pathOf}
-use Rattle.path_relative.specs.Records.{sharedFrom}
+use Rattle.path.specs.Record.{sized}
+use Rattle.path.specs.Flat.{pathIn}
+use Rattle.path_relative.specs.Records.{sharedBy}
 use Rattle.entry_entry.specs.Records.{idsWith, restWith}
 use Rattle.entry_entry_encode.proofs.entry_encode.put_parts.Statement.{statement}
 use Rattle.entry_entry_encode.proofs.entry_encode.put_parts.Tie as tie
 
 abbrev bytes : tie.Start → List ℕ
-bytes c = sharedFrom (c .args .k) .encode (pathOf (now (c .args .bytes)) (now (c .args .lengths)) (c .args .count))
+bytes c = sharedBy sized (c .args .k) .encode (pathIn (now (c .args .path)))
 
 -- the parts fit
 parts : (c : tie.Start) → let a = c .args in length (idsWith (a .of) (a .fields)) + length (restWith (a .of) (a .fields) (bytes c)) ≤ length (now (a .buffer))

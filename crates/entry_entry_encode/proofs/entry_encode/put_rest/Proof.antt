@@ -1,14 +1,15 @@
 use Rattle.codec.proofs.Prelude.{_≡_, _∙_, List, _++_, ℕ, _+_, _≤_, arith, now, length, length-append, length-drop, needs}
 use Rattle.codec.specs.Format.{over}
 use Rattle.codec.proofs.Lending.{put-over, over-then, to-end, put-end}
-use Rattle.path.specs.Record.{pathOf}
-use Rattle.path_relative.specs.Records.{sharedFrom}
+use Rattle.path.specs.Record.{sized}
+use Rattle.path.specs.Flat.{pathIn}
+use Rattle.path_relative.specs.Records.{sharedBy}
 use Rattle.entry_numbers.specs.Numbers.{numbersBytes}
 use Rattle.entry_entry_encode.proofs.entry_encode.put_rest.Statement.{statement}
 use Rattle.entry_entry_encode.proofs.entry_encode.put_rest.Tie as tie
 
 abbrev bytes : tie.Start → List ℕ
-bytes c = sharedFrom (c .args .k) .encode (pathOf (now (c .args .bytes)) (now (c .args .lengths)) (c .args .count))
+bytes c = sharedBy sized (c .args .k) .encode (pathIn (now (c .args .path)))
 
 -- the parts fit
 parts : (c : tie.Start) → let a = c .args in

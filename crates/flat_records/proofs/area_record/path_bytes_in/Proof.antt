@@ -1,3 +1,4 @@
+use Rattle.path.specs.Flat.{pathIn}
 use Rattle.codec.proofs.Lending.{to-end}
 use Rattle.flat.specs.AreaRecord.{areaIn}
 use Rattle.codec.proofs.Prelude.{needs}
@@ -5,7 +6,7 @@ use Rattle.flat_records.proofs.area_record.path_bytes_in.Statement.{sta
 use Rattle.flat_records.proofs.area_record.path_bytes_in.Tie as tie
 
 returns : tie.Need-returns
-unfolding areaIn
+unfolding areaIn pathIn
 returns c = rw to-end at (c .bytes-in .ensures)
 
 pub path-bytes-in-spec : {M : Type 1} → statement M

@@ -1,6 +1,6 @@
 use Rattle.codec.proofs.Prelude.{append-assoc, needs}
 use Rattle.flat.specs.AreaRecord.{areaFlat}
-use Rattle.flat.proofs.Puts.{puts-tail}
+use Rattle.path.proofs.Puts.{puts-tail}
 use Rattle.flat_records.proofs.area_record.put_area.Statement.{statement}
 use Rattle.flat_records.proofs.area_record.put_area.Tie as tie
 

@@ -1,6 +1,6 @@
 use Rattle.codec.proofs.Prelude.{ℕ, ap, _∷_, arith, now, length-set, needs}
 use Rattle.codec.specs.Header.{bit}
-use Rattle.flat.proofs.Puts.{puts-put, puts-first, puts-long, puts-tail, puts-as, room-after}
+use Rattle.path.proofs.Puts.{puts-put, puts-first, puts-long, puts-tail, puts-as, room-after}
 use Rattle.grouping.proofs.Typed.{typed-id}
 use Rattle.flat_records.proofs.area_record.put_subspace.Statement.{statement}
 use Rattle.flat_records.proofs.area_record.put_subspace.Tie as tie

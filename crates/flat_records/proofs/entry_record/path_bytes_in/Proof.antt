@@ -1,6 +1,6 @@
 use Rattle.codec.proofs.Lending.{to-end}
 use Rattle.flat.specs.EntryRecord.{entryIn}
-use Rattle.flat.specs.PathRecord.{pathIn}
+use Rattle.path.specs.Flat.{pathIn}
 use Rattle.codec.proofs.Prelude.{needs}
 use Rattle.flat_records.proofs.entry_record.path_bytes_in.Statement.{statement}
 use Rattle.flat_records.proofs.entry_record.path_bytes_in.Tie as tie

@@ -1,5 +1,5 @@
 use Rattle.codec.proofs.Lending.{to-end}
-use Rattle.flat.specs.PathRecord.{pathIn}
+use Rattle.path.specs.Flat.{pathIn}
 use Rattle.flat.specs.EntryRecord.{entryIn}
 use Rattle.codec.proofs.Prelude.{needs}
 use Rattle.flat_records.proofs.entry_record.path_sizes_in.Statement.{statement}

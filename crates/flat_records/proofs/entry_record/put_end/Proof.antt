@@ -1,7 +1,7 @@
 use Rattle.codec.proofs.Prelude.{append-assoc, arith, needs}
 use Rattle.compact_u64.specs.BigEndian.{bigEndian}
 use Rattle.entry.proofs.Typed.{digest-long}
-use Rattle.flat.proofs.Puts.{puts-put, puts-number, puts-tail, puts-as, room-after}
+use Rattle.path.proofs.Puts.{puts-put, puts-number, puts-tail, puts-as, room-after}
 use Rattle.flat_records.proofs.entry_record.put_end.Statement.{statement}
 use Rattle.flat_records.proofs.entry_record.put_end.Tie as tie
 

@@ -1,6 +1,6 @@
 use Rattle.codec.proofs.Prelude.{append-assoc, needs}
 use Rattle.flat.specs.EntryRecord.{entryFlat}
-use Rattle.flat.proofs.Puts.{puts-tail}
+use Rattle.path.proofs.Puts.{puts-tail}
 use Rattle.flat_records.proofs.entry_record.put_entry.Statement.{statement}
 use Rattle.flat_records.proofs.entry_record.put_entry.Tie as tie
 

@@ -1,6 +1,6 @@
 use Rattle.codec.proofs.Prelude.{arith, needs}
 use Rattle.entry.proofs.Typed.{namespace-long, subspace-long}
-use Rattle.flat.proofs.Puts.{puts-put, puts-tail, room-after}
+use Rattle.path.proofs.Puts.{puts-put, puts-tail, room-after}
 use Rattle.flat_records.proofs.entry_record.put_ids.Statement.{statement}
 use Rattle.flat_records.proofs.entry_record.put_ids.Tie as tie
 

@@ -1,8 +1,8 @@
 -- The invariant: the first i lengths are those that stand in the bytes.
 use Rattle.codec.proofs.Prelude.{add-one, drop-drop, take-all, take-suc-set, _≡_, refl, sym, ap, _∙_, arith, now, ℕ, _+_, _*_, _-_, _≤_, length, take, drop, set, length-set, needs, not-true, not-false}
 use Rattle.compact_u64.specs.BigEndian.{valueOf}
-use Rattle.flat.specs.PathRecord.{shortsIn}
-use Rattle.flat.proofs.Shorts.{short-there, shorts-in-next}
+use Rattle.path.specs.Flat.{shortsIn, pathIn}
+use Rattle.path.proofs.Shorts.{short-there, shorts-in-next}
 use Rattle.flat_records.proofs.path_record.sizes_in.Statement.{statement}
 use Rattle.flat_records.proofs.path_record.sizes_in.Tie as tie
 
@@ -54,6 +54,7 @@ all c =
     sym (take-all 20 (l .lengths) (omega arith)) ∙ rw i at (l .inv .2)
 
 returns : tie.Need-returns Inv-loop μ-loop
+unfolding pathIn
 returns c =
     let start : tie.Start Inv-loop μ-loop = search in
     rw (all (c .before), not-true (start .args .marked) (c .if1 .taken))
@@ -64,6 +65,7 @@ shared-slice-read-wide-3 c =
     omega (arith, start .pre)
 
 returns-2 : tie.Need-returns-2 Inv-loop μ-loop
+unfolding pathIn
 returns-2 c =
     let after-loop : tie.After-loop Inv-loop μ-loop = search in
     let start : tie.Start Inv-loop μ-loop = search in

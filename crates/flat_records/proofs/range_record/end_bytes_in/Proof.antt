@@ -1,6 +1,6 @@
 use Rattle.codec.proofs.Lending.{to-end}
 use Rattle.flat.specs.RangeRecord.{rangeIn}
-use Rattle.flat.specs.PathRecord.{pathIn}
+use Rattle.path.specs.Flat.{pathIn}
 use Rattle.codec.proofs.Prelude.{needs}
 use Rattle.flat_records.proofs.range_record.end_bytes_in.Statement.{statement}
 use Rattle.flat_records.proofs.range_record.end_bytes_in.Tie as tie

@@ -1,7 +1,5 @@
 use Rattle.codec.proofs.Prelude.{ap, _∙_, [], _∷_, _++_, append-assoc, ℕ, arith, now, length-set, needs}
-use Rattle.path.specs.Record.{pathOf}
-use Rattle.flat.specs.PathRecord.{pathFlat}
-use Rattle.flat.proofs.Puts.{puts-long, puts-tail, puts-byte, puts-as, room-after}
+use Rattle.path.proofs.Puts.{puts-long, puts-tail, puts-byte, puts-as, room-after}
 use Rattle.flat_records.proofs.range_record.put_paths.Statement.{statement}
 use Rattle.flat_records.proofs.range_record.put_paths.Tie as tie
 
@@ -22,11 +20,11 @@ returns c =
     let after-bit : tie.After-bit = search in
     let after-put-path : tie.After-put-path = search in
     let s : tie.Start = search in
-    let start = pathOf (now (s .args .start-bytes)) (now (s .args .start-lengths)) (s .args .start-count) in
-    let end = pathOf (now (s .args .end-bytes)) (now (s .args .end-lengths)) (s .args .end-count) in
+    let start = now (s .args .start) in
+    let end = now (s .args .end) in
     let mark = puts-byte (after-put-path .put-path .ensures) (after-bit .bit .result) (omega (arith, s .pre)) in
     puts-as (puts-tail mark (c .before .before .put-path2 .ensures))
-    (append-assoc (pathFlat start) (after-bit .bit .result ∷ []) (pathFlat end) ∙ ap (λ (b : ℕ). pathFlat start ++ (b ∷ pathFlat end)) (after-bit .bit .ensures .0))
+    (append-assoc start (after-bit .bit .result ∷ []) end ∙ ap (λ (b : ℕ). start ++ (b ∷ end)) (after-bit .bit .ensures .0))
 
 same-length : tie.Need-same-length
 same-length c =

@@ -1,5 +1,5 @@
 use Rattle.codec.proofs.Prelude.{append-assoc, needs}
-use Rattle.flat.proofs.Puts.{puts-tail}
+use Rattle.path.proofs.Puts.{puts-tail}
 use Rattle.flat_records.proofs.range_record.put_range.Statement.{statement}
 use Rattle.flat_records.proofs.range_record.put_range.Tie as tie
 

@@ -1,6 +1,6 @@
 use Rattle.codec.proofs.Prelude.{ℕ, ap, _∙_, [], _∷_, _++_, append-assoc, arith, length-set, needs}
 use Rattle.codec.specs.Header.{bit}
-use Rattle.flat.proofs.Puts.{puts-put, puts-long, puts-tail, puts-byte, puts-as, room-after}
+use Rattle.path.proofs.Puts.{puts-put, puts-long, puts-tail, puts-byte, puts-as, room-after}
 use Rattle.range_3d.proofs.Typed.{typed-subspaces}
 use Rattle.flat_records.proofs.range_record.put_subspaces.Statement.{statement}
 use Rattle.flat_records.proofs.range_record.put_subspaces.Tie as tie

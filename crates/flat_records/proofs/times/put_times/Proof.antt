@@ -1,6 +1,6 @@
 use Rattle.codec.specs.Header.{bit}
 use Rattle.codec.proofs.Prelude.{append-assoc, arith, length-set, needs}
-use Rattle.flat.proofs.Puts.{puts-number, puts-long, puts-tail, puts-byte, puts-as, room-after}
+use Rattle.path.proofs.Puts.{puts-number, puts-long, puts-tail, puts-byte, puts-as, room-after}
 use Rattle.flat.specs.Times.{timesFlat}
 use Rattle.flat_records.proofs.times.put_times.Statement.{statement}
 use Rattle.flat_records.proofs.times.put_times.Tie as tie

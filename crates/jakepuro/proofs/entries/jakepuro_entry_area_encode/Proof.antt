@@ -1,27 +1,42 @@
-use Rattle.calls.proofs.Calls.{encodes}
-use Rattle.codec.proofs.Prelude.{needs}
+use Rattle.calls.proofs.Calls.{encodes, encodes-of}
+use Rattle.codec.proofs.Prelude.{_≡_, sym, _∙_, now, not-true, not-false, needs}
+use Rattle.codec.proofs.Lending.{put-barred}
+use Rattle.path.specs.Flat.{pathIn}
+use Rattle.grouping.specs.Record.{headed}
+use Rattle.entry.specs.Record.{entryWith}
+use Rattle.entry_area.specs.Records.{againstNamespaceArea}
+use Rattle.flat.specs.AreaRecord.{areaIn}
+use Rattle.flat.specs.EntryRecord.{entryIn}
+use Rattle.flat.proofs.AreaLaws.{area-lent, area-unmarked}
+use Rattle.flat.proofs.EntryLaws.{entry-lent}
 use Rattle.jakepuro.proofs.entries.jakepuro_entry_area_encode.Statement.{statement}
 use Rattle.jakepuro.proofs.entries.jakepuro_entry_area_encode.Tie as tie
 
 returns : tie.Need-returns
 returns c =
-    let after-relative-encode : tie.After-relative-encode = search in
-    let after-path-bytes2 : tie.After-path-bytes2 = search in
-    let after-times : tie.After-times = search in
-    let after-subspace : tie.After-subspace = search in
-    let after-path-bytes : tie.After-path-bytes = search in
-    let after-path-sizes2 : tie.After-path-sizes2 = search in
-    let after-path-sizes : tie.After-path-sizes = search in
-    let after-fields : tie.After-fields = search in
-    encodes
-    (rw
-    (after-fields .fields .ensures, after-path-sizes .path-sizes .ensures, after-path-sizes2 .path-sizes2 .ensures, after-path-bytes .path-bytes .ensures, after-subspace .subspace .ensures, after-times .times .ensures, after-path-bytes2 .path-bytes2 .ensures) at
-    (after-relative-encode .relative-encode .ensures))
+    let marked : tie.After-is-marked = search in
+    let then1 : tie.Then1 = search in
+    let s : tie.Start = search in
+    let bad = area-unmarked (now (s .args .area)) (sym (marked .is-marked .ensures) ∙ not-true (marked .is-marked .result) (then1 .if1 .taken)) in
+    encodes (put-barred (againstNamespaceArea (now (s .args .namespace)) (areaIn (now (s .args .area))) .check (entryIn (now (s .args .entry)))) _ (now (s .args .buffer)) 5 (rw bad))
     (c .tell-length .ensures)
+
+returns-2 : tie.Need-returns-2
+returns-2 c =
+    let after : tie.After-relative-encode = search in
+    let marked : tie.After-is-marked = search in
+    let fields : tie.After-fields = search in
+    let path : tie.After-path = search in
+    let head : tie.After-head = search in
+    let path2 : tie.After-path2 = search in
+    let else1 : tie.Else1 = search in
+    let s : tie.Start = search in
+    let here = (λ i. entryWith (fields .fields .ensures i) (pathIn (now (path .path .result)))) ∙ entry-lent (now (s .args .entry)) _ (path .path .ensures) in
+    let there = (λ i. headed (head .head .ensures i) (pathIn (now (path2 .path2 .result))))
+    ∙ area-lent (now (s .args .area)) _ (path2 .path2 .ensures) (sym (marked .is-marked .ensures) ∙ not-false _ (else1 .if1 .left)) in
+    let put = after .relative-encode .ensures in
+    encodes-of (againstNamespaceArea (now (s .args .namespace))) there here (put .answer, put .buffer) (c .tell-length2 .ensures)
 
 pub jakepuro-entry-area-encode-spec : {M : Type 1} → statement M
 jakepuro-entry-area-encode-spec =
-    tie.close
-    (tie.spec
-    (λ c κs. search needs) (λ c κs. search needs) (λ c κs. search needs) (λ c κs. search needs) (λ c κs. search needs)
-    (λ c κs. search needs) (λ c κs. search needs) (λ c κs. search needs) (λ c κs. search needs) (λ c. search needs) returns)
+    tie.close (tie.spec (λ c κs. search needs) (λ c κs. search needs) returns (λ c κs. search needs) (λ c κs. search needs) (λ c κs. search needs) (λ c κs. search needs) (λ c κs. search needs) (λ c κs. search needs) (λ c. search needs) returns-2)

@@ -5,11 +5,8 @@ use Rattle.jakepuro.proofs.paths.jakepuro_path_extends_decode.Tie as ti
 
 returns : tie.Need-returns
 returns c =
-    let after-decode-path-extends-path : tie.After-decode-path-extends-path = search in
-    let after-bytes : tie.After-bytes = search in
-    let after-sizes : tie.After-sizes = search in
-    rw (after-sizes .sizes .ensures, after-bytes .bytes .ensures) at (stores-as (c .give-path .ensures) (after-decode-path-extends-path .decode-path-extends-path .ensures .answer))
+    let after : tie.After-decode-path-extends-path = search in
+    stores-as (c .give-path .ensures) (after .decode-path-extends-path .ensures .answer)
 
 pub jakepuro-path-extends-decode-spec : {M : Type 1} → statement M
-jakepuro-path-extends-decode-spec =
-    tie.close (tie.spec (λ c κs. search needs) (λ c κs. search needs) (λ c κs. search needs) (λ c κs. search needs) returns)
+jakepuro-path-extends-decode-spec = tie.close (tie.spec (λ c κs. search needs) (λ c κs. search needs) returns)

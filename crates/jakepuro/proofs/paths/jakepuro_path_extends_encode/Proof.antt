@@ -1,23 +1,12 @@
-use Rattle.calls.proofs.Calls.{encodes}
+use Rattle.calls.proofs.Calls.{encodes-into}
 use Rattle.codec.proofs.Prelude.{needs}
 use Rattle.jakepuro.proofs.paths.jakepuro_path_extends_encode.Statement.{statement}
 use Rattle.jakepuro.proofs.paths.jakepuro_path_extends_encode.Tie as tie
 
 returns : tie.Need-returns
 returns c =
-    let after-encode-path-extends-path : tie.After-encode-path-extends-path = search in
-    let after-bytes2 : tie.After-bytes2 = search in
-    let after-bytes : tie.After-bytes = search in
-    let after-sizes2 : tie.After-sizes2 = search in
-    let after-sizes : tie.After-sizes = search in
-    encodes
-    (rw (after-sizes .sizes .ensures, after-sizes2 .sizes2 .ensures, after-bytes .bytes .ensures, after-bytes2 .bytes2 .ensures) at
-    (after-encode-path-extends-path .encode-path-extends-path .ensures))
-    (c .tell-length .ensures)
+    let after : tie.After-encode-path-extends-path = search in
+    encodes-into (after .encode-path-extends-path .ensures) (c .tell-length .ensures)
 
 pub jakepuro-path-extends-encode-spec : {M : Type 1} → statement M
-jakepuro-path-extends-encode-spec =
-    tie.close
-    (tie.spec
-    (λ c κs. search needs) (λ c κs. search needs) (λ c κs. search needs) (λ c κs. search needs) (λ c κs. search needs)
-    (λ c κs. search needs) (λ c. search needs) returns)
+jakepuro-path-extends-encode-spec = tie.close (tie.spec (λ c κs. search needs) (λ c κs. search needs) (λ c. search needs) returns)

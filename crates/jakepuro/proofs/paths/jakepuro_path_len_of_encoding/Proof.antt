@@ -5,10 +5,8 @@ use Rattle.jakepuro.proofs.paths.jakepuro_path_len_of_encoding.Tie as t
 
 returns : tie.Need-returns
 returns c =
-    let after-bytes : tie.After-bytes = search in
-    let after-sizes : tie.After-sizes = search in
-    rw (after-sizes .sizes .ensures, after-bytes .bytes .ensures) at (told-as (c .tell-length .ensures) (c .before .before .len-of-encoding .ensures))
+    let after : tie.After-len-of-encoding = search in
+    told-as (c .tell-length .ensures) (after .len-of-encoding .ensures)
 
 pub jakepuro-path-len-of-encoding-spec : {M : Type 1} → statement M
-jakepuro-path-len-of-encoding-spec =
-    tie.close (tie.spec (λ c κs. search needs) (λ c κs. search needs) (λ c κs. search needs) (λ c κs. search needs) returns)
+jakepuro-path-len-of-encoding-spec = tie.close (tie.spec (λ c κs. search needs) (λ c κs. search needs) returns)

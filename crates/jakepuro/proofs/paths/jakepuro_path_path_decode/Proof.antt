@@ -5,11 +5,8 @@ use Rattle.jakepuro.proofs.paths.jakepuro_path_path_decode.Tie as tie
 
 returns : tie.Need-returns
 returns c =
-    let after-relative-decode : tie.After-relative-decode = search in
-    let after-bytes : tie.After-bytes = search in
-    let after-sizes : tie.After-sizes = search in
-    rw (after-sizes .sizes .ensures, after-bytes .bytes .ensures) at (stores-as (c .give-path .ensures) (after-relative-decode .relative-decode .ensures .answer))
+    let after : tie.After-relative-decode = search in
+    stores-as (c .give-path .ensures) (after .relative-decode .ensures .answer)
 
 pub jakepuro-path-path-decode-spec : {M : Type 1} → statement M
-jakepuro-path-path-decode-spec =
-    tie.close (tie.spec (λ c κs. search needs) (λ c κs. search needs) (λ c κs. search needs) (λ c κs. search needs) returns)
+jakepuro-path-path-decode-spec = tie.close (tie.spec (λ c κs. search needs) (λ c κs. search needs) returns)

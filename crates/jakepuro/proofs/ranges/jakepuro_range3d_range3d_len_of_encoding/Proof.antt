@@ -1,35 +1,43 @@
 use Rattle.calls.proofs.Calls.{told-as}
-use Rattle.codec.proofs.Prelude.{needs}
-use Rattle.jakepuro.proofs.ranges.jakepuro_range3d_range3d_len_of_encoding.Statement.{
-  statement,
-}
+use Rattle.codec.proofs.Prelude.{_≡_, sym, _∙_, now, not-true, not-false, needs}
+use Rattle.codec.specs.Format.{lengthAnswer}
+use Rattle.codec.proofs.Tests.{and-left, and-right}
+use Rattle.codec.proofs.Lending.{length-barred}
+use Rattle.path.specs.Flat.{pathIn}
+use Rattle.range_3d.specs.Record.{headed}
+use Rattle.range3d_range3d.specs.Records.{againstRange}
+use Rattle.flat.specs.RangeRecord.{rangeMarked, rangeIn}
+use Rattle.flat.proofs.RangeLaws.{range-lent, ranges-unmarked}
+use Rattle.jakepuro.proofs.ranges.jakepuro_range3d_range3d_len_of_encoding.Statement.{statement}
 use Rattle.jakepuro.proofs.ranges.jakepuro_range3d_range3d_len_of_encoding.Tie as tie
 
 returns : tie.Need-returns
 returns c =
-    let after-times2 : tie.After-times2 = search in
-    let after-end-bytes2 : tie.After-end-bytes2 = search in
-    let after-end-open2 : tie.After-end-open2 = search in
-    let after-start-bytes2 : tie.After-start-bytes2 = search in
-    let after-subspaces2 : tie.After-subspaces2 = search in
-    let after-times : tie.After-times = search in
-    let after-end-bytes : tie.After-end-bytes = search in
-    let after-end-open : tie.After-end-open = search in
-    let after-start-bytes : tie.After-start-bytes = search in
-    let after-subspaces : tie.After-subspaces = search in
-    let after-end-sizes2 : tie.After-end-sizes2 = search in
-    let after-start-sizes2 : tie.After-start-sizes2 = search in
-    let after-end-sizes : tie.After-end-sizes = search in
-    let after-start-sizes : tie.After-start-sizes = search in
-    rw
-    (after-start-sizes .start-sizes .ensures, after-end-sizes .end-sizes .ensures, after-start-sizes2 .start-sizes2 .ensures, after-end-sizes2 .end-sizes2 .ensures, after-subspaces .subspaces .ensures, after-start-bytes .start-bytes .ensures, after-end-open .end-open .ensures, after-end-bytes .end-bytes .ensures, after-times .times .ensures, after-subspaces2 .subspaces2 .ensures, after-start-bytes2 .start-bytes2 .ensures, after-end-open2 .end-open2 .ensures, after-end-bytes2 .end-bytes2 .ensures, after-times2 .times2 .ensures) at
-    (told-as (c .tell-length .ensures) (c .before .before .relative-len-of-encoding .ensures))
+    let marked : tie.After-both-marked = search in
+    let then1 : tie.Then1 = search in
+    let s : tie.Start = search in
+    let bad = ranges-unmarked _ _ (sym (marked .both-marked .ensures) ∙ not-true (marked .both-marked .result) (then1 .if1 .taken)) in
+    told-as (c .tell-length .ensures) (length-barred (againstRange (rangeIn (now (s .args .reference)))) (rangeIn (now (s .args .range))) 5 (rw bad))
+
+returns-2 : tie.Need-returns-2
+returns-2 c =
+    let after : tie.After-relative-len-of-encoding = search in
+    let marked : tie.After-both-marked = search in
+    let head : tie.After-head = search in
+    let start : tie.After-path-start = search in
+    let end : tie.After-path-end = search in
+    let head2 : tie.After-head2 = search in
+    let start2 : tie.After-path-start2 = search in
+    let end2 : tie.After-path-end2 = search in
+    let else1 : tie.Else1 = search in
+    let s : tie.Start = search in
+    let both = sym (marked .both-marked .ensures) ∙ not-false _ (else1 .if1 .left) in
+    let here = (λ i. headed (head .head .ensures i) (pathIn (now (start .path-start .result))) (pathIn (now (end .path-end .result))))
+    ∙ range-lent (now (s .args .range)) _ _ (start .path-start .ensures) (end .path-end .ensures) (and-right (rangeMarked (now (s .args .reference))) _ both) in
+    let there = (λ i. headed (head2 .head2 .ensures i) (pathIn (now (start2 .path-start2 .result))) (pathIn (now (end2 .path-end2 .result))))
+    ∙ range-lent (now (s .args .reference)) _ _ (start2 .path-start2 .ensures) (end2 .path-end2 .ensures) (and-left _ (rangeMarked (now (s .args .range))) both) in
+    told-as (c .tell-length2 .ensures) (after .relative-len-of-encoding .ensures ∙ (λ i. lengthAnswer (againstRange (there i)) (here i)))
 
 pub jakepuro-range3d-range3d-len-of-encoding-spec : {M : Type 1} → statement M
 jakepuro-range3d-range3d-len-of-encoding-spec =
-    tie.close
-    (tie.spec
-    (λ c κs. search needs) (λ c κs. search needs) (λ c κs. search needs) (λ c κs. search needs) (λ c κs. search needs)
-    (λ c κs. search needs) (λ c κs. search needs) (λ c κs. search needs) (λ c κs. search needs) (λ c κs. search needs)
-    (λ c κs. search needs) (λ c κs. search needs) (λ c κs. search needs) (λ c κs. search needs) (λ c κs. search needs)
-    (λ c κs. search needs) returns)
+    tie.close (tie.spec (λ c κs. search needs) (λ c κs. search needs) returns (λ c κs. search needs) (λ c κs. search needs) (λ c κs. search needs) (λ c κs. search needs) (λ c κs. search needs) (λ c κs. search needs) (λ c κs. search needs) (λ c κs. search needs) returns-2)

@@ -1,19 +1,13 @@
-use Rattle.codec.proofs.Prelude.{length, take, length-drop, ℕ, _+_, _≤_, _≡_, sym, arith, needs, length-unmapped, length-take-le, needs}
+use Rattle.codec.proofs.Prelude.{length, take, length-drop, _+_, _≤_, _≡_, sym, arith, length-take-le, needs}
 use Rattle.path.proofs.Lists.{rest-part}
 use Rattle.path.specs.Record.{sumOf}
-use Rattle.path.proofs.Record.{well-formed}
-use Rattle.path.proofs.Components.{Formed}
+use Rattle.path.proofs.Components.{Formed, parts-formed}
 use Rattle.path.proofs.Builder.{extended-fits, extended-bytes, extended-lengths, extended-is}
 use Rattle.path.proofs.PathBuilder.extended.Statement.{statement}
 use Rattle.path.proofs.PathBuilder.extended.Tie as tie
 
--- what owning the path tells of its arrays, and what it tells to be well formed
 formed : (c : tie.Start) → Formed (c .args .path)
-formed c = record {
-  bytes = length-unmapped ℕ (c .args .path .bytes) 600 (c .good .1 .0 .1 .1 .0 .1 .0 .1);
-  lengths = length-unmapped ℕ (c .args .path .lengths) 20 (c .good .1 .0 .1 .1 .1 .0 .1 .0 .1);
-  well = well-formed (c .args .path) (c .pre .formed);
-}
+formed c = parts-formed (c .pre .formed)
 
 there : (c : tie.Start) → c .args .k ≤ length (c .args .path .lengths)
 there c = omega (arith, formed c .lengths, formed c .well .count, c .pre .there)

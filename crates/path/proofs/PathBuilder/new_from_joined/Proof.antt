@@ -1,9 +1,8 @@
-use Rattle.codec.proofs.Prelude.{_≡_, sym, _∙_, [], true, ℕ, _+_, _≤_, arith, length-unmapped, needs, not-true, not-false, le-leb, lt-leb, length-take-le}
+use Rattle.codec.proofs.Prelude.{_≡_, sym, _∙_, [], true, _+_, _≤_, arith, needs, not-true, not-false, le-leb, lt-leb, length-take-le}
 use Rattle.path.specs.Limits.{totalOf}
 use Rattle.path.specs.Record.{wellFormed, componentsOf}
 use Rattle.path.specs.Builder.{builderFrom, joinedBuilder}
-use Rattle.path.proofs.Record.{well-formed}
-use Rattle.path.proofs.Components.{Formed, count-is, total-is, total-small, whole}
+use Rattle.path.proofs.Components.{Formed, parts-formed, count-is, total-is, total-small, whole}
 use Rattle.path.proofs.Builder.{built-components, built-total, extendable, extendable-empty}
 use Rattle.path.proofs.PathBuilder.new_from_joined.Statement.{statement}
 use Rattle.path.proofs.PathBuilder.new_from_joined.Tie as tie
@@ -24,7 +23,7 @@ else3-start c = extended-start (c .before .before .before .before .before)
 abbrev else4-start : tie.Else4 → tie.Start
 else4-start c = else3-start (c .before)
 
--- the paths are well formed where the tests did not turn them away, and what owning them tells of their arrays
+-- the paths are well formed where the tests did not turn them away
 prefix-well : (c : tie.Else1) → wellFormed (else1-start c .args .prefix) ≡ true
 prefix-well c = sym (c .before .well-formed .ensures) ∙ not-false (c .before .well-formed .result) (c .if1 .left)
 
@@ -32,22 +31,10 @@ suffix-well : (c : tie.Else2) → wellFormed (else2-start c .args .suffix) ≡ t
 suffix-well c = sym (c .before .well-formed2 .ensures) ∙ not-false (c .before .well-formed2 .result) (c .if2 .left)
 
 prefix-formed : (c : tie.Else1) → Formed (else1-start c .args .prefix)
-prefix-formed c =
-    let s : tie.Start = search in
-    record {
-      bytes = length-unmapped ℕ (s .args .prefix .bytes) 600 (s .good .0 .1 .1 .0 .1 .0 .1);
-      lengths = length-unmapped ℕ (s .args .prefix .lengths) 20 (s .good .0 .1 .1 .1 .0 .1 .0 .1);
-      well = well-formed _ (prefix-well c);
-    }
+prefix-formed c = parts-formed (prefix-well c)
 
 suffix-formed : (c : tie.Else2) → Formed (else2-start c .args .suffix)
-suffix-formed c =
-    let s : tie.Start = search in
-    record {
-      bytes = length-unmapped ℕ (s .args .suffix .bytes) 600 (s .good .1 .0 .1 .1 .0 .1 .0 .1);
-      lengths = length-unmapped ℕ (s .args .suffix .lengths) 20 (s .good .1 .0 .1 .1 .1 .0 .1 .0 .1);
-      well = well-formed _ (suffix-well c);
-    }
+suffix-formed c = parts-formed (suffix-well c)
 
 -- the builder of the whole prefix, its total, and the suffix's
 first-is : (c : tie.After-extended) → c .extended .result ≡ builderFrom (componentsOf (extended-start c .args .prefix))
@@ -96,7 +83,7 @@ extended-requires c κs =
     let start : tie.Start = search in
     let p = start .args .prefix in
     let n = after-new .new in
-    extendable-empty (n .result) p (p .count) (n .ensures) (prefix-formed (c .before .before)) (omega arith)
+    extendable-empty (n .result) p (p .count) (n .ensures) (prefix-well (c .before .before)) (omega arith)
 
 array-share-prefix-lengths : tie.Need-array-share-prefix-lengths
 array-share-prefix-lengths c = let f = suffix-formed (c .before .before) in omega (arith, f .lengths, f .well .count)

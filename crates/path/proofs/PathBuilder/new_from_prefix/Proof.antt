@@ -1,8 +1,7 @@
-use Rattle.codec.proofs.Prelude.{_≡_, sym, _∙_, [], true, ℕ, length-unmapped, needs, not-true, not-false, le-leb, lt-leb}
+use Rattle.codec.proofs.Prelude.{_≡_, sym, _∙_, [], true, needs, not-true, not-false, le-leb, lt-leb}
 use Rattle.path.specs.Record.{wellFormed}
 use Rattle.path.specs.Builder.{prefixBuilder}
-use Rattle.path.proofs.Record.{well-formed}
-use Rattle.path.proofs.Components.{Formed}
+use Rattle.path.proofs.Components.{Formed, parts-formed}
 use Rattle.path.proofs.Builder.{built-components, extendable-empty}
 use Rattle.path.proofs.PathBuilder.new_from_prefix.Statement.{statement}
 use Rattle.path.proofs.PathBuilder.new_from_prefix.Tie as tie
@@ -15,15 +14,8 @@ else1-start c = c .before .before .before
 well : (c : tie.Else1) → wellFormed (else1-start c .args .path) ≡ true
 well c = sym (c .before .well-formed .ensures) ∙ not-false (c .before .well-formed .result) (c .if1 .left)
 
--- and what owning it tells of its arrays
 formed : (c : tie.Else1) → Formed (else1-start c .args .path)
-formed c =
-    let s : tie.Start = search in
-    record {
-      bytes = length-unmapped ℕ (s .args .path .bytes) 600 (s .good .0 .1 .1 .0 .1 .0 .1);
-      lengths = length-unmapped ℕ (s .args .path .lengths) 20 (s .good .0 .1 .1 .1 .0 .1 .0 .1);
-      well = well-formed _ (well c);
-    }
+formed c = parts-formed (well c)
 
 returns : tie.Need-returns
 unfolding prefixBuilder
@@ -43,7 +35,7 @@ extended-requires c κs =
     let start : tie.Start = search in
     let a = start .args in
     let n = after-new .new in
-    extendable-empty (n .result) (a .path) (a .k) (n .ensures) (formed (c .before)) (c .if2 .left)
+    extendable-empty (n .result) (a .path) (a .k) (n .ensures) (well (c .before)) (c .if2 .left)
 
 returns-3 : tie.Need-returns-3
 unfolding prefixBuilder

@@ -6,7 +6,7 @@ use Rattle.codec.proofs.Answers.{gives-refused, later-accepted, later-refused}
 use Rattle.codec.proofs.Lending.{to-end}
 use Rattle.path.specs.declared.Path.{Path}
 use Rattle.path.specs.Limits.{totalOf}
-use Rattle.path.specs.Record.{sumOf, used, componentsOf, pathOf}
+use Rattle.path.specs.Record.{sumOf, used, componentsOf, pathOf, wellFormed}
 use Rattle.path.proofs.Components.{parts-formed, total-is}
 use Rattle.path_suffix.specs.Suffix.{sizesFrom, readSizes}
 use Rattle.path_codec.specs.Plain.{readAfter}
@@ -74,23 +74,25 @@ extends-at : (c : tie.After-decode-after) → let s = decode-after-start c in le
     readExtendsPath (s .args .canonic) (prefix s) (drop (s .args .start) (now (s .args .message)))
     ≡ shift (h .1 .1 .0) (readAfter (s .args .canonic) (used (prefix s)) (take (sumOf (used (prefix s))) (now (s .args .bytes))) (h .0) (h .1 .0)
     (drop (s .args .start + h .1 .1 .0) (now (s .args .message))))
+unfolding readExtendsPath
 extends-at c =
     let else2 : tie.Else2 = search in
     let else1 : tie.Else1 = search in
     let after-known-told : tie.After-known-told = search in
     let after-shared-slice-known : tie.After-shared-slice-known = search in
     let s : tie.Start = search in
-    extends-after _ (prefix s) (s .pre) (now (s .args .message)) (s .args .start) _ _ _ (sizes-are after-known-told)
-    (λ i. omega (arith, after-shared-slice-known .shared-slice-known .given i)) (total-fits else1)
+    extends-after wellFormed _ (prefix s) (s .pre) (parts-formed (s .pre)) (now (s .args .message)) (s .args .start) _ _ _ (sizes-are after-known-told)
+    (λ i. omega (arith, after-shared-slice-known .shared-slice-known .given i)) (s .pre) (total-fits else1)
     (omega (arith, else2 .if2 .left, parts-formed (s .pre) .well .count))
 
 returns : tie.Need-returns
+unfolding readExtendsPath
 returns c =
     let after-decode-sizes : tie.After-decode-sizes = search in
     let s : tie.Start = search in
     let x = no-sizes (after-decode-sizes .decode-sizes .result) (c .before .before .match .keys2) in
     rw (c .refuse .ensures, c .before .sizes-refusal .ensures)
-    (gives-refused (x .why) (x .path) (extends-sizes _ (prefix s) (s .pre) (now (s .args .message)) (s .args .start) (x .why) (sym (after-decode-sizes .decode-sizes .ensures) ∙ x .sizes)))
+    (gives-refused (x .why) (x .path) (extends-sizes wellFormed _ (prefix s) (s .pre) (parts-formed (s .pre)) (now (s .args .message)) (s .args .start) (x .why) (sym (after-decode-sizes .decode-sizes .ensures) ∙ x .sizes)))
 
 slice-aggregate-sum : tie.Need-slice-aggregate-sum
 slice-aggregate-sum c =
@@ -106,12 +108,13 @@ sub-if1 : tie.Need-sub-if1
 sub-if1 c = total-small c
 
 returns-2 : tie.Need-returns-2
+unfolding readExtendsPath
 returns-2 c =
     let after-known-told : tie.After-known-told = search in
     let after-shared-slice-known : tie.After-shared-slice-known = search in
     let s : tie.Start = search in
     rw
-    (extends-long _ (prefix s) (s .pre) (now (s .args .message)) (s .args .start) _ _ _ (sizes-are after-known-told)
+    (extends-long wellFormed _ (prefix s) (s .pre) (parts-formed (s .pre)) (now (s .args .message)) (s .args .start) _ _ _ (sizes-are after-known-told)
     (λ i. omega (arith, after-shared-slice-known .shared-slice-known .given i))
     (omega (arith, c .before .if1 .taken, total-small (c .before .before), total-sum (c .before .before))))
     (c .decode-outside .ensures)
@@ -122,12 +125,13 @@ sub-if2 c =
     parts-formed (start .pre) .well .count
 
 returns-3 : tie.Need-returns-3
+unfolding readExtendsPath
 returns-3 c =
     let after-known-told : tie.After-known-told = search in
     let after-shared-slice-known : tie.After-shared-slice-known = search in
     let s : tie.Start = search in
     rw
-    (extends-many _ (prefix s) (s .pre) (now (s .args .message)) (s .args .start) _ _ _ (sizes-are after-known-told)
+    (extends-many wellFormed _ (prefix s) (s .pre) (parts-formed (s .pre)) (now (s .args .message)) (s .args .start) _ _ _ (sizes-are after-known-told)
     (λ i. omega (arith, after-shared-slice-known .shared-slice-known .given i)) (total-fits (c .before .before))
     (omega (arith, c .before .if2 .taken, parts-formed (s .pre) .well .count)))
     (c .decode-outside2 .ensures)

@@ -98,12 +98,13 @@ joined-are c =
 joined-at : (c : tie.After-decode-joined) → let s = decode-joined-start c in let h = decode-joined-sizes c .sizes .given .0 in let n = decode-joined-number c .number .given .0 in
     readAgainstPath (s .args .canonic) (reference s) (drop (s .args .start) (now (s .args .message)))
     ≡ shift (n .1 .0) (shift (h .1 .1 .0) (readJoined (s .args .canonic) (reference s) (n .0) (h .0) (h .1 .0) (drop (s .args .start + n .1 .0 + h .1 .1 .0) (now (s .args .message)))))
+unfolding readAgainstPath
 joined-at c =
     let after-known-told2 : tie.After-known-told2 = search in
     let after-known-told : tie.After-known-told = search in
     let else1 : tie.Else1 = search in
     let s : tie.Start = search in
-    against-joined _ (reference s) (well else1) (now (s .args .message)) (s .args .start) _ _ (shared-are after-known-told) _ _ _ (sizes-are after-known-told2)
+    against-joined wellFormed _ (reference s) (well else1) (now (s .args .message)) (s .args .start) _ _ (shared-are after-known-told) _ _ _ (sizes-are after-known-told2)
 
 inside : (c : tie.After-path)
     → path-start c .args .start + path-number c .number .given .0 .1 .0 + path-sizes c .sizes .given .0 .1 .1 .0 + c .before .before .answer .given .0 .0
@@ -121,21 +122,24 @@ inside c =
     )
 
 returns : tie.Need-returns
-returns c = rw (c .refuse .ensures) (gives-refused 5 refl (against-malformed _ _ _ (sym (c .before .before .well-formed .ensures) ∙ not-true _ (c .before .if1 .taken))))
+unfolding readAgainstPath
+returns c = rw (c .refuse .ensures) (gives-refused 5 refl (against-malformed wellFormed _ _ _ (sym (c .before .before .well-formed .ensures) ∙ not-true _ (c .before .if1 .taken))))
 
 returns-2 : tie.Need-returns-2
+unfolding readAgainstPath
 returns-2 c =
     let after-decode : tie.After-decode = search in
     let else1 : tie.Else1 = search in
     let s : tie.Start = search in
     let x = refused-number (pathFrom []) (after-decode .decode .result) (c .before .before .match .keys2) in
     rw (c .refuse2 .ensures, c .before .refusal .ensures)
-    (gives-refused (x .why) (x .whole) (against-first _ (reference s) (well else1) (now (s .args .message)) (s .args .start) (x .why) (sym (after-decode .decode .ensures) ∙ x .number)))
+    (gives-refused (x .why) (x .whole) (against-first wellFormed _ (reference s) (well else1) (now (s .args .message)) (s .args .start) (x .why) (sym (after-decode .decode .ensures) ∙ x .number)))
 
 add-first : tie.Need-add-first
 add-first c = omega (arith, first-inside c)
 
 returns-3 : tie.Need-returns-3
+unfolding readAgainstPath
 returns-3 c =
     let after-decode-sizes : tie.After-decode-sizes = search in
     let after-known-told : tie.After-known-told = search in
@@ -144,17 +148,18 @@ returns-3 c =
     let x = no-sizes (after-decode-sizes .decode-sizes .result) (c .before .before .match2 .keys2) in
     rw (c .refuse3 .ensures, c .before .sizes-refusal .ensures)
     (gives-refused (x .why) (x .path)
-    (against-sizes _ (reference s) (well else1) (now (s .args .message)) (s .args .start) _ _ (shared-are after-known-told) (x .why)
+    (against-sizes wellFormed _ (reference s) (well else1) (now (s .args .message)) (s .args .start) _ _ (shared-are after-known-told) (x .why)
     (sym (after-decode-sizes .decode-sizes .ensures) ∙ x .sizes)))
 
 returns-4 : tie.Need-returns-4
+unfolding readAgainstPath
 returns-4 c =
     let after-known-told : tie.After-known-told = search in
     let else1 : tie.Else1 = search in
     let s : tie.Start = search in
     let w = well else1 in
     rw (c .refuse4 .ensures) (gives-refused 2 refl
-    (against-above _ (reference s) w (now (s .args .message)) (s .args .start) _ _ (shared-are after-known-told) _ _ _ (sizes-are (c .before .before))
+    (against-above wellFormed _ (reference s) w (now (s .args .message)) (s .args .start) _ _ (shared-are after-known-told) _ _ _ (sizes-are (c .before .before))
     (omega (arith, c .before .if2 .taken, count-is (reference s) (parts-formed w)))))
 
 add-at : tie.Need-add-at

@@ -2,8 +2,9 @@ use Rattle.codec.proofs.Prelude.{_≡_, refl, sym, ap, _∙_, List, false, ℕ,
 use Rattle.codec.specs.Answers.{outcomeOf, wrote}
 use Rattle.codec.specs.Format.{over, writeAnswer, writeBuffer}
 use Rattle.codec.proofs.Lending.{put-fits, no-length, written-is, wrote-not-denied}
-use Rattle.path.specs.Record.{pathOf}
-use Rattle.path_relative.specs.Records.{sharedFrom}
+use Rattle.path.specs.Record.{sized}
+use Rattle.path.specs.Flat.{pathIn}
+use Rattle.path_relative.specs.Records.{sharedBy}
 use Rattle.range_3d.specs.declared.PathRange.{PathRange}
 use Rattle.range_paths.specs.Records.{pathsWith}
 use Rattle.range3d_range3d.proofs.Writing.{start-within, both-open, both-closed, next-inside, put-next}
@@ -11,58 +12,46 @@ use Rattle.range3d_range3d_encode.proofs.range_encode.put_paths.Stateme
 use Rattle.range3d_range3d_encode.proofs.range_encode.put_paths.Tie as tie
 
 abbrev paths : tie.Start → PathRange
-paths c = let a = c .args in pathsWith (pathOf (now (a .start-bytes)) (now (a .start-lengths)) (a .start-count)) (a .end-open) (pathOf (now (a .end-bytes)) (now (a .end-lengths)) (a .end-count))
+paths c = pathsWith (pathIn (now (c .args .start))) (c .args .end-open) (pathIn (now (c .args .end)))
 
-fits : (c : tie.Start) → let f = sharedFrom (c .args .start-shared) in
-    (wrote (length (f .encode (paths c .start))) ≡ writeAnswer f (paths c .start) (length (now (c .args .buffer))))
-    × (over (f .encode (paths c .start)) (now (c .args .buffer)) ≡ writeBuffer f (paths c .start) (now (c .args .buffer)))
+abbrev first : tie.Start → List ℕ
+first c = sharedBy sized (c .args .paths .start .shared) .encode (paths c .start)
+
+abbrev last : tie.Start → List ℕ
+last c = sharedBy sized (c .args .paths .end .shared) .encode (paths c .end)
+
+fits : (c : tie.Start) → let f = sharedBy sized (c .args .paths .start .shared) in
+    (wrote (length (first c)) ≡ writeAnswer f (paths c .start) (length (now (c .args .buffer))))
+    × (over (first c) (now (c .args .buffer)) ≡ writeBuffer f (paths c .start) (now (c .args .buffer)))
 fits c =
-    let f = sharedFrom (c .args .start-shared) in
-    put-fits (f .check (paths c .start)) (f .encode (paths c .start)) (now (c .args .buffer)) (c .pre .0 .start) _ refl
-    (omega (arith, c .pre .1, start-within (paths c) (c .args .start-shared) (c .args .end-shared)))
+    let f = sharedBy sized (c .args .paths .start .shared) in
+    put-fits (f .check (paths c .start)) (first c) (now (c .args .buffer)) (c .pre .0 .start) _ refl (omega (arith, c .pre .1, start-within (paths c) (c .args .paths)))
 
 -- both have room
-room : (c : tie.Start) → c .args .end-open ≡ false
-    → length (sharedFrom (c .args .start-shared) .encode (paths c .start)) + length (sharedFrom (c .args .end-shared) .encode (paths c .end)) ≤ length (now (c .args .buffer))
-room c o =
-    omega (
-      arith,
-      c .pre .1,
-      ap length (both-closed (paths c) (c .args .start-shared) (c .args .end-shared) o),
-      length-append
-          (sharedFrom (c .args .start-shared) .encode (paths c .start)) (sharedFrom (c .args .end-shared) .encode (paths c .end)),
-    )
+room : (c : tie.Start) → c .args .end-open ≡ false → length (first c) + length (last c) ≤ length (now (c .args .buffer))
+room c o = omega (arith, c .pre .1, ap length (both-closed (paths c) (c .args .paths) o), length-append (first c) (last c))
 
 -- earlier places
 abbrev encode-shared-start : tie.After-encode-shared → tie.Start
-encode-shared-start c = c .before .before .before .before .before .before .before
+encode-shared-start c = c .before .before .before .before .before
 
 -- the start is written
-answer : (c : tie.After-encode-shared) → let s = encode-shared-start c in outcomeOf (c .encode-shared .result) ≡ wrote (length (sharedFrom (s .args .start-shared) .encode (paths s .start)))
-answer c =
-    let start : tie.Start = search in
-    c .encode-shared .ensures .0 ∙ sym (fits start .0)
+answer : (c : tie.After-encode-shared) → outcomeOf (c .encode-shared .result) ≡ wrote (length (first (encode-shared-start c)))
+answer c = c .encode-shared .ensures .answer ∙ sym (fits (encode-shared-start c) .0)
 
-there : (c : tie.After-encode-shared) → let s = encode-shared-start c in c .encode-shared .last .0 ≡ over (sharedFrom (s .args .start-shared) .encode (paths s .start)) (now (s .args .buffer))
-there c =
-    let start : tie.Start = search in
-    c .encode-shared .ensures .1 ∙ sym (fits start .1)
+there : (c : tie.After-encode-shared) → let s = encode-shared-start c in c .encode-shared .last .0 ≡ over (first s) (now (s .args .buffer))
+there c = c .encode-shared .ensures .buffer ∙ sym (fits (encode-shared-start c) .1)
 
-long : (c : tie.After-known-told) → let s = c .before .before .before .before .before .before .before .before .before .before .before .before in
-    c .before .start .given .0 .0 ≡ length (sharedFrom (s .args .start-shared) .encode (paths s .start))
+long : (c : tie.After-known-told) → c .before .first .given .0 .0 ≡ length (first (c .before .before .before .before .before .before .before .before .before .before))
 long c =
     let after-encode-shared : tie.After-encode-shared = search in
-    written-is _ _ (ap outcomeOf (sym (c .before .start .given .1)) ∙ answer after-encode-shared)
+    written-is _ _ (ap outcomeOf (sym (c .before .first .given .1)) ∙ answer after-encode-shared)
 
-inside : (c : tie.Else1) → c .before .before .start .given .0 .0 ≤ length (c .before .before .before .before .before .before .encode-shared .last .0)
+inside : (c : tie.Else1) → c .before .before .first .given .0 .0 ≤ length (c .before .before .before .before .before .before .encode-shared .last .0)
 inside c =
     let after-encode-shared : tie.After-encode-shared = search in
     let s : tie.Start = search in
-    omega (
-      arith,
-      next-inside (now (s .args .buffer)) (sharedFrom (s .args .start-shared) .encode (paths s .start))
-          (sharedFrom (s .args .end-shared) .encode (paths s .end)) _ _ (there after-encode-shared) (long (c .before)) (room s (c .if1 .left)),
-    )
+    omega (arith, next-inside (now (s .args .buffer)) (first s) (last s) _ _ (there after-encode-shared) (long (c .before)) (room s (c .if1 .left)))
 
 returns : tie.Need-returns
 returns c =
@@ -74,7 +63,7 @@ returns-2 : tie.Need-returns-2
 returns-2 c =
     let after-encode-shared : tie.After-encode-shared = search in
     let s : tie.Start = search in
-    there after-encode-shared ∙ ap (λ (bs : List ℕ). over bs (now (s .args .buffer))) (both-open (paths s) (s .args .start-shared) (s .args .end-shared) (c .if1 .taken))
+    there after-encode-shared ∙ ap (λ (bs : List ℕ). over bs (now (s .args .buffer))) (both-open (paths s) (s .args .paths) (c .if1 .taken))
 
 sub-encode-shared : tie.Need-sub-encode-shared
 sub-encode-shared c = inside c
@@ -90,10 +79,9 @@ returns-3 c =
     let s : tie.Start = search in
     let w = c .before .before .encode-shared2 in
     let o = else1 .if1 .left in
-    put-next (now (s .args .buffer)) (sharedFrom (s .args .start-shared) .encode (paths s .start))
-    (sharedFrom (s .args .end-shared) .encode (paths s .end)) _ _ (there after-encode-shared) (long after-known-told) (room s o) (w .last .0)
-    (rw (s .pre .0 .end o) at (w .ensures .1))
-    ∙ ap (λ (bs : List ℕ). over bs (now (s .args .buffer))) (both-closed (paths s) (s .args .start-shared) (s .args .end-shared) o)
+    put-next (now (s .args .buffer)) (first s) (last s) _ _ (there after-encode-shared) (long after-known-told) (room s o) (w .last .0)
+    (rw (s .pre .0 .end o) at (w .ensures .buffer))
+    ∙ ap (λ (bs : List ℕ). over bs (now (s .args .buffer))) (both-closed (paths s) (s .args .paths) o)
 
 pub put-paths-spec : {M : Type 1} → statement M
 put-paths-spec =

@@ -1,0 +1,34 @@
+use Rattle.codec.proofs.Prelude.{sym, _∙_, refl, now, not-true, not-false, needs}
+use Rattle.codec.proofs.Lending.{put-barred, same-writing, writes-into}
+use Rattle.path.specs.Flat.{pathIn}
+use Rattle.grouping.specs.declared.Area.{Area}
+use Rattle.grouping.specs.Record.{headed, sizedArea}
+use Rattle.area_area.specs.Records.{againstAreaBy, againstArea}
+use Rattle.area_area.proofs.Writing.{whole}
+use Rattle.area_area_encode.proofs.lent.relative_encode.Statement.{statement}
+use Rattle.area_area_encode.proofs.lent.relative_encode.Tie as tie
+
+abbrev area : tie.Start → Area
+area c = headed (c .args .area) (pathIn (now (c .args .path)))
+
+abbrev reference : tie.Start → Area
+reference c = headed (c .args .of) (pathIn (now (c .args .of-path)))
+
+returns : tie.Need-returns
+returns c =
+    let s : tie.Start = search in
+    writes-into (put-barred (againstArea (reference s) .check (area s)) _ (now (s .args .buffer)) 5
+    (rw (← (c .before .both-formed .ensures), not-true (c .before .both-formed .result) (c .if1 .taken))))
+
+returns-2 : tie.Need-returns-2
+returns-2 c =
+    let first : tie.After-both-formed = search in
+    let else1 : tie.Else1 = search in
+    let s : tie.Start = search in
+    let formed = sym (first .both-formed .ensures) ∙ not-false _ (else1 .if1 .left) in
+    let w = same-writing (againstAreaBy sizedArea (reference s)) (area s) (againstArea (reference s)) (whole (reference s) (area s) formed) refl (now (s .args .buffer)) in
+    let put = c .before .before .relative-encode .ensures in
+    writes-into (put .answer ∙ w .0, put .buffer ∙ w .1)
+
+pub relative-encode-spec : {M : Type 1} → statement M
+relative-encode-spec = tie.close (tie.spec (λ c κs. search needs) returns (λ c κs. search needs) (λ c. search needs) returns-2)

@@ -1,0 +1,118 @@
+use Rattle.codec.proofs.Prelude.{_≡_, sym, ap, _∙_, true, _&&_, arith, now, length, drop, not-true, not-false, needs}
+use Rattle.codec.specs.Answers.{outcomeOf, wrote}
+use Rattle.codec.specs.Format.{writeAnswer}
+use Rattle.codec.proofs.Lending.{put-barred, put-wrote, length-in-room, no-length, to-end, put-end, writes-into}
+use Rattle.path.specs.Record.{sized}
+use Rattle.path.specs.Flat.{pathIn}
+use Rattle.path_relative.specs.Records.{extendsBy}
+use Rattle.path_relative.proofs.Writing.{short-unchanged}
+use Rattle.path_relative.proofs.Lent.{extends-short}
+use Rattle.grouping.specs.declared.Area.{Area}
+use Rattle.grouping.specs.Area.{headInside}
+use Rattle.grouping.specs.Record.{headed, subspaceOf, sizedArea}
+use Rattle.area_area.specs.Records.{againstAreaBy}
+use Rattle.area_area.proofs.Writing.{unsized, outside, area-longer, area-refused, area-written}
+use Rattle.area_area_encode.proofs.sized.relative_encode.Statement.{statement}
+use Rattle.area_area_encode.proofs.sized.relative_encode.Tie as tie
+
+abbrev area : tie.Start → Area
+area c = headed (c .args .area) (pathIn (now (c .args .path)))
+
+abbrev reference : tie.Start → Area
+reference c = headed (c .args .of) (pathIn (now (c .args .of-path)))
+
+-- earlier places
+abbrev start2 : tie.Else2 → tie.Start
+start2 c = c .before .before .before .before .before .before .before
+
+abbrev start3 : tie.Else3 → tie.Start
+start3 c = start2 (c .before .before)
+
+abbrev rest-start : tie.After-known-told → tie.Else3
+rest-start c = c .before .before .before .before .before .before .before
+
+-- past both tests
+fit : (c : tie.Else2) → (sized (reference (start2 c) .path) && sized (area (start2 c) .path)) ≡ true
+fit c = sym (c .before .both-sized .ensures) ∙ not-false _ (c .if2 .left)
+
+inside : (c : tie.Else3) → let r = reference (start3 c) in let a = area (start3 c) in headInside (subspaceOf (r .subspace)) (r .times) (subspaceOf (a .subspace)) (a .times) ≡ true
+inside c = sym (c .before .contains .ensures) ∙ not-false _ (c .if3 .left)
+
+-- what the path was answered
+answer-of : (c : tie.After-known-told) → let s = start3 (rest-start c) in
+    writeAnswer (extendsBy sized (reference s .path)) (area s .path) (length (drop (rest-start c .before .before .before .before .before .head-len .result) (now (s .args .buffer)))) ≡ wrote (c .before .rest .given .0 .0)
+answer-of c =
+    let after : tie.After-encode-path-extends-path = search in
+    let after-head-len : tie.After-head-len = search in
+    let s : tie.Start = search in
+    sym (rw (to-end (after-head-len .head-len .result) (now (s .args .buffer))) at (after .encode-path-extends-path .ensures .answer)) ∙ ap outcomeOf (c .before .rest .given .1)
+
+returns : tie.Need-returns
+returns c =
+    let after-head-len : tie.After-head-len = search in
+    let s : tie.Start = search in
+    let f = againstAreaBy sizedArea (reference s) in
+    let l = now (s .args .buffer) in
+    let short = short-unchanged (f .check (area s)) (f .encode (area s)) l (omega (arith, c .before .before .if1 .taken, area-longer (reference s) (area s) _ (after-head-len .head-len .ensures .0))) in
+    writes-into (length-in-room f (area s) (c .before .relative-len-of-encoding .result) (c .in-room .result) (length l) (c .before .relative-len-of-encoding .ensures) (c .in-room .ensures), short)
+
+returns-2 : tie.Need-returns-2
+returns-2 c =
+    let s : tie.Start = search in
+    writes-into (put-barred (againstAreaBy sizedArea (reference s) .check (area s)) _ (now (s .args .buffer)) 5
+    (unsized (reference s) (area s) (sym (c .before .both-sized .ensures) ∙ not-true (c .before .both-sized .result) (c .if2 .taken))))
+
+returns-3 : tie.Need-returns-3
+returns-3 c =
+    let else2 : tie.Else2 = search in
+    let s : tie.Start = search in
+    writes-into (put-barred (againstAreaBy sizedArea (reference s) .check (area s)) _ (now (s .args .buffer)) 3
+    (outside (reference s) (area s) (fit else2) (sym (c .before .contains .ensures) ∙ not-true (c .before .contains .result) (c .if3 .taken))))
+
+returns-4 : tie.Need-returns-4
+returns-4 c =
+    let after : tie.After-encode-path-extends-path = search in
+    let after-head-len : tie.After-head-len = search in
+    let else1 : tie.Else1 = search in
+    let else3 : tie.Else3 = search in
+    let s : tie.Start = search in
+    let n = after-head-len .head-len in
+    let l = now (s .args .buffer) in
+    let w = after .encode-path-extends-path in
+    let none = no-length (w .result) (c .match .keys2) in
+    let answer = rw (to-end (n .result) l) at (w .ensures .answer) in
+    let bytes = rw (to-end (n .result) l) at (w .ensures .buffer) in
+    let done = area-refused (reference s) (area s) (inside else3) (n .result) (n .ensures .0) l (else1 .if1 .left) (none .why) (w .last .0) (sym answer ∙ none .is) bytes in
+    writes-into (none .is ∙ done .0, put-end (n .result) l (w .last .0) ∙ done .1)
+
+add-t12 : tie.Need-add-t12
+add-t12 c =
+    let after-known-told : tie.After-known-told = search in
+    let after-head-len : tie.After-head-len = search in
+    let s : tie.Start = search in
+    let f = extendsBy sized (reference s .path) in
+    let w = put-wrote (f .check (area s .path)) (f .encode (area s .path)) _ _ (answer-of after-known-told) in
+    omega (arith, w .long, extends-short (reference s .path) (area s .path) (w .allows), after-head-len .head-len .ensures .1)
+
+returns-5 : tie.Need-returns-5
+returns-5 c =
+    let after-known-told : tie.After-known-told = search in
+    let after : tie.After-encode-path-extends-path = search in
+    let after-head-len : tie.After-head-len = search in
+    let else1 : tie.Else1 = search in
+    let else3 : tie.Else3 = search in
+    let s : tie.Start = search in
+    let n = after-head-len .head-len in
+    let l = now (s .args .buffer) in
+    let w = after .encode-path-extends-path in
+    let bytes = rw (to-end (n .result) l) at (w .ensures .buffer) in
+    let done = area-written (reference s) (area s) (inside else3) (n .result) (n .ensures .0) l (else1 .if1 .left) _ (w .last .0) (answer-of after-known-told) bytes in
+    writes-into (done .0, rw (put-end (n .result) l (w .last .0)) at (c .before .before .put-head .ensures) ∙ done .1)
+
+pub relative-encode-spec : {M : Type 1} → statement M
+relative-encode-spec =
+    tie.close
+    (tie.spec
+    (λ c κs. search needs) (λ c κs. search needs) (λ c κs. search needs) returns (λ c κs. search needs) returns-2 (λ c κs. search needs)
+    returns-3 (λ c. search needs) (λ c. search needs) (λ c. search needs) (λ c κs. search needs) (λ c. search needs) (λ c. search needs)
+    returns-4 (λ c. search needs) add-t12 (λ c. search needs) returns-5)

@@ -1,0 +1,70 @@
+// Areas whose paths are lent as their records: sizes are tested.
+ghost use mathlib.Core.Path.{_≡_};
+ghost use Rattle.codec.specs.Answers.{outcomeOf};
+ghost use Rattle.codec.specs.Format.{lengthAnswer, WritesInto};
+ghost use Rattle.path.specs.Flat.{pathIn};
+ghost use Rattle.grouping.specs.Record.{headed, sizedArea};
+ghost use Rattle.area_area.specs.Records.{againstAreaBy};
+use crate::area_encode;
+use codec::Encoded;
+use grouping::AreaHead;
+
+// How many bytes an area against a reference takes.
+pub fn relative_len_of_encoding<'a>(
+    area: AreaHead,
+    path: &'a [u8],
+    of: AreaHead,
+    of_path: &'a [u8],
+) -> Encoded
+    ensures { λ r. ⌜ outcomeOf r ≡ lengthAnswer (againstAreaBy sizedArea (headed of (pathIn (now («of_path» .entry))))) (headed area (pathIn (now (path .entry)))) ⌝ }
+{
+    let fit = path::lent::both_sized(of_path, path);
+    if !fit {
+        return Encoded::Malformed;
+    }
+    let inside = of.contains(area);
+    if !inside {
+        return Encoded::Outside;
+    }
+    let rest = path_relative_encode::sized::path_extends_path_encoding_len(path, of_path);
+    let Encoded::Length(n) = rest else {
+        return rest;
+    };
+    let a = area_encode::head_len(area.subspace, of.subspace, area.times, of.times);
+    Encoded::Length(a + n)
+}
+
+// Writes an area against a reference: the path before what comes first, since it is what may not fit.
+pub fn relative_encode<'a>(
+    buffer: &mut [u8],
+    area: AreaHead,
+    path: &'a [u8],
+    of: AreaHead,
+    of_path: &'a [u8],
+) -> Encoded
+    ensures { λ r. ⌜ WritesInto (againstAreaBy sizedArea (headed of (pathIn (now («of_path» .entry))))) (headed area (pathIn (now (path .entry)))) r (now (buffer .entry)) (now (buffer .exit)) ⌝ }
+{
+    let a = area_encode::head_len(area.subspace, of.subspace, area.times, of.times);
+    if buffer.len() < a {
+        let whole = relative_len_of_encoding(area, path, of, of_path);
+        return byte_codec::in_room(whole, buffer.len());
+    }
+    let fit = path::lent::both_sized(of_path, path);
+    if !fit {
+        return Encoded::Malformed;
+    }
+    let inside = of.contains(area);
+    if !inside {
+        return Encoded::Outside;
+    }
+    let rest = path_relative_encode::sized::encode_path_extends_path(
+        &mut buffer[a..],
+        path,
+        of_path,
+    );
+    let Encoded::Length(n) = rest else {
+        return rest;
+    };
+    area_encode::put_head(buffer, area.subspace, of.subspace, area.times, of.times);
+    Encoded::Length(a + n)
+}

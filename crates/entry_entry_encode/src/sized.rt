@@ -1,0 +1,52 @@
+// Entries whose paths are lent as their records, whose sizes are tested: for the records above.
+ghost use mathlib.Core.Path.{_≡_};
+ghost use Rattle.codec.specs.Answers.{outcomeOf};
+ghost use Rattle.codec.specs.Format.{lengthAnswer, WritesInto};
+ghost use Rattle.path.specs.Flat.{pathIn};
+ghost use Rattle.entry.specs.Record.{entryWith, sizedEntry};
+ghost use Rattle.entry_entry.specs.Records.{againstEntryBy};
+use codec::Encoded;
+use entry::EntryFields;
+use path::ComponentCount;
+
+// How many bytes an entry against a reference takes.
+pub fn relative_len_of_encoding<'a>(
+    fields: EntryFields,
+    path: &'a [u8],
+    of: EntryFields,
+    of_path: &'a [u8],
+) -> Encoded
+    ensures { λ r. ⌜ outcomeOf r ≡ lengthAnswer (againstEntryBy sizedEntry (entryWith of (pathIn (now («of_path» .entry))))) (entryWith fields (pathIn (now (path .entry)))) ⌝ }
+{
+    let len = path_relative_encode::sized::relative_len_of_encoding(path, of_path);
+    let Encoded::Length(n) = len else {
+        return len;
+    };
+    Encoded::Length(crate::entry_encode::entry_len(fields, of, n))
+}
+
+// Writes an entry against a reference.
+pub fn relative_encode<'a>(
+    buffer: &mut [u8],
+    fields: EntryFields,
+    path: &'a [u8],
+    of: EntryFields,
+    of_path: &'a [u8],
+) -> Encoded
+    ensures { λ r. ⌜ WritesInto (againstEntryBy sizedEntry (entryWith of (pathIn (now («of_path» .entry))))) (entryWith fields (pathIn (now (path .entry)))) r (now (buffer .entry)) (now (buffer .exit)) ⌝ }
+{
+    let common = path::lent::longest_common_prefix(of_path, path);
+    let ComponentCount::Components(k) = common else {
+        return Encoded::Malformed;
+    };
+    let shared = path_relative_encode::sized::shared_len(path, k);
+    let Encoded::Length(n) = shared else {
+        return shared;
+    };
+    let len = crate::entry_encode::entry_len(fields, of, n);
+    if buffer.len() < len {
+        return Encoded::NoRoom;
+    }
+    crate::entry_encode::put_entry(buffer, fields, of, path, k);
+    Encoded::Length(len)
+}

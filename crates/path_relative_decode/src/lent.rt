@@ -1,0 +1,45 @@
+// Reading into a lent record against a path and as its extension: here the reference comes in, and is tested whole.
+ghost use mathlib.Core.List.{[]};
+ghost use lib.ListN.{drop};
+ghost use Rattle.codec.specs.Answers.{Gives};
+ghost use Rattle.path.specs.Record.{pathFrom};
+ghost use Rattle.path.specs.Flat.{pathIn};
+ghost use Rattle.path_relative.specs.Records.{readAgainstPath, readExtendsPath};
+use crate::sized;
+use codec::Decoded;
+
+// Reads a path against a reference.
+pub fn relative_decode(
+    message: &[u8],
+    start: usize,
+    canonic: bool,
+    reference: &[u8],
+    out: &mut [u8; 641],
+) -> Decoded
+    ensures { λ r. ⌜ Gives (pathFrom []) r (pathIn (now (out .exit))) (readAgainstPath canonic (pathIn (now (reference .entry))) (drop start (now (message .entry)))) ⌝ }
+{
+    let well = path::lent::well_formed(reference);
+    if !well {
+        path::lent::clear(out);
+        return Decoded::Malformed;
+    }
+    sized::relative_decode(message, start, canonic, reference, out)
+}
+
+// Reads an extension of a path.
+pub fn decode_path_extends_path(
+    message: &[u8],
+    start: usize,
+    canonic: bool,
+    extends: &[u8],
+    out: &mut [u8; 641],
+) -> Decoded
+    ensures { λ r. ⌜ Gives (pathFrom []) r (pathIn (now (out .exit))) (readExtendsPath canonic (pathIn (now (extends .entry))) (drop start (now (message .entry)))) ⌝ }
+{
+    let well = path::lent::well_formed(extends);
+    if !well {
+        path::lent::clear(out);
+        return Decoded::Malformed;
+    }
+    sized::decode_path_extends_path(message, start, canonic, extends, out)
+}

@@ -1,0 +1,30 @@
+use Rattle.codec.proofs.Prelude.{sym, _∙_, refl, now, not-true, not-false, needs}
+use Rattle.codec.proofs.Lending.{length-barred, same-length}
+use Rattle.path.specs.declared.Path.{Path}
+use Rattle.path.specs.Record.{sized}
+use Rattle.path.specs.Flat.{pathIn}
+use Rattle.path_relative.specs.Records.{againstBy, againstPath}
+use Rattle.path_relative.proofs.Lent.{against-whole}
+use Rattle.path_relative_encode.proofs.lent.relative_len_of_encoding.Statement.{statement}
+use Rattle.path_relative_encode.proofs.lent.relative_len_of_encoding.Tie as tie
+
+abbrev path : tie.Start → Path
+path c = pathIn (now (c .args .path))
+
+abbrev reference : tie.Start → Path
+reference c = pathIn (now (c .args .reference))
+
+returns : tie.Need-returns
+returns c =
+    let s : tie.Start = search in
+    length-barred (againstPath (reference s)) (path s) 5 (rw (← (c .before .both-formed .ensures), not-true (c .before .both-formed .result) (c .if1 .taken)))
+
+returns-2 : tie.Need-returns-2
+returns-2 c =
+    let after-both-formed : tie.After-both-formed = search in
+    let s : tie.Start = search in
+    let formed = sym (after-both-formed .both-formed .ensures) ∙ not-false _ (c .before .if1 .left) in
+    c .relative-len-of-encoding .ensures ∙ same-length (againstBy sized (reference s)) (path s) (againstPath (reference s)) (against-whole (reference s) (path s) formed) refl
+
+pub relative-len-of-encoding-spec : {M : Type 1} → statement M
+relative-len-of-encoding-spec = tie.close (tie.spec (λ c κs. search needs) returns (λ c κs. search needs) returns-2)
