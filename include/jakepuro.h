@@ -1,6 +1,8 @@
 /* The path codec and relative encodings of the Willow protocol, proved: docs/ABI.md.
  *
- * Every function may be called with any content of what is lent to it. It answers JAKEPURO_OK or the number of a refusal:
+ * Header and archive go together: a program asks jakepuro_version_matches() once, before any other call.
+ *
+ * Every other function may be called with any content of what is lent to it. It answers JAKEPURO_OK or the number of a refusal:
  *
  *   JAKEPURO_END_OF_INPUT  reading: the next field needs a byte past the message's end
  *   JAKEPURO_THEIR_FAULT   reading: the bytes are no encoding against this reference
@@ -29,6 +31,19 @@
 #ifdef __cplusplus
 extern "C" {
 #endif
+
+/* ---- Version: raised when a declared function or record moves. */
+
+#define JAKEPURO_VERSION 1
+
+/* The archive's version. */
+uint32_t jakepuro_version(void);
+
+/* 1 if the archive is of this header's version, else 0: then no other function may be called. */
+static inline int jakepuro_version_matches(void)
+{
+    return jakepuro_version() == JAKEPURO_VERSION;
+}
 
 enum {
     JAKEPURO_OK = 0,

@@ -22,6 +22,12 @@ static void print_path(const jakepuro_path *path)
 
 int main(void)
 {
+    /* Once, before any other call. */
+    if (!jakepuro_version_matches()) {
+        printf("the archive is of version %lu, the header of %d\n", (unsigned long)jakepuro_version(), JAKEPURO_VERSION);
+        return 1;
+    }
+
     /* The reference: any subspace, the paths below /blog, from 1000 on. A record of zeros is well formed. */
     jakepuro_area reference = {0};
     reference.any = 1;

@@ -1,4 +1,5 @@
 //! What records offer, under willow-rs's names.
+use crate::version::assert_version;
 use crate::Refusal;
 
 /// A value that is written by itself.
@@ -51,8 +52,9 @@ pub trait RelativeDecodableCanonic<R>: RelativeDecodable<R> {
     ) -> Result<(Self, usize), Refusal>;
 }
 
-/// What a call counted.
+/// What a call counted. Every call that the types of the crate's root make goes through here.
 pub(crate) fn counted(call: impl FnOnce(&mut usize) -> u8) -> Result<usize, Refusal> {
+    assert_version();
     let mut count = 0;
     Refusal::from_answer(call(&mut count))?;
     Ok(count)

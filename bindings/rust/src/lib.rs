@@ -4,6 +4,9 @@
 //! jakepuro` in the repository builds the archive; the environment variable `JAKEPURO_LIB_DIR` names the
 //! folder of an archive elsewhere. The formats and refusals are those of docs/FORMAT.md.
 //!
+//! An archive of another version than this crate's [`VERSION`] is not called: every call of the types below
+//! panics and says so. [`check_version`] tells it by a value; a program that calls [`raw`] asks it first.
+//!
 //! The names are willow-rs's, as `Path<300, 20, 600>` and with ids and digests of 32 bytes. Nothing is
 //! allocated: writers take a lent buffer, readers a message and where to start in it.
 //!
@@ -42,6 +45,7 @@ mod range3d;
 #[allow(unsafe_code)]
 pub mod raw;
 mod refusal;
+mod version;
 
 pub use area::{Area, AreaSubspace};
 pub use codec::{
@@ -57,7 +61,9 @@ pub use path_codec::{
 };
 pub use range::{Range, RangeEnd, TimeRange};
 pub use range3d::Range3d;
+pub use raw::version;
 pub use refusal::Refusal;
+pub use version::{check_version, VersionMismatch, VERSION};
 
 /// A namespace's id.
 pub type NamespaceId = [u8; raw::ID_LENGTH];

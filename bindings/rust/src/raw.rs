@@ -4,6 +4,9 @@
 //! handed in, in every field: what is not well formed is refused with 5, and nothing is changed. So all
 //! calls are safe. They answer 0 or a refusal's number ([`Refusal::from_answer`](crate::Refusal::from_answer));
 //! what is left beside a refusal is as the header says.
+//!
+//! All of this is said of an archive of this crate's [`VERSION`](crate::VERSION). The calls here do not look:
+//! ask [`check_version`](crate::check_version) once before them.
 
 /// The most bytes of a component.
 pub const MAX_COMPONENT_LENGTH: usize = 300;
@@ -203,6 +206,18 @@ calls! {
     /// 3d ranges against a 3d range: lenient reading only.
     range3d_range3d_encode, range3d_range3d_len_of_encoding, range3d_range3d_decode
     Range3d [reference: Range3d]
+}
+
+mod archive {
+    extern "C" {
+        pub fn jakepuro_version() -> u32;
+    }
+}
+
+/// The version of the archive that is linked.
+pub fn version() -> u32 {
+    // SAFETY: it takes nothing, and every version of the archive has it.
+    unsafe { archive::jakepuro_version() }
 }
 
 mod numbers {

@@ -15,7 +15,7 @@ use Rattle.path_relative.specs.Extension.{extensionBytes, ExtensionAs}
 use Rattle.path_relative.proofs.Extension.{extension-reads, extension-relaxes, extension-bounded}
 use Rattle.grouping.specs.Range.{TypedRange, endValue, bounds, includesRange}
 use Rattle.grouping.specs.Area.{AreaValue, TypedSubspace, includesSubspace, includesArea, liesInside}
-use Rattle.area_times.specs.declared.Header.{Header}
+use Rattle.area_times.specs.declared.AreaHeader.{AreaHeader}
 use Rattle.area_times.specs.Header.{unpackHeader, packHeader, HeaderFits, spareBits}
 use Rattle.area_times.specs.Times.{headerOf, timesBytes, readTimes}
 use Rattle.area_times.specs.Relations.{TimesAs}
@@ -53,7 +53,7 @@ inside-of r a i = rw (i .subspace, i .prefix, i .included, i .start, i .end)
 
 -- ---- reading
 module _ (r : AreaValue) where
-  PartsRel : Header → AreaValue → List ℕ → Type 0
+  PartsRel : AreaHeader → AreaValue → List ℕ → Type 0
   PartsRel h = Joined (SubspaceAs (r .subspace) (h .«id_written»)) (λ s. Joined (TimesAs (r .times) h) (λ t. Mapped (valueFrom s t) (ExtensionAs (r .path))))
 
   Rel : AreaValue → List ℕ → Type 0
@@ -137,7 +137,7 @@ module _ (r : AreaValue) where
       then-relaxes (readTimes true (r .times) h) (readTimes false (r .times) h) _ _ (times-relaxes (r .times) h) (λ t.
       mapped-relaxes (valueFrom s t) _ _ (extension-relaxes (r .path))))))
 
-  pub parts-bounded : (h : Header) (canonic : Bool) → Bounded (readParts canonic r h)
+  pub parts-bounded : (h : AreaHeader) (canonic : Bool) → Bounded (readParts canonic r h)
   unfolding readParts
   parts-bounded h canonic =
       then-bounded (readSubspace canonic (r .subspace) (h .«id_written»)) _ (subspace-bounded (r .subspace) (h .«id_written») canonic) (λ s.

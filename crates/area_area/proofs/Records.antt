@@ -9,10 +9,9 @@ use Rattle.codec.proofs.Lawful.{verdict-allowed, lawful-of, reshaped-lawful, re
 use Rattle.codec.proofs.Demand3.{demand3}
 use Rattle.path.specs.Limits.{pathOk}
 use Rattle.path.proofs.Limits.{path-ok, ok-path, typed-of}
-use Rattle.grouping.specs.declared.Area.{Area}
+use Rattle.grouping.specs.Record.{Area, areaOf, areaFrom, wellFormedArea, TypedArea}
 use Rattle.grouping.specs.Range.{TypedRange}
 use Rattle.grouping.specs.Area.{AreaValue, TypedValue, liesInside}
-use Rattle.grouping.specs.Record.{areaOf, areaFrom, wellFormedArea, TypedArea}
 use Rattle.grouping.proofs.Record.{apart-area, made-area}
 use Rattle.time_relative.proofs.Time.{within}
 use Rattle.area_area.specs.Area.{areaBytes, readArea}

@@ -1,7 +1,7 @@
 -- What the writers' definitions say at each step of the code.
-use Rattle.codec.proofs.Prelude.{_≡_, refl, sym, ap, _∙_, List, [], _++_, append-assoc, Bool, true, false, cond, _&&_, not, true≢false, false≢true, none, some, ℕ, _+_, _≤_, _<_, arith, length, take, drop, length-append}
+use Rattle.codec.proofs.Prelude.{_≡_, refl, sym, _∙_, List, [], _++_, append-assoc, Bool, true, false, cond, _&&_, not, true≢false, false≢true, none, some, ℕ, _+_, _≤_, arith, length, take, drop, length-append}
 use Rattle.codec.specs.Answers.{wrote, denied}
-use Rattle.codec.specs.Format.{allowed, barred, verdictBy, over, writeAnswer, writeBuffer}
+use Rattle.codec.specs.Format.{barred, verdictBy, over, writeAnswer, writeBuffer}
 use Rattle.codec.proofs.Lending.{put-wrote}
 use Rattle.codec.proofs.Tests.{and-left, and-right}
 use Rattle.path.specs.Record.{componentsOf, sized}
@@ -10,9 +10,8 @@ use Rattle.path_relative.specs.Extension.{extensionBytes}
 use Rattle.path_relative.specs.Records.{extendsBy}
 use Rattle.path_relative.proofs.Writing.{rest-denied, rest-written}
 use Rattle.grouping.specs.declared.AreaSubspace.{AreaSubspace}
-use Rattle.grouping.specs.declared.Area.{Area}
+use Rattle.grouping.specs.Record.{Area, subspaceOf, areaOf, wellFormedSubspace, wellFormedArea, sizedArea}
 use Rattle.grouping.specs.Area.{liesInside, headInside}
-use Rattle.grouping.specs.Record.{subspaceOf, areaOf, wellFormedSubspace, wellFormedArea, sizedArea}
 use Rattle.grouping.proofs.Heads.{head-outside, head-inside}
 use Rattle.area_times.specs.Times.{timesBytes}
 use Rattle.area_area.specs.Area.{idWritten, subspaceBytes, startBytes, areaBytes, headBytes}

@@ -9,7 +9,7 @@ use Rattle.codec.specs.Reader.{Reader, give, someBytes, andThen, guard, checked
 use Rattle.path_relative.specs.Extension.{extensionBytes, readExtension}
 use Rattle.grouping.specs.declared.TimeRange.{TimeRange}
 use Rattle.grouping.specs.Area.{AreaValue, includesSubspace}
-use Rattle.area_times.specs.declared.Header.{Header}
+use Rattle.area_times.specs.declared.AreaHeader.{AreaHeader}
 use Rattle.area_times.specs.Header.{unpackHeader, packHeader, spareBits}
 use Rattle.area_times.specs.Times.{headerOf, timesBytes, readTimes}
 
@@ -19,7 +19,7 @@ idWritten none none = false
 idWritten none (some id) = true
 idWritten (some r) s = false
 
-abbrev pub areaHeader : AreaValue → AreaValue → Header
+abbrev pub areaHeader : AreaValue → AreaValue → AreaHeader
 areaHeader r a = headerOf (idWritten (r .subspace) (a .subspace)) (r .times) (a .times)
 
 abbrev pub subspaceBytes : Option (List ℕ) → Option (List ℕ) → List ℕ
@@ -58,7 +58,7 @@ readSubspace canonic r written =
 abbrev pub valueFrom : Option (List ℕ) → TimeRange → List (List ℕ) → AreaValue
 valueFrom subspace times path = record { subspace = subspace; path = path; times = times }
 
-unfoldable pub readParts : Bool → AreaValue → Header → Reader AreaValue
+unfoldable pub readParts : Bool → AreaValue → AreaHeader → Reader AreaValue
 readParts canonic r h =
     andThen (readSubspace canonic (r .subspace) (h .«id_written»)) (λ subspace.
     andThen (readTimes canonic (r .times) h) (λ times.

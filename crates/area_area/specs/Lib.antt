@@ -1,4 +1,3 @@
 pub mod Area
 pub mod Records
-pub mod Answers
 pub mod Relations

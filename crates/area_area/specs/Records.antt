@@ -1,13 +1,10 @@
--- docs/FORMAT.md, "Areas": areas against an area, as the code holds them. 5 is tested on the reference and on the area, then 3: the area lies inside.
+-- docs/FORMAT.md, "Areas": areas against an area, on records. 5 is tested on the reference and on the area, then 3: the area lies inside.
 use mathlib.Core.Bool.{Bool, _&&_}
 use Rattle.codec.specs.Format.{Format, verdictBy}
 use Rattle.codec.specs.Reader.{Reader, mapped, onFormed}
-use Rattle.path.specs.Record.{wellFormed}
-use Rattle.grouping.specs.declared.Area.{Area}
+use Rattle.grouping.specs.Record.{Area, areaOf, areaFrom, wellFormedArea}
 use Rattle.grouping.specs.Area.{liesInside}
-use Rattle.grouping.specs.Record.{areaOf, areaFrom, wellFormedArea}
-use Rattle.area_times.specs.declared.Header.{Header}
-use Rattle.area_area.specs.Area.{areaBytes, readParts, readArea}
+use Rattle.area_area.specs.Area.{areaBytes, readArea}
 
 -- 5 unless both records pass the test, then 3 unless the area lies inside
 abbrev pub againstAreaBy : (Area → Bool) → Area → Format Area
@@ -21,7 +18,3 @@ againstArea = againstAreaBy wellFormedArea
 
 unfoldable pub readAgainstArea : Bool → Area → Reader Area
 readAgainstArea canonic r = onFormed (wellFormedArea r) (mapped areaFrom (readArea canonic (areaOf r)))
-
--- ---- inside the reader: what follows the header, 5 tested on the path of the reference alone
-unfoldable pub readPartsOf : Bool → Area → Header → Reader Area
-readPartsOf canonic r h = onFormed (wellFormed (r .path)) (mapped areaFrom (readParts canonic (areaOf r) h))

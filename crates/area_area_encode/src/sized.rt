@@ -3,7 +3,7 @@ ghost use mathlib.Core.Path.{_≡_};
 ghost use Rattle.codec.specs.Answers.{outcomeOf};
 ghost use Rattle.codec.specs.Format.{lengthAnswer, WritesInto};
 ghost use Rattle.path.specs.Flat.{pathIn};
-ghost use Rattle.grouping.specs.Record.{headed, sizedArea};
+ghost use Rattle.grouping.specs.Record.{areaWith, sizedArea};
 ghost use Rattle.area_area.specs.Records.{againstAreaBy};
 use crate::area_encode;
 use codec::Encoded;
@@ -13,24 +13,29 @@ use grouping::AreaHead;
 pub fn relative_len_of_encoding<'a>(
     area: AreaHead,
     path: &'a [u8],
-    of: AreaHead,
-    of_path: &'a [u8],
+    reference: AreaHead,
+    reference_path: &'a [u8],
 ) -> Encoded
-    ensures { λ r. ⌜ outcomeOf r ≡ lengthAnswer (againstAreaBy sizedArea (headed of (pathIn (now («of_path» .entry))))) (headed area (pathIn (now (path .entry)))) ⌝ }
+    ensures { λ r. ⌜ outcomeOf r ≡ lengthAnswer (againstAreaBy sizedArea (areaWith reference (pathIn (now («reference_path» .entry))))) (areaWith area (pathIn (now (path .entry)))) ⌝ }
 {
-    let fit = path::lent::both_sized(of_path, path);
+    let fit = path::lent::both_sized(reference_path, path);
     if !fit {
         return Encoded::Malformed;
     }
-    let inside = of.contains(area);
+    let inside = reference.contains(area);
     if !inside {
         return Encoded::Outside;
     }
-    let rest = path_relative_encode::sized::path_extends_path_encoding_len(path, of_path);
+    let rest = path_relative_encode::sized::path_extends_path_encoding_len(path, reference_path);
     let Encoded::Length(n) = rest else {
         return rest;
     };
-    let a = area_encode::head_len(area.subspace, of.subspace, area.times, of.times);
+    let a = area_encode::head_len(
+        area.subspace,
+        reference.subspace,
+        area.times,
+        reference.times,
+    );
     Encoded::Length(a + n)
 }
 
@@ -39,32 +44,43 @@ pub fn relative_encode<'a>(
     buffer: &mut [u8],
     area: AreaHead,
     path: &'a [u8],
-    of: AreaHead,
-    of_path: &'a [u8],
+    reference: AreaHead,
+    reference_path: &'a [u8],
 ) -> Encoded
-    ensures { λ r. ⌜ WritesInto (againstAreaBy sizedArea (headed of (pathIn (now («of_path» .entry))))) (headed area (pathIn (now (path .entry)))) r (now (buffer .entry)) (now (buffer .exit)) ⌝ }
+    ensures { λ r. ⌜ WritesInto (againstAreaBy sizedArea (areaWith reference (pathIn (now («reference_path» .entry))))) (areaWith area (pathIn (now (path .entry)))) r (now (buffer .entry)) (now (buffer .exit)) ⌝ }
 {
-    let a = area_encode::head_len(area.subspace, of.subspace, area.times, of.times);
+    let a = area_encode::head_len(
+        area.subspace,
+        reference.subspace,
+        area.times,
+        reference.times,
+    );
     if buffer.len() < a {
-        let whole = relative_len_of_encoding(area, path, of, of_path);
+        let whole = relative_len_of_encoding(area, path, reference, reference_path);
         return byte_codec::in_room(whole, buffer.len());
     }
-    let fit = path::lent::both_sized(of_path, path);
+    let fit = path::lent::both_sized(reference_path, path);
     if !fit {
         return Encoded::Malformed;
     }
-    let inside = of.contains(area);
+    let inside = reference.contains(area);
     if !inside {
         return Encoded::Outside;
     }
     let rest = path_relative_encode::sized::encode_path_extends_path(
         &mut buffer[a..],
         path,
-        of_path,
+        reference_path,
     );
     let Encoded::Length(n) = rest else {
         return rest;
     };
-    area_encode::put_head(buffer, area.subspace, of.subspace, area.times, of.times);
+    area_encode::put_head(
+        buffer,
+        area.subspace,
+        reference.subspace,
+        area.times,
+        reference.times,
+    );
     Encoded::Length(a + n)
 }

@@ -7,11 +7,11 @@ use Rattle.grouping.specs.declared.RangeEnd.the-variants.{Closed, Open}
 use Rattle.grouping.specs.declared.TimeRange.{TimeRange}
 use Rattle.grouping.specs.Range.{includesRange}
 use Rattle.time_relative.specs.Difference.{differenceOf, readTime}
-use Rattle.area_times.specs.declared.Header.{Header}
+use Rattle.area_times.specs.declared.AreaHeader.{AreaHeader}
 use Rattle.area_times.specs.Times.{timesBytes, readEnd, timesFrom, readTimes}
 
 -- ---- reading
-module _ (canonic : Bool) (r : TimeRange) (h : Header) (s : List ℕ) where
+module _ (canonic : Bool) (r : TimeRange) (h : AreaHeader) (s : List ℕ) where
   module _ (o : h .«end_open» ≡ true) where
     pub end-fault : h .«end_added» ≡ true → readEnd canonic r h s ≡ refused 2
     unfolding readEnd

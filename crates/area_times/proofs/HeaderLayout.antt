@@ -4,7 +4,7 @@ use Rattle.codec.specs.Header.{field, placed, bit, Layout}
 use Rattle.codec.proofs.Header.{field-fits, bit-small, flag-of, same-bytes}
 use Rattle.compact_u64.proofs.Tags.{min-tag-fits}
 use Rattle.grouping.specs.declared.TimeRange.{TimeRange}
-use Rattle.area_times.specs.declared.Header.{Header}
+use Rattle.area_times.specs.declared.AreaHeader.{AreaHeader}
 use Rattle.area_times.specs.Header.{idWrittenAt, endOpenAt, startAddedAt, endAddedAt, startTagAt, endTagAt, unpackHeader, packHeader, HeaderFits}
 use Rattle.area_times.specs.Times.{headerOf}
 
@@ -26,7 +26,7 @@ parts : (id opens start end s t : ℕ) → id ≤ 1 → opens ≤ 1 → start �
 parts id opens start end s t a b c d f g =
     record { byte = omega arith; id-is = omega arith; open-is = omega arith; start-is = omega arith; end-is = omega arith; s-is = omega arith; t-is = omega arith }
 
-header-apart : (h : Header) → HeaderFits h → (packHeader h < 256) × (unpackHeader (packHeader h) ≡ h)
+header-apart : (h : AreaHeader) → HeaderFits h → (packHeader h < 256) × (unpackHeader (packHeader h) ≡ h)
 header-apart h f =
     let p = packHeader h in
     let x = parts (bit (h .«id_written»)) (bit (h .«end_open»)) (bit (h .«start_added»)) (bit (h .«end_added»)) (h .«start_tag») (h .«end_tag»)

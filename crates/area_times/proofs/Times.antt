@@ -13,7 +13,7 @@ use Rattle.grouping.specs.declared.TimeRange.{TimeRange}
 use Rattle.grouping.specs.Range.{TypedRange, top, endValue, isOpen, endAtMost, bounds, includesRange}
 use Rattle.time_relative.specs.Difference.{differenceOf, endDifference, readTime, TimeAs}
 use Rattle.time_relative.proofs.Time.{time-reads, time-relaxes, time-bounded}
-use Rattle.area_times.specs.declared.Header.{Header}
+use Rattle.area_times.specs.declared.AreaHeader.{AreaHeader}
 use Rattle.area_times.specs.Header.{spareBits}
 use Rattle.area_times.specs.Times.{headerOf, timesFrom, endBytes, timesBytes, readEnd, readTimes}
 use Rattle.area_times.specs.Relations.{EndAs, TimesAs}
@@ -27,13 +27,13 @@ header-spares id r t = go (t .end)
     go (Closed x) = refl
     go Open = refl
 
-pub header-is : (id : Bool) (r t : TimeRange) (h : Header) → id ≡ h .«id_written» → {e : List ℕ} → TimesAs r h t e → headerOf id r t ≡ h
+pub header-is : (id : Bool) (r t : TimeRange) (h : AreaHeader) → id ≡ h .«id_written» → {e : List ℕ} → TimesAs r h t e → headerOf id r t ≡ h
 unfolding headerOf
 header-is id r t h i x = rw (i, x .endOpen, x .startAdded, x .endAdded, x .startTag, x .endTag)
 
 -- ---- the end
 -- no spare bits: an open end comes without a flag and with the tag 0
-pub no-spare : (h : Header) → spareBits h ≡ false → h .«end_open» ≡ true → (h .«end_added» ≡ false) × (h .«end_tag» ≡ 0)
+pub no-spare : (h : AreaHeader) → spareBits h ≡ false → h .«end_open» ≡ true → (h .«end_added» ≡ false) × (h .«end_tag» ≡ 0)
 unfolding spareBits
 no-spare h e o = go (h .«end_added») (eqb (h .«end_tag») 0) refl refl (rw o at e)
   where
@@ -66,7 +66,7 @@ module _ (r : TimeRange) (added : Bool) (tag : ℕ) where
   end-back false Open e a = absurd (true≢false (a .is-open))
   end-back false (Closed x) e a = record { value = x; named = refl; stands = record { inside = a .inside refl; near = a .near; tagged = a .tagged; bytes = a .bytes } }
 
-module _ (r : TimeRange) (h : Header) where
+module _ (r : TimeRange) (h : AreaHeader) where
   end-reads : TypedRange r → spareBits h ≡ false → Reads (readEnd true r h) (EndAs r (h .«end_open») (h .«end_added») (h .«end_tag»))
   unfolding readEnd EndRel
   end-reads ty spare = reads-as _ _ _
@@ -106,7 +106,7 @@ end-inside : (r t : TimeRange) → TypedRange r → includesRange r t ≡ true �
 end-inside r t ty i true o f = open-inside r t ty i (is-open (t .end) o)
 end-inside r t ty i false o f = f refl
 
-module _ (r : TimeRange) (h : Header) where
+module _ (r : TimeRange) (h : AreaHeader) where
   Rel : TimeRange → List ℕ → Type 0
   Rel = Tested (includesRange r) (Joined (TimeAs r (h .«start_added») (h .«start_tag»)) (λ start. Mapped (timesFrom start) (EndAs r (h .«end_open») (h .«end_added») (h .«end_tag»))))
 

@@ -3,7 +3,7 @@ use mathlib.Core.Bool.{Bool, _&&_, _||_, not}
 use Prim.Native.Nat.{ℕ, _+_, _<_}
 use lib.Dec.{eqb}
 use Rattle.codec.specs.Header.{field, flag, placed, bit}
-use Rattle.area_times.specs.declared.Header.{Header}
+use Rattle.area_times.specs.declared.AreaHeader.{AreaHeader}
 
 -- where each part stands
 abbrev pub idWrittenAt : ℕ
@@ -24,7 +24,7 @@ startTagAt = 4
 abbrev pub endTagAt : ℕ
 endTagAt = 6
 
-abbrev pub unpackHeader : ℕ → Header
+abbrev pub unpackHeader : ℕ → AreaHeader
 unpackHeader b = record {
   «id_written» = flag idWrittenAt b;
   «end_open» = flag endOpenAt b;
@@ -34,7 +34,7 @@ unpackHeader b = record {
   «end_tag» = field endTagAt 2 b;
 }
 
-abbrev pub packHeader : Header → ℕ
+abbrev pub packHeader : AreaHeader → ℕ
 packHeader h =
     placed idWrittenAt 1 (bit (h .«id_written»))
     + placed endOpenAt 1 (bit (h .«end_open»))
@@ -43,10 +43,10 @@ packHeader h =
     + placed startTagAt 2 (h .«start_tag»)
     + placed endTagAt 2 (h .«end_tag»)
 
-pub record HeaderFits (h : Header) : Type 0 where
+pub record HeaderFits (h : AreaHeader) : Type 0 where
   pub start : h .«start_tag» < 4
   pub end : h .«end_tag» < 4
 
 -- an open end has no difference; bits that speak of one are spare
-unfoldable pub spareBits : Header → Bool
+unfoldable pub spareBits : AreaHeader → Bool
 spareBits h = h .«end_open» && (h .«end_added» || not (eqb (h .«end_tag») 0))

@@ -8,7 +8,7 @@ use Rattle.grouping.specs.declared.RangeEnd.{RangeEnd}
 use Rattle.grouping.specs.declared.TimeRange.{TimeRange}
 use Rattle.grouping.specs.Range.{endValue, isOpen, bounds, includesRange}
 use Rattle.time_relative.specs.Difference.{differenceOf, endDifference}
-use Rattle.area_times.specs.declared.Header.{Header}
+use Rattle.area_times.specs.declared.AreaHeader.{AreaHeader}
 use Rattle.area_times.specs.Times.{endBytes, timesBytes}
 
 -- that an open end lies in the range, `includesRange` says
@@ -19,7 +19,7 @@ pub record EndAs (r : TimeRange) (opens added : Bool) (tag : ℕ) (end : RangeEn
   pub inside : opens ≡ false → bounds r (endValue end) ≡ true
   pub bytes : e ≡ endBytes r end
 
-pub record TimesAs (r : TimeRange) (h : Header) (t : TimeRange) (e : List ℕ) : Type 0 where
+pub record TimesAs (r : TimeRange) (h : AreaHeader) (t : TimeRange) (e : List ℕ) : Type 0 where
   pub startAdded : differenceOf r (t .start) .added ≡ h .«start_added»
   pub startTag : minTag 2 (differenceOf r (t .start) .difference) ≡ h .«start_tag»
   pub endOpen : isOpen (t .end) ≡ h .«end_open»

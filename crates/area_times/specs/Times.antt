@@ -9,10 +9,10 @@ use Rattle.grouping.specs.declared.RangeEnd.the-variants.{Closed, Open}
 use Rattle.grouping.specs.declared.TimeRange.{TimeRange}
 use Rattle.grouping.specs.Range.{isOpen, includesRange}
 use Rattle.time_relative.specs.Difference.{differenceOf, endDifference, readTime}
-use Rattle.area_times.specs.declared.Header.{Header}
+use Rattle.area_times.specs.declared.AreaHeader.{AreaHeader}
 
 -- ---- writing: the start's difference, then the end's
-unfoldable pub headerOf : Bool → TimeRange → TimeRange → Header
+unfoldable pub headerOf : Bool → TimeRange → TimeRange → AreaHeader
 headerOf idWritten r t = record {
   «id_written» = idWritten;
   «end_open» = isOpen (t .end);
@@ -31,7 +31,7 @@ unfoldable pub timesBytes : TimeRange → TimeRange → List ℕ
 timesBytes r t = numberBytes 2 (differenceOf r (t .start) .difference) ++ endBytes r (t .end)
 
 -- ---- reading: an open end has no difference to add
-unfoldable pub readEnd : Bool → TimeRange → Header → Reader RangeEnd
+unfoldable pub readEnd : Bool → TimeRange → AreaHeader → Reader RangeEnd
 readEnd canonic r h =
     choose (h .«end_open»)
     (guard (not (h .«end_added»)) (give Open))
@@ -40,7 +40,7 @@ readEnd canonic r h =
 abbrev pub timesFrom : ℕ → RangeEnd → TimeRange
 timesFrom start end = record { start = start; end = end }
 
-unfoldable pub readTimes : Bool → TimeRange → Header → Reader TimeRange
+unfoldable pub readTimes : Bool → TimeRange → AreaHeader → Reader TimeRange
 readTimes canonic r h =
     checked (includesRange r) (
     andThen (readTime canonic r (h .«start_added») (h .«start_tag»)) (λ start.

@@ -1,7 +1,7 @@
 // The header byte of an area against an area.
 ghost use mathlib.Core.Path.{_≡_};
 ghost use Rattle.area_times.specs.Header.{unpackHeader, packHeader, HeaderFits, spareBits};
-use crate::Header;
+use crate::AreaHeader;
 
 // What one of each part adds to the byte.
 const ID_WRITTEN: u8 = 128;
@@ -17,10 +17,10 @@ const START_TAG: u8 = 4;
 const END_TAG: u8 = 1;
 
 // What a header byte says.
-pub fn unpack(b: u8) -> Header
+pub fn unpack(b: u8) -> AreaHeader
     ensures { λ r. ⌜ r ≡ unpackHeader b ⌝ }
 {
-    Header {
+    AreaHeader {
         id_written: b / ID_WRITTEN % 2 == 1,
         end_open: b / END_OPEN % 2 == 1,
         start_added: b / START_ADDED % 2 == 1,
@@ -30,7 +30,7 @@ pub fn unpack(b: u8) -> Header
     }
 }
 
-pub(crate) fn pack(header: Header) -> u8
+pub(crate) fn pack(header: AreaHeader) -> u8
     requires { ⌜ HeaderFits header ⌝ }
     ensures { λ r. ⌜ r ≡ packHeader header ⌝ }
 {
@@ -43,7 +43,7 @@ pub(crate) fn pack(header: Header) -> u8
 }
 
 // Whether an open end comes with a flag or a tag of its difference, which it does not have.
-pub fn spare_bits(header: Header) -> bool
+pub fn spare_bits(header: AreaHeader) -> bool
     ensures { λ r. ⌜ r ≡ spareBits header ⌝ }
 {
     if !header.end_open {

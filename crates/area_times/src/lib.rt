@@ -16,7 +16,7 @@ use grouping::TimeRange;
 pub mod area_header;
 
 // What the header byte says.
-pub struct Header {
+pub struct AreaHeader {
     pub id_written: bool,
     pub end_open: bool,
     pub start_added: bool,
@@ -36,13 +36,13 @@ pub struct DecodedTimes {
     pub times: TimeRange,
 }
 
-fn header_of(id_written: bool, times: TimeRange, reference: TimeRange) -> Header
+fn header_of(id_written: bool, times: TimeRange, reference: TimeRange) -> AreaHeader
     ensures { λ r. ⌜ r ≡ headerOf «id_written» reference times ⌝ }
 {
     let end = times.end;
     let start_difference = time_relative::difference(reference, times.start);
     let end_difference = time_relative::end_difference(reference, end);
-    Header {
+    AreaHeader {
         id_written: id_written,
         end_open: end.is_open(),
         start_added: start_difference.added,
@@ -65,7 +65,7 @@ fn decode_end(
     start: usize,
     canonic: bool,
     reference: TimeRange,
-    header: Header,
+    header: AreaHeader,
 ) -> DecodedEnd
     ensures { λ r. ⌜ answerOf (r .answer) (r .end) ≡ readEnd canonic reference header (drop start (now (message .entry))) ⌝ }
 {
@@ -106,7 +106,7 @@ pub fn relative_decode(
     message: &[u8],
     canonic: bool,
     reference: TimeRange,
-    header: Header,
+    header: AreaHeader,
 ) -> DecodedTimes
     ensures { λ r. ⌜ Gives reference (r .answer) (r .times) (readTimes canonic reference header (now (message .entry))) ⌝ }
 {
@@ -155,31 +155,34 @@ pub fn relative_len_of_encoding(times: TimeRange, reference: TimeRange) -> usize
     ensures { λ r. ⌜ (r ≡ length (timesBytes reference times)) × (r ≤ 16) ⌝ }
 {
     let start = time_relative::difference(reference, times.start);
-    let a = compact_u64::relative_len_of_encoding(TagWidth::Two, start.difference);
     let end = times.end;
     let RangeEnd::Closed(time) = end else {
-        return a;
+        return compact_u64::relative_len_of_encoding(TagWidth::Two, start.difference);
     };
     let last = time_relative::difference(reference, time);
-    a + compact_u64::relative_len_of_encoding(TagWidth::Two, last.difference)
+    compact_u64::relative_len_of_pair(
+        TagWidth::Two,
+        start.difference,
+        TagWidth::Two,
+        last.difference,
+    )
 }
 
 // Writes times after the header and the id.
 pub fn relative_encode(buffer: &mut [u8], times: TimeRange, reference: TimeRange) -> Encoded
     ensures { λ r. ⌜ (outcomeOf r ≡ putAnswer allowed (timesBytes reference times) (length (now (buffer .entry)))) × (now (buffer .exit) ≡ putBuffer allowed (timesBytes reference times) (now (buffer .entry))) ⌝ }
 {
-    let n = relative_len_of_encoding(times, reference);
-    if buffer.len() < n {
-        return Encoded::NoRoom;
-    }
     let start = time_relative::difference(reference, times.start);
-    let a = compact_u64::relative_len_of_encoding(TagWidth::Two, start.difference);
-    compact_u64::relative_encode(buffer, TagWidth::Two, start.difference);
     let end = times.end;
     let RangeEnd::Closed(time) = end else {
-        return Encoded::Length(n);
+        return compact_u64::relative_encode(buffer, TagWidth::Two, start.difference);
     };
     let last = time_relative::difference(reference, time);
-    compact_u64::relative_encode(&mut buffer[a..], TagWidth::Two, last.difference);
-    Encoded::Length(n)
+    compact_u64::relative_encode_pair(
+        buffer,
+        TagWidth::Two,
+        start.difference,
+        TagWidth::Two,
+        last.difference,
+    )
 }

@@ -6,7 +6,7 @@ ghost use Rattle.codec.specs.Answers.{outcomeOf, Gives};
 ghost use Rattle.codec.specs.Bytes.{sameBytes, zeroId};
 ghost use Rattle.codec.specs.Format.{allowed, inRoom, putAnswer, putBuffer};
 ghost use Rattle.codec.specs.Header.{bit};
-ghost use Rattle.codec.specs.Reader.{someBytes};
+ghost use Rattle.codec.specs.Reader.{give, someBytes, choose};
 use codec::Decoded;
 use codec::DecodedId;
 use codec::Encoded;
@@ -91,5 +91,18 @@ pub fn decode_id(message: &[u8], start: usize) -> DecodedId
     DecodedId {
         answer: Decoded::Consumed(32),
         id: id,
+    }
+}
+
+// Reads an id that is the reference's unless it is written.
+pub fn decode_id_if(message: &[u8], start: usize, written: bool, reference: [u8; 32]) -> DecodedId
+    ensures { λ r. ⌜ Gives zeroId (r .answer) (r .id) (choose written (someBytes 32) (give reference) (drop start (now (message .entry)))) ⌝ }
+{
+    if written {
+        return decode_id(message, start);
+    }
+    DecodedId {
+        answer: Decoded::Consumed(0),
+        id: reference,
     }
 }

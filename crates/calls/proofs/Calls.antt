@@ -1,7 +1,7 @@
 -- Laws of what a call tells and leaves.
 use Rattle.codec.proofs.Prelude.{_≡_, refl, _∙_, List, [], _∷_, ℕ, OneOf, length}
 use denote.Enum.Declared as declared
-use Rattle.codec.specs.Answers.{Answer, Outcome, answerOf, outcomeOf}
+use Rattle.codec.specs.Answers.{Answer, refused, Outcome, answerOf, outcomeOf}
 use Rattle.codec.specs.Format.{Format, writeAnswer, writeBuffer, WritesInto}
 use Rattle.codec.specs.declared.Decoded.{Decoded}
 use Rattle.codec.specs.declared.Decoded.the-variants as decoded
@@ -37,6 +37,10 @@ module _ {A B : Type 0} (store : A → B) (a : A) {lent : B} where
 
   pub stores-accepted : (d : Decoded) (n : ℕ) → d ≡ decoded.Consumed n → {left : B} → left ≡ store a → Stores store (answerOf d a) lent left 0 n
   stores-accepted d n told e = rw told (record { code = refl; count = refl; value = e })
+
+-- nothing was read
+pub stores-none : {A B : Type 0} (store : A → B) {x : Answer A} {lent : B} {r n : ℕ} (k : ℕ) → x ≡ refused k → r ≡ k → n ≡ 0 → Stores store x lent lent r n
+stores-none store k e f g = rw e (record { code = f; count = g; value = refl })
 
 pub stores-as : {A B : Type 0} {store : A → B} {x y : Answer A} {lent left : B} {r n : ℕ} → Stores store x lent left r n → x ≡ y → Stores store y lent left r n
 stores-as s e = rw e at s

@@ -4,15 +4,18 @@ ghost use Prim.Native.Nat.{ℕ};
 ghost use lib.ListN.{length};
 ghost use Rattle.codec.specs.Answers.{outcomeOf, answerOf};
 ghost use Rattle.path.specs.Flat.{pathSize, pathFlat, pathIn};
+ghost use Rattle.grouping.specs.Record.{areaWith};
+ghost use Rattle.entry.specs.Record.{entryWith};
+ghost use Rattle.range_3d.specs.Record.{rangeWith};
 ghost use Rattle.flat.specs.AreaRecord.{areaFlat};
 ghost use Rattle.flat.specs.EntryRecord.{entryFlat};
 ghost use Rattle.flat.specs.RangeRecord.{rangeFlat};
 ghost use Rattle.calls.specs.Calls.{codeOf, Told, readCode, Stores};
 use codec::Decoded;
 use codec::Encoded;
-use entry::Entry;
-use grouping::Area;
-use range_3d::Range3d;
+use entry::EntryFields;
+use grouping::AreaHead;
+use range_3d::Range3dHead;
 
 // A writer's answer.
 pub fn tell_length(answer: Encoded, length: &mut usize) -> u8
@@ -48,6 +51,14 @@ fn refusal(answer: Decoded) -> u8
     }
 }
 
+// A reader's refusal: nothing is stored.
+pub fn tell_refusal(answer: Decoded, consumed: &mut usize) -> u8
+    ensures { λ r. ⌜ (r ≡ readCode (answerOf {A = ℕ} answer 0)) × (now (consumed .exit) ≡ 0) ⌝ }
+{
+    *consumed = 0;
+    refusal(answer)
+}
+
 // Copies the record of a path.
 fn copy_path(flat: &mut [u8], path: &[u8])
     requires { ⌜ (length (now flat) ≡ pathSize) × (length (now path) ≡ pathSize) ⌝ }
@@ -66,8 +77,7 @@ pub fn give_path(
     ensures { λ r. ⌜ Stores pathFlat (answerOf answer (pathIn (now (path .entry)))) (now (flat .entry)) (now (flat .exit)) r (now (consumed .exit)) ⌝ }
 {
     let Decoded::Consumed(n) = answer else {
-        *consumed = 0;
-        return refusal(answer);
+        return tell_refusal(answer, consumed);
     };
     copy_path(flat, path);
     *consumed = n;
@@ -75,45 +85,57 @@ pub fn give_path(
 }
 
 // An area that was read is stored.
-pub fn give_area(answer: Decoded, area: Area, flat: &mut [u8; 691], consumed: &mut usize) -> u8
-    ensures { λ r. ⌜ Stores areaFlat (answerOf answer area) (now (flat .entry)) (now (flat .exit)) r (now (consumed .exit)) ⌝ }
-{
-    let Decoded::Consumed(n) = answer else {
-        *consumed = 0;
-        return refusal(answer);
-    };
-    flat_records::area_record::store(flat, area);
-    *consumed = n;
-    0
-}
-
-// An entry that was read is stored.
-pub fn give_entry(answer: Decoded, entry: Entry, flat: &mut [u8; 753], consumed: &mut usize) -> u8
-    ensures { λ r. ⌜ Stores entryFlat (answerOf answer entry) (now (flat .entry)) (now (flat .exit)) r (now (consumed .exit)) ⌝ }
-{
-    let Decoded::Consumed(n) = answer else {
-        *consumed = 0;
-        return refusal(answer);
-    };
-    flat_records::entry_record::store(flat, entry);
-    *consumed = n;
-    0
-}
-
-// A 3d range that was read is stored.
-pub fn give_range(
+pub fn give_area(
     answer: Decoded,
-    range: Range3d,
+    head: AreaHead,
+    path: &[u8; 641],
+    flat: &mut [u8; 691],
+    consumed: &mut usize,
+) -> u8
+    ensures { λ r. ⌜ Stores areaFlat (answerOf answer (areaWith head (pathIn (now (path .entry))))) (now (flat .entry)) (now (flat .exit)) r (now (consumed .exit)) ⌝ }
+{
+    let Decoded::Consumed(n) = answer else {
+        return tell_refusal(answer, consumed);
+    };
+    flat_records::area_record::store(flat, head, path);
+    *consumed = n;
+    0
+}
+
+// An entry that was read is stored, by its fields and the record of its path.
+pub fn give_entry(
+    answer: Decoded,
+    fields: EntryFields,
+    path: &[u8; 641],
+    flat: &mut [u8; 753],
+    consumed: &mut usize,
+) -> u8
+    ensures { λ r. ⌜ Stores entryFlat (answerOf answer (entryWith fields (pathIn (now (path .entry))))) (now (flat .entry)) (now (flat .exit)) r (now (consumed .exit)) ⌝ }
+{
+    let Decoded::Consumed(n) = answer else {
+        return tell_refusal(answer, consumed);
+    };
+    flat_records::entry_record::store(flat, fields, path);
+    *consumed = n;
+    0
+}
+
+// A 3d range that was read is stored, by its head and the records of its paths.
+pub fn give_range<'a>(
+    answer: Decoded,
+    head: Range3dHead,
+    start: &'a [u8; 641],
+    end: &'a [u8; 641],
     flat: &mut [u8; 1365],
     consumed: &mut usize,
 ) -> u8
-    ensures { λ r. ⌜ Stores rangeFlat (answerOf answer range) (now (flat .entry)) (now (flat .exit)) r (now (consumed .exit)) ⌝ }
+    ensures { λ r. ⌜ Stores rangeFlat (answerOf answer (rangeWith head (pathIn (now (start .entry))) (pathIn (now (end .entry))))) (now (flat .entry)) (now (flat .exit)) r (now (consumed .exit)) ⌝ }
 {
     let Decoded::Consumed(n) = answer else {
         *consumed = 0;
         return refusal(answer);
     };
-    flat_records::range_record::store(flat, range);
+    flat_records::range_record::store(flat, head, start, end);
     *consumed = n;
     0
 }

@@ -1,9 +1,11 @@
 -- Case lines of areas against an area: docs/CASES.md.
-use mathlib.Core.List.{List, _++_}
+use mathlib.Core.List.{List, [], _++_}
 use mathlib.Core.Bool.{false}
 use Prim.Native.Nat.{ℕ, _+_}
-use Rattle.grouping.specs.declared.Area.{Area}
-use Rattle.area_area.specs.Answers.{emptyArea}
+use Rattle.path.specs.Record.{pathFrom}
+use Rattle.path.specs.Flat.{pathFlat, pathIn}
+use Rattle.grouping.specs.Record.{Area, areaWith}
+use Rattle.grouping.specs.Answers.{emptyHead}
 use Rattle.area_area.specs.Records.{againstArea, readAgainstArea}
 use Rattle.text.specs.Decimal.{decimalText}
 use Rattle.path_text.specs.PathText.{pathTextOf}
@@ -33,6 +35,9 @@ againstLine r op line = recordLine areaField areaText (λ canonic. readAgainstAr
 abbrev pub areaLine : List ℕ → List ℕ
 areaLine line = areaField 2 line (λ r. againstLine r (opOf (field 1 line)) line)
 
--- what stands beside fields that are not in their form
+-- the area of fields that were read, and what stands beside fields that are not in their form
+abbrev pub fieldArea : AreaField → Area
+fieldArea f = areaWith (f .head) (pathIn (f .path .flat))
+
 unfoldable pub noArea : AreaField
-noArea = record { ok = false; area = emptyArea }
+noArea = record { ok = false; head = emptyHead; path = record { flat = pathFlat (pathFrom []) } }

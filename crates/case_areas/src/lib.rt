@@ -2,12 +2,14 @@
 ghost use mathlib.Core.Path.{_≡_};
 ghost use mathlib.Core.Bool.{cond};
 ghost use lib.ListN.{take};
+ghost use Rattle.path.specs.Flat.{pathIn};
+ghost use Rattle.grouping.specs.Record.{areaWith};
 ghost use Rattle.area_area.specs.Records.{againstArea, readAgainstArea};
 ghost use Rattle.case_text.specs.Texts.{ended};
 ghost use Rattle.case_text.specs.Fields.{Says};
 ghost use Rattle.case_text.specs.Records.{readLine, writeLine, lengthLine};
 ghost use Rattle.case_text.specs.Answers.{PutsWithin};
-ghost use Rattle.case_areas.specs.Lines.{areaText, areaField, noArea, areaLine};
+ghost use Rattle.case_areas.specs.Lines.{areaText, areaField, fieldArea, noArea, areaLine};
 use case_text::HexField;
 use case_text::MAX_BYTES;
 use case_text::MessageField;
@@ -15,9 +17,7 @@ use case_text::Op;
 use case_text::fields;
 use case_text::put;
 use decimal::Decimal;
-use grouping::Area;
-use grouping::AreaSubspace;
-use grouping::RangeEnd;
+use grouping::AreaHead;
 use grouping::TimeRange;
 use path::Path;
 use path_text::Found;
@@ -25,32 +25,25 @@ use path_text::Found;
 // An area that four fields say; where they are not in their form, one in which no time lies.
 pub struct AreaField {
     pub ok: bool,
-    pub area: Area,
+    pub head: AreaHead,
+    pub path: Path,
 }
 
 fn no_area() -> AreaField
     ensures { λ r. ⌜ r ≡ noArea ⌝ }
 {
+    let head = AreaHead::empty();
     let path = Path::new_empty();
     AreaField {
         ok: false,
-        area: Area {
-            subspace: AreaSubspace {
-                any: true,
-                id: [0u8; 32],
-            },
-            path: path,
-            times: TimeRange {
-                start: 0,
-                end: RangeEnd::Closed(0),
-            },
-        },
+        head: head,
+        path: path,
     }
 }
 
 // Reads the place-th field of a line and the three after it.
 pub fn read_area(line: &[u8], place: u8) -> AreaField
-    ensures { λ r. ⌜ Says (areaField place (now (line .entry))) (r .ok) (r .area) × (r ≡ cond (r .ok) r noArea) ⌝ }
+    ensures { λ r. ⌜ Says (areaField place (now (line .entry))) (r .ok) (fieldArea r) × (r ≡ cond (r .ok) r noArea) ⌝ }
 {
     let i = place as usize;
     let first = area_text::read_subspace(text::part(line, b'\t', i));
@@ -75,50 +68,58 @@ pub fn read_area(line: &[u8], place: u8) -> AreaField
     let end = fourth.end;
     AreaField {
         ok: true,
-        area: Area {
+        head: AreaHead {
             subspace: subspace,
-            path: path,
             times: TimeRange {
                 start: start,
                 end: end,
             },
         },
+        path: path,
     }
 }
 
 // Prints an area from the buffer's first byte on.
-fn print(area: Area, buffer: &mut [u8; MAX_BYTES]) -> usize
-    ensures { λ r. ⌜ take r (now (buffer .exit)) ≡ areaText area ⌝ }
+fn print(area: AreaHead, path: &[u8; 641], buffer: &mut [u8; MAX_BYTES]) -> usize
+    ensures { λ r. ⌜ take r (now (buffer .exit)) ≡ areaText (areaWith area (pathIn (now (path .entry)))) ⌝ }
 {
     let subspace = area.subspace;
     let times = area.times;
     let end = times.end;
     let mut p = area_text::put_subspace(buffer, 0, subspace);
     p = text::put_bytes(buffer, p, b"\t");
-    p = path_text::put_path(buffer, p, area.path);
+    p = path_text::put_path(buffer, p, path);
     p = text::put_bytes(buffer, p, b"\t");
     p = text::put_decimal(buffer, p, times.start);
     p = text::put_bytes(buffer, p, b"\t");
     area_text::put_end(buffer, p, end)
 }
 
-fn read_line(line: &[u8], out: &mut [u8], at: usize, reference: Area, canonic: bool) -> usize
-    ensures { λ r. ⌜ PutsWithin 16640 at (ended (readLine areaText (readAgainstArea canonic reference) 6 (now (line .entry)))) (now (out .entry)) (now (out .exit)) r ⌝ }
+fn read_line(line: &[u8], out: &mut [u8], at: usize, reference: AreaField, canonic: bool) -> usize
+    ensures { λ r. ⌜ PutsWithin 16640 at (ended (readLine areaText (readAgainstArea canonic (fieldArea reference)) 6 (now (line .entry)))) (now (out .entry)) (now (out .exit)) r ⌝ }
 {
     let mut bytes = [0u8; MAX_BYTES];
     let message = fields::message(line, 6, &mut bytes);
     let MessageField::Message(s, n) = message else {
         return put::refuse(out, at);
     };
-    let read = area_area_decode::relative_decode(&bytes[..n], s, canonic, reference);
+    let mut path = [0u8; path::lent::SIZE];
+    let read = area_area_decode::relative_decode(
+        &bytes[..n],
+        s,
+        canonic,
+        reference.head,
+        &reference.path.flat,
+        &mut path,
+    );
     let mut text = [0u8; MAX_BYTES];
-    let k = print(read.area, &mut text);
+    let k = print(read.head, &path, &mut text);
     let answer = read.answer;
     put::value(out, at, answer, &text, k)
 }
 
-fn write_line(line: &[u8], out: &mut [u8], at: usize, reference: Area) -> usize
-    ensures { λ r. ⌜ PutsWithin 16640 at (ended (writeLine areaField (againstArea reference) 6 10 (now (line .entry)))) (now (out .entry)) (now (out .exit)) r ⌝ }
+fn write_line(line: &[u8], out: &mut [u8], at: usize, reference: AreaField) -> usize
+    ensures { λ r. ⌜ PutsWithin 16640 at (ended (writeLine areaField (againstArea (fieldArea reference)) 6 10 (now (line .entry)))) (now (out .entry)) (now (out .exit)) r ⌝ }
 {
     if text::part_count(line, b'\t') != 11 {
         return put::refuse(out, at);
@@ -127,18 +128,23 @@ fn write_line(line: &[u8], out: &mut [u8], at: usize, reference: Area) -> usize
     if !field.ok {
         return put::refuse(out, at);
     }
-    let area = field.area;
     let mut buffer = [0u8; MAX_BYTES];
     let hex = fields::hex(line, 10, &mut buffer);
     let HexField::Bytes(n) = hex else {
         return put::refuse(out, at);
     };
-    let answer = area_area_encode::relative_encode(&mut buffer[..n], area, reference);
+    let answer = area_area_encode::relative_encode(
+        &mut buffer[..n],
+        field.head,
+        &field.path.flat,
+        reference.head,
+        &reference.path.flat,
+    );
     put::written(out, at, answer, &buffer, n)
 }
 
-fn len_line(line: &[u8], out: &mut [u8], at: usize, reference: Area) -> usize
-    ensures { λ r. ⌜ PutsWithin 16640 at (ended (lengthLine areaField (againstArea reference) 6 10 (now (line .entry)))) (now (out .entry)) (now (out .exit)) r ⌝ }
+fn len_line(line: &[u8], out: &mut [u8], at: usize, reference: AreaField) -> usize
+    ensures { λ r. ⌜ PutsWithin 16640 at (ended (lengthLine areaField (againstArea (fieldArea reference)) 6 10 (now (line .entry)))) (now (out .entry)) (now (out .exit)) r ⌝ }
 {
     if text::part_count(line, b'\t') != 10 {
         return put::refuse(out, at);
@@ -147,23 +153,23 @@ fn len_line(line: &[u8], out: &mut [u8], at: usize, reference: Area) -> usize
     if !field.ok {
         return put::refuse(out, at);
     }
-    let area = field.area;
-    put::length(
-        out,
-        at,
-        area_area_encode::relative_len_of_encoding(area, reference),
-    )
+    let answer = area_area_encode::relative_len_of_encoding(
+        field.head,
+        &field.path.flat,
+        reference.head,
+        &reference.path.flat,
+    );
+    put::length(out, at, answer)
 }
 
 // Answers a line of an area against a reference, which stands before the other fields.
 pub fn area(line: &[u8], out: &mut [u8], at: usize) -> usize
     ensures { λ r. ⌜ PutsWithin 16640 at (ended (areaLine (now (line .entry)))) (now (out .entry)) (now (out .exit)) r ⌝ }
 {
-    let field = read_area(line, 2);
-    if !field.ok {
+    let reference = read_area(line, 2);
+    if !reference.ok {
         return put::refuse(out, at);
     }
-    let reference = field.area;
     let op = fields::op(text::part(line, b'\t', 1));
     match op {
         Op::Strict => read_line(line, out, at, reference, true),

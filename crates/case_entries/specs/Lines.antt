@@ -1,7 +1,7 @@
 -- Case lines of entries against a namespace and an area: docs/CASES.md.
 use mathlib.Core.List.{List}
 use Prim.Native.Nat.{ℕ}
-use Rattle.grouping.specs.declared.Area.{Area}
+use Rattle.grouping.specs.Record.{Area}
 use Rattle.entry_area.specs.Records.{againstNamespaceArea, readAgainstNamespaceArea}
 use Rattle.case_text.specs.declared.Op.{Op}
 use Rattle.case_text.specs.Fields.{field, idField, opOf}

@@ -3,40 +3,50 @@ ghost use Rattle.entry_area.specs.Records.{againstNamespaceArea, readAgainstNam
 ghost use Rattle.case_text.specs.Texts.{ended};
 ghost use Rattle.case_text.specs.Records.{readLine, writeLine, lengthLine};
 ghost use Rattle.case_text.specs.Answers.{PutsWithin};
+ghost use Rattle.case_areas.specs.Lines.{fieldArea};
 ghost use Rattle.case_entry_text.specs.Fields.{entryText, entryField};
 ghost use Rattle.case_entries.specs.Lines.{entryLine};
+use case_areas::AreaField;
 use case_text::HexField;
 use case_text::MAX_BYTES;
 use case_text::MessageField;
 use case_text::Op;
 use case_text::fields;
 use case_text::put;
-use grouping::Area;
 
 fn read_line(
     line: &[u8],
     out: &mut [u8],
     at: usize,
     namespace: [u8; 32],
-    area: Area,
+    area: AreaField,
     canonic: bool,
 ) -> usize
-    ensures { λ r. ⌜ PutsWithin 16640 at (ended (readLine entryText (readAgainstNamespaceArea canonic namespace area) 7 (now (line .entry)))) (now (out .entry)) (now (out .exit)) r ⌝ }
+    ensures { λ r. ⌜ PutsWithin 16640 at (ended (readLine entryText (readAgainstNamespaceArea canonic namespace (fieldArea area)) 7 (now (line .entry)))) (now (out .entry)) (now (out .exit)) r ⌝ }
 {
     let mut bytes = [0u8; MAX_BYTES];
     let message = fields::message(line, 7, &mut bytes);
     let MessageField::Message(s, n) = message else {
         return put::refuse(out, at);
     };
-    let read = entry_area_decode::relative_decode(&bytes[..n], s, canonic, namespace, area);
+    let mut path = [0u8; path::lent::SIZE];
+    let read = entry_area_decode::relative_decode(
+        &bytes[..n],
+        s,
+        canonic,
+        namespace,
+        area.head,
+        &area.path.flat,
+        &mut path,
+    );
     let mut text = [0u8; MAX_BYTES];
-    let k = case_entry_text::print_entry(read.entry, &mut text);
+    let k = case_entry_text::print_entry(read.fields, &path, &mut text);
     let answer = read.answer;
     put::value(out, at, answer, &text, k)
 }
 
-fn write_line(line: &[u8], out: &mut [u8], at: usize, namespace: [u8; 32], area: Area) -> usize
-    ensures { λ r. ⌜ PutsWithin 16640 at (ended (writeLine entryField (againstNamespaceArea namespace area) 7 13 (now (line .entry)))) (now (out .entry)) (now (out .exit)) r ⌝ }
+fn write_line(line: &[u8], out: &mut [u8], at: usize, namespace: [u8; 32], area: AreaField) -> usize
+    ensures { λ r. ⌜ PutsWithin 16640 at (ended (writeLine entryField (againstNamespaceArea namespace (fieldArea area)) 7 13 (now (line .entry)))) (now (out .entry)) (now (out .exit)) r ⌝ }
 {
     if text::part_count(line, b'\t') != 14 {
         return put::refuse(out, at);
@@ -45,18 +55,24 @@ fn write_line(line: &[u8], out: &mut [u8], at: usize, namespace: [u8; 32], area:
     if !field.ok {
         return put::refuse(out, at);
     }
-    let entry = field.entry;
     let mut buffer = [0u8; MAX_BYTES];
     let hex = fields::hex(line, 13, &mut buffer);
     let HexField::Bytes(n) = hex else {
         return put::refuse(out, at);
     };
-    let answer = entry_area_encode::relative_encode(&mut buffer[..n], entry, namespace, area);
+    let answer = entry_area_encode::relative_encode(
+        &mut buffer[..n],
+        field.fields,
+        &field.path.flat,
+        namespace,
+        area.head,
+        &area.path.flat,
+    );
     put::written(out, at, answer, &buffer, n)
 }
 
-fn len_line(line: &[u8], out: &mut [u8], at: usize, namespace: [u8; 32], area: Area) -> usize
-    ensures { λ r. ⌜ PutsWithin 16640 at (ended (lengthLine entryField (againstNamespaceArea namespace area) 7 13 (now (line .entry)))) (now (out .entry)) (now (out .exit)) r ⌝ }
+fn len_line(line: &[u8], out: &mut [u8], at: usize, namespace: [u8; 32], area: AreaField) -> usize
+    ensures { λ r. ⌜ PutsWithin 16640 at (ended (lengthLine entryField (againstNamespaceArea namespace (fieldArea area)) 7 13 (now (line .entry)))) (now (out .entry)) (now (out .exit)) r ⌝ }
 {
     if text::part_count(line, b'\t') != 13 {
         return put::refuse(out, at);
@@ -65,12 +81,14 @@ fn len_line(line: &[u8], out: &mut [u8], at: usize, namespace: [u8; 32], area: A
     if !field.ok {
         return put::refuse(out, at);
     }
-    let entry = field.entry;
-    put::length(
-        out,
-        at,
-        entry_area_encode::relative_len_of_encoding(entry, namespace, area),
-    )
+    let answer = entry_area_encode::relative_len_of_encoding(
+        field.fields,
+        &field.path.flat,
+        namespace,
+        area.head,
+        &area.path.flat,
+    );
+    put::length(out, at, answer)
 }
 
 // Answers a line of an entry against a namespace and an area, which stand before the other fields.
@@ -81,12 +99,11 @@ pub fn entry(line: &[u8], out: &mut [u8], at: usize) -> usize
     if !first.ok {
         return put::refuse(out, at);
     }
-    let second = case_areas::read_area(line, 3);
-    if !second.ok {
+    let area = case_areas::read_area(line, 3);
+    if !area.ok {
         return put::refuse(out, at);
     }
     let namespace = first.id;
-    let area = second.area;
     let op = fields::op(text::part(line, b'\t', 1));
     match op {
         Op::Strict => read_line(line, out, at, namespace, area, true),

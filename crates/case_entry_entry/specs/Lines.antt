@@ -2,7 +2,7 @@
 use mathlib.Core.List.{List}
 use Prim.Native.Nat.{ℕ}
 use Rattle.entry_entry.specs.Records.{againstEntry, readAgainstEntry}
-use Rattle.entry.specs.declared.Entry.{Entry}
+use Rattle.entry.specs.Record.{Entry}
 use Rattle.case_text.specs.declared.Op.{Op}
 use Rattle.case_text.specs.Fields.{field, opOf}
 use Rattle.case_text.specs.Records.{lenientLine}

@@ -3,33 +3,40 @@ ghost use Rattle.entry_entry.specs.Records.{againstEntry, readAgainstEntry};
 ghost use Rattle.case_text.specs.Texts.{ended};
 ghost use Rattle.case_text.specs.Records.{readLine, writeLine, lengthLine};
 ghost use Rattle.case_text.specs.Answers.{PutsWithin};
-ghost use Rattle.case_entry_text.specs.Fields.{entryText, entryField};
+ghost use Rattle.case_entry_text.specs.Fields.{entryText, entryField, fieldEntry};
 ghost use Rattle.case_entry_entry.specs.Lines.{entryEntryLine};
+use case_entry_text::EntryField;
 use case_text::HexField;
 use case_text::MAX_BYTES;
 use case_text::MessageField;
 use case_text::Op;
 use case_text::fields;
 use case_text::put;
-use entry::Entry;
 
-fn read_line(line: &[u8], out: &mut [u8], at: usize, reference: Entry) -> usize
-    ensures { λ r. ⌜ PutsWithin 16640 at (ended (readLine entryText (readAgainstEntry reference) 8 (now (line .entry)))) (now (out .entry)) (now (out .exit)) r ⌝ }
+fn read_line(line: &[u8], out: &mut [u8], at: usize, reference: EntryField) -> usize
+    ensures { λ r. ⌜ PutsWithin 16640 at (ended (readLine entryText (readAgainstEntry (fieldEntry reference)) 8 (now (line .entry)))) (now (out .entry)) (now (out .exit)) r ⌝ }
 {
     let mut bytes = [0u8; MAX_BYTES];
     let message = fields::message(line, 8, &mut bytes);
     let MessageField::Message(s, n) = message else {
         return put::refuse(out, at);
     };
-    let read = entry_entry_decode::relative_decode(&bytes[..n], s, reference);
+    let mut path = [0u8; path::lent::SIZE];
+    let read = entry_entry_decode::relative_decode(
+        &bytes[..n],
+        s,
+        reference.fields,
+        &reference.path.flat,
+        &mut path,
+    );
     let mut text = [0u8; MAX_BYTES];
-    let k = case_entry_text::print_entry(read.entry, &mut text);
+    let k = case_entry_text::print_entry(read.fields, &path, &mut text);
     let answer = read.answer;
     put::value(out, at, answer, &text, k)
 }
 
-fn write_line(line: &[u8], out: &mut [u8], at: usize, reference: Entry) -> usize
-    ensures { λ r. ⌜ PutsWithin 16640 at (ended (writeLine entryField (againstEntry reference) 8 14 (now (line .entry)))) (now (out .entry)) (now (out .exit)) r ⌝ }
+fn write_line(line: &[u8], out: &mut [u8], at: usize, reference: EntryField) -> usize
+    ensures { λ r. ⌜ PutsWithin 16640 at (ended (writeLine entryField (againstEntry (fieldEntry reference)) 8 14 (now (line .entry)))) (now (out .entry)) (now (out .exit)) r ⌝ }
 {
     if text::part_count(line, b'\t') != 15 {
         return put::refuse(out, at);
@@ -38,18 +45,23 @@ fn write_line(line: &[u8], out: &mut [u8], at: usize, reference: Entry) -> usize
     if !field.ok {
         return put::refuse(out, at);
     }
-    let entry = field.entry;
     let mut buffer = [0u8; MAX_BYTES];
     let hex = fields::hex(line, 14, &mut buffer);
     let HexField::Bytes(n) = hex else {
         return put::refuse(out, at);
     };
-    let answer = entry_entry_encode::relative_encode(&mut buffer[..n], entry, reference);
+    let answer = entry_entry_encode::relative_encode(
+        &mut buffer[..n],
+        field.fields,
+        &field.path.flat,
+        reference.fields,
+        &reference.path.flat,
+    );
     put::written(out, at, answer, &buffer, n)
 }
 
-fn len_line(line: &[u8], out: &mut [u8], at: usize, reference: Entry) -> usize
-    ensures { λ r. ⌜ PutsWithin 16640 at (ended (lengthLine entryField (againstEntry reference) 8 14 (now (line .entry)))) (now (out .entry)) (now (out .exit)) r ⌝ }
+fn len_line(line: &[u8], out: &mut [u8], at: usize, reference: EntryField) -> usize
+    ensures { λ r. ⌜ PutsWithin 16640 at (ended (lengthLine entryField (againstEntry (fieldEntry reference)) 8 14 (now (line .entry)))) (now (out .entry)) (now (out .exit)) r ⌝ }
 {
     if text::part_count(line, b'\t') != 14 {
         return put::refuse(out, at);
@@ -58,23 +70,23 @@ fn len_line(line: &[u8], out: &mut [u8], at: usize, reference: Entry) -> usize
     if !field.ok {
         return put::refuse(out, at);
     }
-    let entry = field.entry;
-    put::length(
-        out,
-        at,
-        entry_entry_encode::relative_len_of_encoding(entry, reference),
-    )
+    let answer = entry_entry_encode::relative_len_of_encoding(
+        field.fields,
+        &field.path.flat,
+        reference.fields,
+        &reference.path.flat,
+    );
+    put::length(out, at, answer)
 }
 
 // Answers a line of an entry against a reference, which stands before the other fields. No strict reading is asked for.
 pub fn entry(line: &[u8], out: &mut [u8], at: usize) -> usize
     ensures { λ r. ⌜ PutsWithin 16640 at (ended (entryEntryLine (now (line .entry)))) (now (out .entry)) (now (out .exit)) r ⌝ }
 {
-    let field = case_entry_text::read_entry(line, 2);
-    if !field.ok {
+    let reference = case_entry_text::read_entry(line, 2);
+    if !reference.ok {
         return put::refuse(out, at);
     }
-    let reference = field.entry;
     let op = fields::op(text::part(line, b'\t', 1));
     match op {
         Op::Strict => put::refuse(out, at),

@@ -1,7 +1,6 @@
 -- How long an entry's ids and path are when they are printed.
-use Rattle.codec.proofs.Prelude.{_++_, _≤_, arith, length, length-append}
-use Rattle.entry.specs.declared.Entry.{Entry}
-use Rattle.entry.specs.Record.{TypedEntry}
+use Rattle.codec.proofs.Prelude.{_≡_, _++_, _≤_, arith, length, length-append}
+use Rattle.entry.specs.Record.{Entry}
 use Rattle.text.specs.Hex.{hexText}
 use Rattle.text.proofs.HexSteps.{hexText-long}
 use Rattle.path_text.specs.PathText.{pathTextOf}
@@ -9,18 +8,17 @@ use Rattle.path_text.proofs.Back.{path-text-laws}
 use Rattle.case_text.specs.Texts.{afterTab}
 use Rattle.case_entry_text.specs.Fields.{namesText}
 
-pub names-few : (e : Entry) → TypedEntry e → length (namesText e) ≤ 2000
-names-few e t =
+pub names-few : (e : Entry) → length (e .«namespace_id») ≡ 32 → length (e .«subspace_id») ≡ 32 → length (namesText e) ≤ 2000
+names-few e namespace subspace =
     let n = hexText (e .«namespace_id») in
     let s = hexText (e .«subspace_id») in
     omega (
       arith,
       hexText-long (e .«namespace_id»),
-      t .namespace .0,
+      namespace,
       hexText-long (e .«subspace_id»),
-      t .subspace .0,
-      path-text-laws .path-few (e .path)
-          (t .path),
+      subspace,
+      path-text-laws .path-few (e .path),
       length-append n (afterTab s),
       length-append (n ++ afterTab s) (afterTab (pathTextOf (e .path))),
     )

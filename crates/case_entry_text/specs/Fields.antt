@@ -3,15 +3,15 @@ use mathlib.Core.List.{List, [], _++_}
 use mathlib.Core.Bool.{false}
 use Prim.Native.Nat.{ℕ, _+_}
 use Rattle.codec.specs.Bytes.{zeroId}
-use Rattle.path.specs.Record.{pathFrom}
-use Rattle.entry.specs.declared.Entry.{Entry}
+use Rattle.path.specs.Record.{Path, pathFrom}
+use Rattle.path.specs.Flat.{pathFlat, pathIn}
+use Rattle.entry.specs.Record.{Entry, fieldsOf, entryWith}
 use Rattle.entry.specs.Answers.{zeroEntry}
 use Rattle.text.specs.Decimal.{decimalText}
 use Rattle.text.specs.Hex.{hexText}
 use Rattle.path_text.specs.PathText.{pathTextOf}
 use Rattle.case_text.specs.Texts.{afterTab}
 use Rattle.case_text.specs.Fields.{decimalField, pathField, idField}
-use Rattle.case_entry_text.specs.declared.Names.{Names}
 use Rattle.case_entry_text.specs.declared.NamesField.{NamesField}
 use Rattle.case_entry_text.specs.declared.EntryField.{EntryField}
 
@@ -26,7 +26,12 @@ entryText e =
     ++ afterTab (decimalText (e .«payload_length»))
     ++ afterTab (hexText (e .«payload_digest»))
 
--- ---- read, from the i-th field on
+-- ---- read, from the i-th field on: the ids and the path first
+pub record Names : Type 0 where
+  pub «namespace_id» : List ℕ
+  pub «subspace_id» : List ℕ
+  pub path : Path
+
 abbrev pub namesField : ℕ → List ℕ → (Names → List ℕ) → List ℕ
 namesField i line k =
     idField i line (λ namespace.
@@ -49,9 +54,15 @@ entryField i line k =
       «payload_digest» = digest;
     })))))
 
--- what stands beside fields that are not in their form
+-- what fields that were read say, and what stands beside fields that are not in their form
+abbrev pub fieldNames : NamesField → Names
+fieldNames f = record { «namespace_id» = f .«namespace_id»; «subspace_id» = f .«subspace_id»; path = pathIn (f .path .flat) }
+
+abbrev pub fieldEntry : EntryField → Entry
+fieldEntry f = entryWith (f .fields) (pathIn (f .path .flat))
+
 unfoldable pub noNames : NamesField
-noNames = record { ok = false; names = record { «namespace_id» = zeroId; «subspace_id» = zeroId; path = pathFrom [] } }
+noNames = record { ok = false; «namespace_id» = zeroId; «subspace_id» = zeroId; path = record { flat = pathFlat (pathFrom []) } }
 
 unfoldable pub noEntry : EntryField
-noEntry = record { ok = false; entry = zeroEntry }
+noEntry = record { ok = false; fields = fieldsOf zeroEntry; path = record { flat = pathFlat (pathFrom []) } }

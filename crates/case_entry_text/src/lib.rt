@@ -2,32 +2,30 @@
 ghost use mathlib.Core.Path.{_≡_};
 ghost use mathlib.Core.Bool.{cond};
 ghost use lib.ListN.{length};
+ghost use Rattle.path.specs.Flat.{pathIn};
+ghost use Rattle.entry.specs.Record.{entryWith};
 ghost use Rattle.case_text.specs.Answers.{Puts};
 ghost use Rattle.case_text.specs.Fields.{Says};
-ghost use Rattle.case_entry_text.specs.Fields.{namesText, entryText, namesField, noNames, entryField, noEntry};
+ghost use Rattle.case_entry_text.specs.Fields.{namesText, entryText, namesField, fieldNames, noNames, entryField, fieldEntry, noEntry};
 use case_text::MAX_BYTES;
 use decimal::Decimal;
-use entry::Entry;
+use entry::EntryFields;
 use path::Path;
 use path_text::Found;
 
-// The ids and the path.
-pub struct Names {
+// The ids and the path that three fields say; where they are not in their form, zeros and the empty path.
+pub struct NamesField {
+    pub ok: bool,
     pub namespace_id: [u8; 32],
     pub subspace_id: [u8; 32],
     pub path: Path,
 }
 
-// Those that three fields say; where they are not in their form, zeros and the empty path.
-pub struct NamesField {
-    pub ok: bool,
-    pub names: Names,
-}
-
 // An entry that six fields say; where they are not in their form, one that is all zero.
 pub struct EntryField {
     pub ok: bool,
-    pub entry: Entry,
+    pub fields: EntryFields,
+    pub path: Path,
 }
 
 fn no_names() -> NamesField
@@ -36,11 +34,9 @@ fn no_names() -> NamesField
     let path = Path::new_empty();
     NamesField {
         ok: false,
-        names: Names {
-            namespace_id: [0u8; 32],
-            subspace_id: [0u8; 32],
-            path: path,
-        },
+        namespace_id: [0u8; 32],
+        subspace_id: [0u8; 32],
+        path: path,
     }
 }
 
@@ -50,20 +46,20 @@ fn no_entry() -> EntryField
     let path = Path::new_empty();
     EntryField {
         ok: false,
-        entry: Entry {
+        fields: EntryFields {
             namespace_id: [0u8; 32],
             subspace_id: [0u8; 32],
-            path: path,
             timestamp: 0,
             payload_length: 0,
             payload_digest: [0u8; 32],
         },
+        path: path,
     }
 }
 
 // Reads the place-th field of a line and the two after it.
 fn read_names(line: &[u8], place: u8) -> NamesField
-    ensures { λ r. ⌜ Says (namesField place (now (line .entry))) (r .ok) (r .names) ⌝ }
+    ensures { λ r. ⌜ Says (namesField place (now (line .entry))) (r .ok) (fieldNames r) ⌝ }
 {
     let i = place as usize;
     let first = text::ids::read_id(text::part(line, b'\t', i));
@@ -84,17 +80,15 @@ fn read_names(line: &[u8], place: u8) -> NamesField
     let path = third.path;
     NamesField {
         ok: true,
-        names: Names {
-            namespace_id: namespace,
-            subspace_id: subspace,
-            path: path,
-        },
+        namespace_id: namespace,
+        subspace_id: subspace,
+        path: path,
     }
 }
 
 // Reads the place-th field of a line and the five after it.
 pub fn read_entry(line: &[u8], place: u8) -> EntryField
-    ensures { λ r. ⌜ Says (entryField place (now (line .entry))) (r .ok) (r .entry) × (r ≡ cond (r .ok) r noEntry) ⌝ }
+    ensures { λ r. ⌜ Says (entryField place (now (line .entry))) (r .ok) (fieldEntry r) × (r ≡ cond (r .ok) r noEntry) ⌝ }
 {
     let first = read_names(line, place);
     if !first.ok {
@@ -113,47 +107,46 @@ pub fn read_entry(line: &[u8], place: u8) -> EntryField
     if !sixth.ok {
         return no_entry();
     }
-    let names = first.names;
-    let namespace = names.namespace_id;
-    let subspace = names.subspace_id;
-    let path = names.path;
+    let namespace = first.namespace_id;
+    let subspace = first.subspace_id;
+    let path = first.path;
     let digest = sixth.id;
     EntryField {
         ok: true,
-        entry: Entry {
+        fields: EntryFields {
             namespace_id: namespace,
             subspace_id: subspace,
-            path: path,
             timestamp: time,
             payload_length: size,
             payload_digest: digest,
         },
+        path: path,
     }
 }
 
 // Prints an entry's ids and path from the buffer's first byte on.
-fn print_names(entry: Entry, buffer: &mut [u8; MAX_BYTES]) -> usize
-    ensures { λ r. ⌜ Puts 0 (namesText entry) (now (buffer .entry)) (now (buffer .exit)) r × (length (now (buffer .entry)) ≡ 8192) ⌝ }
+fn print_names(fields: EntryFields, path: &[u8; 641], buffer: &mut [u8; MAX_BYTES]) -> usize
+    ensures { λ r. ⌜ Puts 0 (namesText (entryWith fields (pathIn (now (path .entry))))) (now (buffer .entry)) (now (buffer .exit)) r × (length (now (buffer .entry)) ≡ 8192) ⌝ }
 {
-    let namespace = entry.namespace_id;
+    let namespace = fields.namespace_id;
     let mut p = text::put_hex(buffer, 0, &namespace);
     p = text::put_bytes(buffer, p, b"\t");
-    let subspace = entry.subspace_id;
+    let subspace = fields.subspace_id;
     p = text::put_hex(buffer, p, &subspace);
     p = text::put_bytes(buffer, p, b"\t");
-    path_text::put_path(buffer, p, entry.path)
+    path_text::put_path(buffer, p, path)
 }
 
 // Prints an entry from the buffer's first byte on.
-pub fn print_entry(entry: Entry, buffer: &mut [u8; MAX_BYTES]) -> usize
-    ensures { λ r. ⌜ Puts 0 (entryText entry) (now (buffer .entry)) (now (buffer .exit)) r ⌝ }
+pub fn print_entry(fields: EntryFields, path: &[u8; 641], buffer: &mut [u8; MAX_BYTES]) -> usize
+    ensures { λ r. ⌜ Puts 0 (entryText (entryWith fields (pathIn (now (path .entry))))) (now (buffer .entry)) (now (buffer .exit)) r ⌝ }
 {
-    let mut p = print_names(entry, buffer);
+    let mut p = print_names(fields, path, buffer);
     p = text::put_bytes(buffer, p, b"\t");
-    p = text::put_decimal(buffer, p, entry.timestamp);
+    p = text::put_decimal(buffer, p, fields.timestamp);
     p = text::put_bytes(buffer, p, b"\t");
-    p = text::put_decimal(buffer, p, entry.payload_length);
+    p = text::put_decimal(buffer, p, fields.payload_length);
     p = text::put_bytes(buffer, p, b"\t");
-    let digest = entry.payload_digest;
+    let digest = fields.payload_digest;
     text::put_hex(buffer, p, &digest)
 }

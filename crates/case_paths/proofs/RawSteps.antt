@@ -1,10 +1,17 @@
 -- The ways out of a line of a record's raw parts, and of reading its lengths.
-use Rattle.codec.proofs.Prelude.{_≡_, refl, sym, ap, _∙_, List, [], _∷_, _++_, map, append-nil, append-assoc, Bool, true, false, cond, _&&_, ℕ, _+_, _-_, _^_, _≤_, _<_, OneOf, tagOf, arith, add-one, eq-eqb, ne-eqb, le-ltb, ltb, length, take, drop, set, replicate, length-set, length-replicate, drop-of-length-le, drop-cons, take-suc-set, take-all}
-use Rattle.codec.specs.Answers.{Outcome}
+use Rattle.codec.proofs.Prelude.{_≡_, refl, sym, ap, _∙_, List, [], _∷_, _++_, map, append-nil, append-assoc, Bool, true, false, cond, _&&_, ℕ, _+_, _-_, _^_, _%_, _≤_, _<_, mod-eq-of-lt, true≢false, take-append-drop, OneOf, tagOf, arith, add-one, eq-eqb, ne-eqb, le-ltb, ltb, length, take, drop, set, replicate, length-set, length-replicate, drop-of-length-le, drop-cons, take-suc-set, take-all}
+use Rattle.codec.specs.Answers.{Outcome, denied}
 use Rattle.codec.specs.Format.{lengthAnswer}
-use Rattle.path.specs.declared.Path.{Path}
+use Rattle.path.specs.Record.{Path, allAtMost, used, wellFormed}
+use Rattle.path.specs.Flat.{shorts, pathFlat, pathIn}
+use Rattle.path.specs.Puts.{Puts}
+use Rattle.path.proofs.Puts.{puts-whole}
+use Rattle.path.proofs.Record.{well-formed}
+use Rattle.path.proofs.Loads.{at-most-append, at-most-mono, path-fits}
 use Rattle.path.proofs.Lists.{drop-zeros}
 use Rattle.path_codec.specs.Plain.{plainPath}
+use Rattle.path_codec.proofs.Plain.{plain-malformed}
+use Rattle.codec.proofs.Lending.{length-barred}
 use Rattle.text.specs.Parts.{parts, partAt}
 use Rattle.text.specs.Hex.{unhex}
 use Rattle.decimal.specs.Decimal.{isDecimal, digitsAfter, readDecimal}
@@ -19,7 +26,7 @@ use Rattle.case_text.specs.Fields.{field, decimalField, hexFieldIn}
 use Rattle.case_text.proofs.FieldLaws.{hex-none, hex-some}
 use Rattle.case_text.proofs.Steps.{fields-not, fields-are}
 use Rattle.case_paths.specs.declared.Lengths.{Lengths}
-use Rattle.case_paths.specs.Raw.{allDecimals, rawPath, rawLine, lengthsOk, lengthsOf}
+use Rattle.case_paths.specs.Raw.{allDecimals, pathOf, rawPath, rawLine, lengthsOk, lengthsOf}
 
 -- ---- one number
 module _ (p : List ℕ) (rest : Bool) where
@@ -144,3 +151,31 @@ module _ (line : List ℕ) {m : ℕ} (counted : m ≡ length (parts 9 line)) whe
             let z : bytes ≡ unhex a ++ replicate (600 - length (unhex a)) 0 = f ∙ bytes-then-zeros a b 600 (sym g ∙ e) in
             let p : rawPath n (map (digitsAfter 0) (parts 44 (field 2 line))) (unhex a) ≡ record { bytes = bytes; lengths = r .lengths; count = n } = rw (z, lengths-are ok) in
             bytes-left ∙ hex-some 3 line 600 b (sym g ∙ e) told ∙ ap (λ (q : Path). lengthText (lengthAnswer plainPath q)) p ∙ ap lengthText (sym h)
+
+-- ---- a record of parts that it holds
+pub raw-record : {l left : List ℕ} (bs ls : List ℕ) (n : ℕ) → Puts 641 (n ∷ (shorts ls ++ bs)) l left → length l ≡ 641 → length bs ≡ 600 → length ls ≡ 20 → n ≤ 20 → allAtMost 65535 ls ≡ true
+    → pathIn left ≡ pathOf bs ls n
+unfolding pathFlat
+raw-record {l} {left} bs ls n p long room slots few small =
+    let count : n % 256 ≡ n = mod-eq-of-lt (omega arith) in
+    let flat : pathFlat (pathOf bs ls n) ≡ n ∷ (shorts ls ++ bs) = rw count in
+    ap pathIn (puts-whole p (omega (arith, long)) ∙ sym flat) ∙ rw append-nil at (path-fits (pathOf bs ls n) [] room slots (omega arith) small)
+
+-- parts that no record holds are refused too
+module _ (p : Path) where
+  refused-so : (wellFormed p ≡ true → ⊥) → denied 5 ≡ lengthAnswer plainPath p
+  refused-so never = go (wellFormed p) refl
+    where
+      go : (b : Bool) → wellFormed p ≡ b → denied 5 ≡ lengthAnswer plainPath p
+      go true w = absurd (never w)
+      go false w = length-barred plainPath p 5 (plain-malformed p w)
+
+  pub many-refused : 20 < p .count → denied 5 ≡ lengthAnswer plainPath p
+  many-refused h = refused-so (λ w. omega (arith, well-formed p w .count, h))
+
+  pub long-refused : allAtMost 65535 (p .lengths) ≡ false → denied 5 ≡ lengthAnswer plainPath p
+  long-refused e = refused-so (λ w.
+      let f = well-formed p w in
+      let all = rw take-append-drop at (at-most-append 65535 (take (p .count) (p .lengths)) (drop (p .count) (p .lengths))
+      (at-most-mono 300 65535 (used p) (omega arith) (f .short)) (at-most-mono 0 65535 (drop (p .count) (p .lengths)) (omega arith) (f .lengths))) in
+      true≢false (sym all ∙ e))

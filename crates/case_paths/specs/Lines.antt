@@ -4,7 +4,7 @@ use mathlib.Core.Bool.{Bool}
 use Prim.Native.Nat.{ℕ, _+_}
 use Rattle.codec.specs.Format.{Format}
 use Rattle.codec.specs.Reader.{Reader}
-use Rattle.path.specs.declared.Path.{Path}
+use Rattle.path.specs.Record.{Path}
 use Rattle.path_codec.specs.Plain.{plainPath, readPath}
 use Rattle.path_relative.specs.Records.{againstPath, extendsPath, readAgainstPath, readExtendsPath}
 use Rattle.path_text.specs.PathText.{pathTextOf}

@@ -5,7 +5,7 @@ use Prim.Native.Nat.{ℕ, _-_, _^_}
 use lib.Dec.{ltb, eqb}
 use lib.ListN.{length, replicate}
 use Rattle.codec.specs.Format.{lengthAnswer}
-use Rattle.path.specs.declared.Path.{Path}
+use Rattle.path.specs.Record.{Path}
 use Rattle.path.specs.Limits.{maxPathLength, maxComponentCount}
 use Rattle.path_codec.specs.Plain.{plainPath}
 use Rattle.text.specs.Parts.{parts}
@@ -22,8 +22,12 @@ allDecimals (p ∷ ps) = isDecimal p && (ltb (digitsAfter 0 p) (2 ^ 64) && allDe
 abbrev pub lengthsOk : List ℕ → Bool
 lengthsOk f = eqb (length (parts 44 f)) maxComponentCount && allDecimals (parts 44 f)
 
+-- a record of these parts
+abbrev pub pathOf : List ℕ → List ℕ → ℕ → Path
+pathOf bytes lengths count = record { bytes = bytes; lengths = lengths; count = count }
+
 abbrev pub rawPath : ℕ → List ℕ → List ℕ → Path
-rawPath count lengths bytes = record { bytes = bytes ++ replicate (maxPathLength - length bytes) 0; lengths = lengths; count = count }
+rawPath count lengths bytes = pathOf (bytes ++ replicate (maxPathLength - length bytes) 0) lengths count
 
 unfoldable pub rawLine : List ℕ → List ℕ
 rawLine line =

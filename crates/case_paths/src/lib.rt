@@ -1,10 +1,12 @@
 // Case lines of paths: docs/CASES.md. A line is answered where MAX_ANSWER bytes are free; elsewhere nothing changes.
 ghost use mathlib.Core.Path.{_≡_};
+ghost use mathlib.Core.List.{[]};
 ghost use Prim.Native.Nat.{_+_, _≤_};
 ghost use lib.ListN.{length, take, drop};
-ghost use Rattle.codec.specs.Answers.{outcomeOf};
-ghost use Rattle.codec.specs.Format.{writeAnswer, writeBuffer, lengthAnswer};
-ghost use Rattle.path_codec.specs.Answers.{GivesPath};
+ghost use Rattle.codec.specs.Answers.{outcomeOf, Gives};
+ghost use Rattle.codec.specs.Format.{lengthAnswer, WritesInto};
+ghost use Rattle.path.specs.Record.{pathFrom};
+ghost use Rattle.path.specs.Flat.{pathIn};
 ghost use Rattle.path_text.specs.PathText.{pathTextOf};
 ghost use Rattle.case_text.specs.Texts.{ended};
 ghost use Rattle.case_text.specs.Fields.{pathField};
@@ -17,9 +19,9 @@ use case_text::MessageField;
 use case_text::Op;
 use case_text::fields;
 use case_text::put;
+use codec::Decoded;
 use codec::Encoded;
 use path::Path;
-use path_codec::DecodedPath;
 use path_text::Found;
 
 pub mod raw;
@@ -42,29 +44,32 @@ fn decode(
     message: &[u8],
     start: usize,
     canonic: bool,
-    reference: Path,
-) -> DecodedPath
-    ensures { λ r. ⌜ GivesPath r (encodingReader encoding reference canonic (drop start (now (message .entry)))) ⌝ }
+    reference: &[u8],
+    out: &mut [u8; 641],
+) -> Decoded
+    ensures { λ r. ⌜ Gives (pathFrom []) r (pathIn (now (out .exit))) (encodingReader encoding (pathIn (now (reference .entry))) canonic (drop start (now (message .entry)))) ⌝ }
 {
     match encoding {
-        Encoding::Plain => path_codec::decode(message, start, canonic),
+        Encoding::Plain => path_codec::decode(message, start, canonic, out),
         Encoding::Against => path_relative_decode::relative_decode(
             message,
             start,
             canonic,
             reference,
+            out,
         ),
         Encoding::Extends => path_relative_decode::decode_path_extends_path(
             message,
             start,
             canonic,
             reference,
+            out,
         ),
     }
 }
 
-fn encode(encoding: Encoding, buffer: &mut [u8], path: Path, reference: Path) -> Encoded
-    ensures { λ r. ⌜ (outcomeOf r ≡ writeAnswer (encodingFormat encoding reference) path (length (now (buffer .entry)))) × (now (buffer .exit) ≡ writeBuffer (encodingFormat encoding reference) path (now (buffer .entry))) ⌝ }
+fn encode<'a>(encoding: Encoding, buffer: &mut [u8], path: &'a [u8], reference: &'a [u8]) -> Encoded
+    ensures { λ r. ⌜ WritesInto (encodingFormat encoding (pathIn (now (reference .entry)))) (pathIn (now (path .entry))) r (now (buffer .entry)) (now (buffer .exit)) ⌝ }
 {
     match encoding {
         Encoding::Plain => path_codec::encode(buffer, path),
@@ -77,8 +82,8 @@ fn encode(encoding: Encoding, buffer: &mut [u8], path: Path, reference: Path) ->
     }
 }
 
-fn len_of_encoding(encoding: Encoding, path: Path, reference: Path) -> Encoded
-    ensures { λ r. ⌜ outcomeOf r ≡ lengthAnswer (encodingFormat encoding reference) path ⌝ }
+fn len_of_encoding<'a>(encoding: Encoding, path: &'a [u8], reference: &'a [u8]) -> Encoded
+    ensures { λ r. ⌜ outcomeOf r ≡ lengthAnswer (encodingFormat encoding (pathIn (now (reference .entry)))) (pathIn (now (path .entry))) ⌝ }
 {
     match encoding {
         Encoding::Plain => path_codec::len_of_encoding(path),
@@ -88,8 +93,8 @@ fn len_of_encoding(encoding: Encoding, path: Path, reference: Path) -> Encoded
 }
 
 // Prints a path from the text's first byte on.
-fn print(path: Path, text: &mut [u8; MAX_BYTES]) -> usize
-    ensures { λ r. ⌜ take r (now (text .exit)) ≡ pathTextOf path ⌝ }
+fn print(path: &[u8; 641], text: &mut [u8; MAX_BYTES]) -> usize
+    ensures { λ r. ⌜ take r (now (text .exit)) ≡ pathTextOf (pathIn (now (path .entry))) ⌝ }
 {
     path_text::put_path(text, 0, path)
 }
@@ -103,17 +108,24 @@ fn read_path(
     reference: Path,
     canonic: bool,
 ) -> usize
-    ensures { λ r. ⌜ PutsWithin 16640 at (ended (readLine pathTextOf (encodingReader encoding reference canonic) i (now (line .entry)))) (now (out .entry)) (now (out .exit)) r ⌝ }
+    ensures { λ r. ⌜ PutsWithin 16640 at (ended (readLine pathTextOf (encodingReader encoding (pathIn (reference .flat)) canonic) i (now (line .entry)))) (now (out .entry)) (now (out .exit)) r ⌝ }
 {
     let mut bytes = [0u8; MAX_BYTES];
     let message = fields::message(line, i, &mut bytes);
     let MessageField::Message(s, n) = message else {
         return put::refuse(out, at);
     };
-    let read = decode(encoding, &bytes[..n], s, canonic, reference);
+    let mut path = [0u8; path::lent::SIZE];
+    let answer = decode(
+        encoding,
+        &bytes[..n],
+        s,
+        canonic,
+        &reference.flat,
+        &mut path,
+    );
     let mut text = [0u8; MAX_BYTES];
-    let k = print(read.path, &mut text);
-    let answer = read.answer;
+    let k = print(&path, &mut text);
     put::value(out, at, answer, &text, k)
 }
 
@@ -126,7 +138,7 @@ fn write_path(
     reference: Path,
 ) -> usize
     requires { ⌜ i ≤ 3 ⌝ }
-    ensures { λ r. ⌜ PutsWithin 16640 at (ended (writeLine pathField (encodingFormat encoding reference) i (i + 1) (now (line .entry)))) (now (out .entry)) (now (out .exit)) r ⌝ }
+    ensures { λ r. ⌜ PutsWithin 16640 at (ended (writeLine pathField (encodingFormat encoding (pathIn (reference .flat))) i (i + 1) (now (line .entry)))) (now (out .entry)) (now (out .exit)) r ⌝ }
 {
     if text::part_count(line, b'\t') != i + 2 {
         return put::refuse(out, at);
@@ -142,7 +154,7 @@ fn write_path(
     let HexField::Bytes(n) = hex else {
         return put::refuse(out, at);
     };
-    let answer = encode(encoding, &mut buffer[..n], path, reference);
+    let answer = encode(encoding, &mut buffer[..n], &path.flat, &reference.flat);
     put::written(out, at, answer, &buffer, n)
 }
 
@@ -155,7 +167,7 @@ fn len_path(
     reference: Path,
 ) -> usize
     requires { ⌜ i ≤ 3 ⌝ }
-    ensures { λ r. ⌜ PutsWithin 16640 at (ended (lengthLine pathField (encodingFormat encoding reference) i (i + 1) (now (line .entry)))) (now (out .entry)) (now (out .exit)) r ⌝ }
+    ensures { λ r. ⌜ PutsWithin 16640 at (ended (lengthLine pathField (encodingFormat encoding (pathIn (reference .flat))) i (i + 1) (now (line .entry)))) (now (out .entry)) (now (out .exit)) r ⌝ }
 {
     if text::part_count(line, b'\t') != i + 1 {
         return put::refuse(out, at);
@@ -166,7 +178,11 @@ fn len_path(
         return put::refuse(out, at);
     };
     let path = field.path;
-    put::length(out, at, len_of_encoding(encoding, path, reference))
+    put::length(
+        out,
+        at,
+        len_of_encoding(encoding, &path.flat, &reference.flat),
+    )
 }
 
 fn answer(
@@ -178,7 +194,7 @@ fn answer(
     reference: Path,
 ) -> usize
     requires { ⌜ i ≤ 3 ⌝ }
-    ensures { λ r. ⌜ PutsWithin 16640 at (ended (encodingLine encoding reference i (now (line .entry)))) (now (out .entry)) (now (out .exit)) r ⌝ }
+    ensures { λ r. ⌜ PutsWithin 16640 at (ended (encodingLine encoding (pathIn (reference .flat)) i (now (line .entry)))) (now (out .entry)) (now (out .exit)) r ⌝ }
 {
     let op = fields::op(text::part(line, b'\t', 1));
     match op {

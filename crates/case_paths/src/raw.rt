@@ -1,10 +1,21 @@
 // Case lines of a path record's raw parts.
 ghost use mathlib.Core.Path.{_≡_};
+ghost use Prim.Native.Nat.{_≤_};
+ghost use lib.ListN.{length};
+ghost use mathlib.Core.Bool.{true};
+ghost use Rattle.codec.specs.Answers.{outcomeOf};
+ghost use Rattle.codec.specs.Format.{lengthAnswer};
+ghost use Rattle.path.specs.Limits.{maxComponentCount, maxPathLength};
+ghost use Rattle.path.specs.Record.{allAtMost};
+ghost use Rattle.path.specs.Flat.{pathSize, shorts, pathIn};
+ghost use Rattle.path.specs.Puts.{Puts};
+ghost use Rattle.path_codec.specs.Plain.{plainPath};
 ghost use Rattle.case_text.specs.Texts.{ended};
 ghost use Rattle.case_text.specs.Answers.{PutsWithin};
-ghost use Rattle.case_paths.specs.Raw.{rawLine, lengthsOf};
+ghost use Rattle.case_paths.specs.Raw.{pathOf, rawLine, lengthsOf};
 use crate::Lengths;
 use case_text::put;
+use codec::Encoded;
 use decimal::Decimal;
 use path::Path;
 use text::Hex;
@@ -38,6 +49,60 @@ fn read_lengths(field: &[u8]) -> Lengths
     }
 }
 
+// Whether every length is one that a record holds.
+fn all_held(lengths: &[usize]) -> bool
+    ensures { λ r. ⌜ r ≡ allAtMost 65535 (now (lengths .entry)) ⌝ }
+{
+    let mut i: usize = 0;
+    while i < lengths.len() {
+        if 65535 < lengths[i] {
+            return false;
+        }
+        i += 1;
+    }
+    true
+}
+
+// The lengths, from the first byte on.
+fn put_lengths(flat: &mut [u8], lengths: &[usize])
+    requires { ⌜ (40 ≤ length (now flat)) × (length (now lengths) ≡ maxComponentCount) ⌝ }
+    ensures { λ _. ⌜ Puts 40 (shorts (now (lengths .entry))) (now (flat .entry)) (now (flat .exit)) ⌝ }
+{
+    let mut at: usize = 0;
+    let mut i: usize = 0;
+    while i < Path::MAX_COMPONENT_COUNT {
+        compact_u64::put_big_endian(&mut flat[at..], 2, lengths[i] as u64);
+        at += 2;
+        i += 1;
+    }
+}
+
+// A record of these parts.
+fn put_raw<'a>(flat: &mut [u8], bytes: &'a [u8], lengths: &'a [usize], count: usize)
+    requires { ⌜ (length (now flat) ≡ pathSize) × (length (now bytes) ≡ maxPathLength) × (length (now lengths) ≡ maxComponentCount) × (count ≤ maxComponentCount) × (allAtMost 65535 (now lengths) ≡ true) ⌝ }
+    ensures { λ _. ⌜ pathIn (now (flat .exit)) ≡ pathOf (now (bytes .entry)) (now (lengths .entry)) count ⌝ }
+{
+    flat[0] = count as u8;
+    put_lengths(&mut flat[path::lent::LENGTHS..], lengths);
+    byte_codec::put_bytes(&mut flat[path::lent::BYTES..], bytes);
+}
+
+// How many bytes a path of these parts takes. A count or a length that no record holds is refused as one that is too large.
+fn raw_len(bytes: [u8; 600], lengths: [usize; 20], count: usize) -> Encoded
+    ensures { λ r. ⌜ outcomeOf r ≡ lengthAnswer plainPath (pathOf bytes lengths count) ⌝ }
+{
+    if Path::MAX_COMPONENT_COUNT < count {
+        return Encoded::Malformed;
+    }
+    let held = all_held(&lengths);
+    if !held {
+        return Encoded::Malformed;
+    }
+    let mut flat = [0u8; path::lent::SIZE];
+    put_raw(&mut flat, &bytes, &lengths, count);
+    path_codec::len_of_encoding(&flat)
+}
+
 // Answers a line of raw parts.
 pub fn raw(line: &[u8], out: &mut [u8], at: usize) -> usize
     ensures { λ r. ⌜ PutsWithin 16640 at (ended (rawLine (now (line .entry)))) (now (out .entry)) (now (out .exit)) r ⌝ }
@@ -59,10 +124,5 @@ pub fn raw(line: &[u8], out: &mut [u8], at: usize) -> usize
         return put::refuse(out, at);
     };
     let ls = lengths.lengths;
-    let path = Path {
-        bytes: bytes,
-        lengths: ls,
-        count: n as usize,
-    };
-    put::length(out, at, path_codec::len_of_encoding(path))
+    put::length(out, at, raw_len(bytes, ls, n as usize))
 }

@@ -1,27 +1,23 @@
 -- The fields of a 3d range in a case line: docs/CASES.md. They are six: start and end of the subspaces, of the paths and of the times; `*` is an open end.
 use mathlib.Core.List.{List, [], _++_}
-use mathlib.Core.Bool.{true, false, cond}
+use mathlib.Core.Bool.{Bool, true, false, cond}
 use Prim.Native.Nat.{ℕ, _+_}
 use Rattle.codec.specs.Bytes.{sameBytes}
-use Rattle.path.specs.Record.{pathFrom}
-use Rattle.grouping.specs.declared.RangeEnd.{RangeEnd}
-use Rattle.grouping.specs.declared.AreaSubspace.{AreaSubspace}
+use Rattle.path.specs.declared.Path.{Path as HeldPath}
+use Rattle.path.specs.Record.{pathFrom, Path}
+use Rattle.path.specs.Flat.{pathIn, pathFlat}
 use Rattle.grouping.specs.declared.TimeRange.{TimeRange}
 use Rattle.range_3d.specs.declared.SubspaceRange.{SubspaceRange}
-use Rattle.range_3d.specs.declared.PathRange.{PathRange}
-use Rattle.range_3d.specs.declared.Range3d.{Range3d}
-use Rattle.range_3d.specs.Record.{noSubspaces, noPaths, noTimes, noRange}
+use Rattle.range_3d.specs.Record.{PathRange, Range3d, headOf, rangeWith, noSubspaces, noTimes, noRange}
 use Rattle.text.specs.Decimal.{decimalText}
 use Rattle.text.specs.Hex.{hexText}
 use Rattle.area_text.specs.AreaText.{star, readSubspaceText, readEndText, subspaceText, endText}
 use Rattle.path_text.specs.declared.Found.{Found}
 use Rattle.path_text.specs.declared.Found.the-variants as found
 use Rattle.path_text.specs.PathText.{readPathText, pathTextOf}
-use Rattle.path.specs.declared.Path.{Path}
 use Rattle.case_text.specs.Texts.{afterTab}
 use Rattle.case_text.specs.Fields.{field, onField, decimalField, idField, pathField}
 use Rattle.case_range_text.specs.declared.SubspacesField.{SubspacesField}
-use Rattle.case_range_text.specs.declared.PathEnd.{PathEnd}
 use Rattle.case_range_text.specs.declared.PathEndField.{PathEndField}
 use Rattle.case_range_text.specs.declared.PathsField.{PathsField}
 use Rattle.case_range_text.specs.declared.TimesField.{TimesField}
@@ -31,39 +27,42 @@ use Rattle.case_range_text.specs.declared.RangeField.{RangeField}
 abbrev pub subspacesText : SubspaceRange → List ℕ
 subspacesText s = hexText (s .start) ++ afterTab (subspaceText (record { any = s .«end_open»; id = s .end }))
 
-unfoldable pub pathEndText : PathRange → List ℕ
-pathEndText p = cond (p .«end_open») star (pathTextOf (p .end))
+unfoldable pub pathEndText : Bool → Path → List ℕ
+pathEndText endOpen end = cond endOpen star (pathTextOf end)
 
 abbrev pub rangeText : Range3d → List ℕ
 rangeText r =
     subspacesText (r .subspaces)
     ++ afterTab (pathTextOf (r .paths .start))
-    ++ afterTab (pathEndText (r .paths))
+    ++ afterTab (pathEndText (r .paths .«end_open») (r .paths .end))
     ++ afterTab (decimalText (r .times .start))
     ++ afterTab (endText (r .times .end))
 
--- ---- read, from the i-th field on. An open end of subspaces reads as the area's any subspace does
+-- ---- read, from the i-th field on; paths are held as their bytes. An open end of subspaces reads as the area's any subspace does
 abbrev pub subspacesField : ℕ → List ℕ → (SubspaceRange → List ℕ) → List ℕ
 subspacesField i line k =
     idField i line (λ start.
     onField (readSubspaceText (field (i + 1) line) .ok) (readSubspaceText (field (i + 1) line) .subspace) (λ end.
     k (record { start = start; «end_open» = end .any; end = end .id })))
 
-abbrev pub closedEnd : Found → Path → PathEndField
+abbrev pub emptyPath : HeldPath
+emptyPath = record { flat = pathFlat (pathFrom []) }
+
+abbrev pub closedEnd : Found → HeldPath → PathEndField
 closedEnd found.Read p = record { ok = true; end = record { «end_open» = false; path = p } }
 closedEnd found.Refused p = record { ok = false; end = record { «end_open» = false; path = p } }
 
 unfoldable pub readPathEnd : List ℕ → PathEndField
 readPathEnd s =
     cond (sameBytes s star)
-    (record { ok = true; end = record { «end_open» = true; path = pathFrom [] } })
+    (record { ok = true; end = record { «end_open» = true; path = emptyPath } })
     (closedEnd (readPathText s .found) (readPathText s .path))
 
 abbrev pub pathsField : ℕ → List ℕ → (PathRange → List ℕ) → List ℕ
 pathsField i line k =
     pathField i line (λ start.
     onField (readPathEnd (field (i + 1) line) .ok) (readPathEnd (field (i + 1) line) .end) (λ end.
-    k (record { start = start; «end_open» = end .«end_open»; end = end .path })))
+    k (record { start = start; «end_open» = end .«end_open»; end = pathIn (end .path .flat) })))
 
 abbrev pub timesField : ℕ → List ℕ → (TimeRange → List ℕ) → List ℕ
 timesField i line k =
@@ -78,15 +77,22 @@ rangeField i line k =
     timesField (i + 4) line (λ times.
     k (record { subspaces = subspaces; paths = paths; times = times }))))
 
+-- what fields said
+abbrev pub pathsSaid : PathsField → PathRange
+pathsSaid p = record { start = pathIn (p .start .flat); «end_open» = p .end .«end_open»; end = pathIn (p .end .path .flat) }
+
+abbrev pub rangeSaid : RangeField → Range3d
+rangeSaid r = rangeWith (r .head) (pathIn (r .start .flat)) (pathIn (r .end .flat))
+
 -- what stands beside fields that are not in their form: nothing lies in it
 unfoldable pub noSubspacesField : SubspacesField
 noSubspacesField = record { ok = false; subspaces = noSubspaces }
 
 unfoldable pub noPathsField : PathsField
-noPathsField = record { ok = false; paths = noPaths }
+noPathsField = record { ok = false; start = emptyPath; end = record { «end_open» = false; path = emptyPath } }
 
 unfoldable pub noTimesField : TimesField
 noTimesField = record { ok = false; times = noTimes }
 
 unfoldable pub noRangeField : RangeField
-noRangeField = record { ok = false; range = noRange }
+noRangeField = record { ok = false; head = headOf noRange; start = emptyPath; end = emptyPath }

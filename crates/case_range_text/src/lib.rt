@@ -3,10 +3,12 @@ ghost use mathlib.Core.Path.{_≡_};
 ghost use mathlib.Core.Bool.{cond};
 ghost use Prim.Native.Nat.{_≤_};
 ghost use lib.ListN.{length};
+ghost use Rattle.path.specs.Flat.{pathIn};
+ghost use Rattle.range_3d.specs.Record.{rangeWith};
 ghost use Rattle.text.specs.Buffer.{placeAfter, putAt};
 ghost use Rattle.case_text.specs.Answers.{Puts};
 ghost use Rattle.case_text.specs.Fields.{Says};
-ghost use Rattle.case_range_text.specs.Fields.{subspacesField, noSubspacesField, readPathEnd, pathsField, noPathsField, timesField, noTimesField, rangeField, noRangeField, subspacesText, pathEndText, rangeText};
+ghost use Rattle.case_range_text.specs.Fields.{subspacesField, noSubspacesField, readPathEnd, pathsField, pathsSaid, noPathsField, timesField, noTimesField, rangeField, rangeSaid, noRangeField, subspacesText, pathEndText, rangeText};
 use case_text::MAX_BYTES;
 use decimal::Decimal;
 use grouping::AreaSubspace;
@@ -14,8 +16,7 @@ use grouping::RangeEnd;
 use grouping::TimeRange;
 use path::Path;
 use path_text::Found;
-use range_3d::PathRange;
-use range_3d::Range3d;
+use range_3d::Range3dHead;
 use range_3d::SubspaceRange;
 
 // Subspaces that two fields say; where they are not in their form, some in which no subspace lies.
@@ -37,7 +38,8 @@ pub struct PathEndField {
 
 pub struct PathsField {
     pub ok: bool,
-    pub paths: PathRange,
+    pub start: Path,
+    pub end: PathEnd,
 }
 
 pub struct TimesField {
@@ -48,7 +50,9 @@ pub struct TimesField {
 // A 3d range that six fields say; where they are not in their form, one in which nothing lies.
 pub struct RangeField {
     pub ok: bool,
-    pub range: Range3d,
+    pub head: Range3dHead,
+    pub start: Path,
+    pub end: Path,
 }
 
 fn no_subspaces() -> SubspacesField
@@ -131,17 +135,17 @@ fn no_paths() -> PathsField
     let end = Path::new_empty();
     PathsField {
         ok: false,
-        paths: PathRange {
-            start: start,
+        start: start,
+        end: PathEnd {
             end_open: false,
-            end: end,
+            path: end,
         },
     }
 }
 
 fn read_paths(line: &[u8], i: usize) -> PathsField
     requires { ⌜ i ≤ 300 ⌝ }
-    ensures { λ r. ⌜ Says (pathsField i (now (line .entry))) (r .ok) (r .paths) ⌝ }
+    ensures { λ r. ⌜ Says (pathsField i (now (line .entry))) (r .ok) (pathsSaid r) ⌝ }
 {
     let first = path_text::read_path(text::part(line, b'\t', i));
     let found = first.found;
@@ -153,15 +157,11 @@ fn read_paths(line: &[u8], i: usize) -> PathsField
         return no_paths();
     }
     let start = first.path;
-    let last = second.end;
-    let end = last.path;
+    let end = second.end;
     PathsField {
         ok: true,
-        paths: PathRange {
-            start: start,
-            end_open: last.end_open,
-            end: end,
-        },
+        start: start,
+        end: end,
     }
 }
 
@@ -206,21 +206,25 @@ fn no_range() -> RangeField
     let no_paths = no_paths();
     let no_times = no_times();
     let subspaces = no_subspaces.subspaces;
-    let paths = no_paths.paths;
     let times = no_times.times;
+    let start = no_paths.start;
+    let last = no_paths.end;
+    let end = last.path;
     RangeField {
         ok: false,
-        range: Range3d {
+        head: Range3dHead {
             subspaces: subspaces,
-            paths: paths,
+            end_open: false,
             times: times,
         },
+        start: start,
+        end: end,
     }
 }
 
 // Reads the place-th field of a line and the five after it.
 pub fn read_range(line: &[u8], place: u8) -> RangeField
-    ensures { λ r. ⌜ Says (rangeField place (now (line .entry))) (r .ok) (r .range) × (r ≡ cond (r .ok) r noRangeField) ⌝ }
+    ensures { λ r. ⌜ Says (rangeField place (now (line .entry))) (r .ok) (rangeSaid r) × (r ≡ cond (r .ok) r noRangeField) ⌝ }
 {
     let i = place as usize;
     let first = read_subspaces(line, i);
@@ -236,21 +240,25 @@ pub fn read_range(line: &[u8], place: u8) -> RangeField
         return no_range();
     }
     let subspaces = first.subspaces;
-    let paths = second.paths;
     let times = third.times;
+    let start = second.start;
+    let last = second.end;
+    let end = last.path;
     RangeField {
         ok: true,
-        range: Range3d {
+        head: Range3dHead {
             subspaces: subspaces,
-            paths: paths,
+            end_open: last.end_open,
             times: times,
         },
+        start: start,
+        end: end,
     }
 }
 
 // Prints subspaces from the buffer's first byte on.
 fn print_subspaces(subspaces: SubspaceRange, buffer: &mut [u8; MAX_BYTES]) -> usize
-    ensures { λ r. ⌜ Puts 0 (subspacesText subspaces) (now (buffer .entry)) (now (buffer .exit)) r × (length (now (buffer .entry)) ≡ 8192) ⌝ }
+    ensures { λ r. ⌜ Puts 0 (subspacesText subspaces) (now (buffer .entry)) (now (buffer .exit)) r × (length (now (buffer .entry)) ≡ 8192) × (r ≤ 129) ⌝ }
 {
     let start = subspaces.start;
     let end = subspaces.end;
@@ -263,29 +271,33 @@ fn print_subspaces(subspaces: SubspaceRange, buffer: &mut [u8; MAX_BYTES]) -> us
     area_text::put_subspace(buffer, p, last)
 }
 
-fn put_path_end(out: &mut [u8], at: usize, paths: PathRange) -> usize
-    ensures { λ r. ⌜ (r ≡ placeAfter at (pathEndText paths) (now (out .entry))) × (now (out .exit) ≡ putAt at (pathEndText paths) (now (out .entry))) ⌝ }
+fn put_path_end(out: &mut [u8], at: usize, end_open: bool, end: &[u8]) -> usize
+    ensures { λ r. ⌜ (r ≡ placeAfter at (pathEndText «end_open» (pathIn (now (end .entry)))) (now (out .entry))) × (now (out .exit) ≡ putAt at (pathEndText «end_open» (pathIn (now (end .entry)))) (now (out .entry))) ⌝ }
 {
-    if paths.end_open {
+    if end_open {
         return text::put_bytes(out, at, b"*");
     }
-    path_text::put_path(out, at, paths.end)
+    path_text::put_path(out, at, end)
 }
 
 // Prints a 3d range from the buffer's first byte on.
-pub fn print_range(range: Range3d, buffer: &mut [u8; MAX_BYTES]) -> usize
-    ensures { λ r. ⌜ Puts 0 (rangeText range) (now (buffer .entry)) (now (buffer .exit)) r ⌝ }
+pub fn print_range(
+    range: Range3dHead,
+    start: &[u8; 641],
+    end: &[u8; 641],
+    buffer: &mut [u8; MAX_BYTES],
+) -> usize
+    ensures { λ r. ⌜ Puts 0 (rangeText (rangeWith range (pathIn (now (start .entry))) (pathIn (now (end .entry))))) (now (buffer .entry)) (now (buffer .exit)) r ⌝ }
 {
-    let paths = range.paths;
     let times = range.times;
-    let end = times.end;
+    let times_end = times.end;
     let mut p = print_subspaces(range.subspaces, buffer);
     p = text::put_bytes(buffer, p, b"\t");
-    p = path_text::put_path(buffer, p, paths.start);
+    p = path_text::put_path(buffer, p, start);
     p = text::put_bytes(buffer, p, b"\t");
-    p = put_path_end(buffer, p, paths);
+    p = put_path_end(buffer, p, range.end_open, end);
     p = text::put_bytes(buffer, p, b"\t");
     p = text::put_decimal(buffer, p, times.start);
     p = text::put_bytes(buffer, p, b"\t");
-    area_text::put_end(buffer, p, end)
+    area_text::put_end(buffer, p, times_end)
 }

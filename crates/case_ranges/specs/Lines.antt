@@ -2,7 +2,7 @@
 use mathlib.Core.List.{List}
 use Prim.Native.Nat.{ℕ}
 use Rattle.range3d_range3d.specs.Records.{againstRange, readAgainstRange}
-use Rattle.range_3d.specs.declared.Range3d.{Range3d}
+use Rattle.range_3d.specs.Record.{Range3d}
 use Rattle.case_text.specs.declared.Op.{Op}
 use Rattle.case_text.specs.Fields.{field, opOf}
 use Rattle.case_text.specs.Records.{lenientLine}

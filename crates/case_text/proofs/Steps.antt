@@ -1,5 +1,6 @@
 -- What fields that were read say to whatever comes after them.
 use Rattle.codec.proofs.Prelude.{_≡_, sym, _∙_, List, _++_, Bool, true, false, ℕ, _≤_, eq-eqb, ne-eqb, length, take, drop, length-take-le, take-at}
+use Rattle.path.specs.Flat.{pathIn}
 use Rattle.path_text.specs.declared.PathField.{PathField}
 use Rattle.path_text.specs.declared.Found.the-variants as found
 use Rattle.path_text.specs.PathText.{readPathText}
@@ -38,10 +39,10 @@ module _ (i : ℕ) (line : List ℕ) where
   pub decimal-says-no : readDecimal (partAt 9 i line) ≡ decimal.Refused → Says (decimalField i line) false 0
   decimal-says-no e = record { said = λ k. rw e }
 
-  pub path-says : {x : PathField} → x .found ≡ found.Read → x ≡ readPathText (partAt 9 i line) → Says (pathField i line) true (x .path)
+  pub path-says : {x : PathField} → x .found ≡ found.Read → x ≡ readPathText (partAt 9 i line) → Says (pathField i line) true (pathIn (x .path .flat))
   path-says e read = record { said = λ k. rw (← read, e) }
 
-  pub path-says-no : {x : PathField} → x .found ≡ found.Refused → x ≡ readPathText (partAt 9 i line) → Says (pathField i line) false (x .path)
+  pub path-says-no : {x : PathField} → x .found ≡ found.Refused → x ≡ readPathText (partAt 9 i line) → Says (pathField i line) false (pathIn (x .path .flat))
   path-says-no e read = record { said = λ k. rw (← read, e) }
 
 -- ---- the i-th field as bytes in hex, which was read into a buffer

@@ -5,7 +5,8 @@ use mathlib.Core.Bool.{Bool, cond}
 use Prim.Native.Nat.{ℕ, _+_}
 use lib.Dec.{eqb}
 use lib.ListN.{length}
-use Rattle.path.specs.declared.Path.{Path}
+use Rattle.path.specs.Record.{Path}
+use Rattle.path.specs.Flat.{pathIn}
 use Rattle.path_text.specs.declared.Found.{Found}
 use Rattle.path_text.specs.declared.Found.the-variants as found
 use Rattle.path_text.specs.PathText.{readPathText}
@@ -76,7 +77,7 @@ onPath found.Read p k = k p
 onPath found.Refused p k = six
 
 abbrev pub pathField : ℕ → List ℕ → (Path → List ℕ) → List ℕ
-pathField i line k = onPath (readPathText (field i line) .found) (readPathText (field i line) .path) k
+pathField i line k = onPath (readPathText (field i line) .found) (pathIn (readPathText (field i line) .path .flat)) k
 
 -- the operation in the second field: `s`, `l`, `w` or `n`
 unfoldable pub opOf : List ℕ → Op

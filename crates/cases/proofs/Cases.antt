@@ -18,7 +18,7 @@ use Rattle.area_area.specs.Area.{areaBytes, readSubspace, readParts, readArea}
 use Rattle.area_area.specs.Records.{readAgainstArea}
 use Rattle.entry.specs.Entry.{liesInsideArea}
 use Rattle.entry.specs.Record.{entryFrom, wellFormedEntry}
-use Rattle.entry_end.specs.End as ends
+use Rattle.entry_area_end.specs.End as ends
 use Rattle.entry_area.specs.Entry as entries
 use Rattle.entry_area.specs.Records.{readAgainstNamespaceArea}
 use Rattle.range_3d.specs.Record.{subspacesFrom, pathsFrom, rangeFrom, wellFormedSubspaces, wellFormedPaths, wellFormedRange3d}

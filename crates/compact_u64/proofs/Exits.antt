@@ -1,11 +1,11 @@
 -- What the readers' and writers' definitions answer at each exit of the code.
-use Rattle.codec.proofs.Prelude.{_≡_, refl, ap, _∙_, sym, List, [], _∷_, _++_, Bool, true, false, cond, ⊎-elim, _-_, ℕ, _+_, _^_, _≤_, _<_, add-one, arith, OneOf, leb, eqb, length, take, drop, set, getD, drop-of-length-le, length-drop, drop-cons, lt-ltb, le-ltb, le-leb, lt-leb, eq-eqb, leb-true, leb-false}
+use Rattle.codec.proofs.Prelude.{_≡_, refl, ap, _∙_, sym, List, [], _∷_, _++_, Bool, true, false, cond, ⊎-elim, _-_, ℕ, _+_, _^_, _≤_, _<_, add-one, arith, OneOf, leb, eqb, length, take, drop, set, getD, drop-of-length-le, length-drop, drop-cons, lt-ltb, le-ltb, le-leb, lt-leb, eq-eqb, ne-eqb, leb-true, leb-false}
 use denote.Enum.Declared as declared
 use Rattle.codec.specs.Answers.{accepted, refused, answerOf}
 use Rattle.codec.specs.Format.{allowed, over, putBuffer}
 use Rattle.codec.specs.Reader.{shift, passed}
 use Rattle.codec.proofs.Lending.{put-over}
-use Rattle.compact_u64.specs.BigEndian.{bigEndian, valueOf}
+use Rattle.compact_u64.specs.BigEndian.{bigEndian, valueOf, readBigEndian}
 use Rattle.compact_u64.specs.Number.{inlineLimit, widthExponent, minTag, encodingWidth, numberBytes, numberSaid, standaloneBytes, readNumber, readStandalone}
 use Rattle.compact_u64.specs.Answers.{bits, numberAnswer, refusalOf}
 use Rattle.compact_u64.specs.declared.TagWidth.{TagWidth}
@@ -21,6 +21,20 @@ four-tags width.Two = refl
 four-tags width.Three = refl
 four-tags width.Four = refl
 four-tags width.Eight = refl
+
+-- ---- reading n bytes as a number
+pub big-wide : (n : ℕ) (s : List ℕ) → 8 < n → readBigEndian n s ≡ refused 2
+unfolding readBigEndian
+big-wide n s h = rw (lt-leb n 8 h)
+
+module _ (n : ℕ) (s : List ℕ) (small : n ≤ 8) where
+  pub big-short : length s < n → readBigEndian n s ≡ refused 1
+  unfolding readBigEndian
+  big-short h = rw (le-leb n 8 small, lt-leb n (length s) h)
+
+  pub big-there : n ≤ length s → readBigEndian n s ≡ accepted (valueOf (take n s)) n
+  unfolding readBigEndian
+  big-there h = rw (le-leb n 8 small, le-leb n (length s) h)
 
 -- ---- reading after a tag
 module _ (canonic : Bool) (w tag : ℕ) (s : List ℕ) where
@@ -44,10 +58,39 @@ module _ (canonic : Bool) (w tag : ℕ) (s : List ℕ) where
     read-short l = rw (lt-ltb tag (2 ^ w) t, le-ltb tag (inlineLimit w) h, ← e, lt-leb n (length s) l)
 
     -- the bytes are there: strict asks for the tag
-    pub read-bytes : n ≤ length s → readNumber canonic w tag s
+    read-bytes : n ≤ length s → readNumber canonic w tag s
         ≡ passed (cond canonic (eqb (minTag w (valueOf (take n s))) tag) true) (accepted (valueOf (take n s)) n)
     unfolding readNumber encodingWidth numberSaid
     read-bytes l = rw (lt-ltb tag (2 ^ w) t, le-ltb tag (inlineLimit w) h, ← e, le-leb n (length s) l, le-ltb tag (inlineLimit w) h)
+
+    -- what reading them answers
+    module _ (small : n ≤ 8) where
+      pub read-refused : (k : ℕ) → readBigEndian n s ≡ refused k → readNumber canonic w tag s ≡ refused k
+      read-refused k f = go (leb n (length s)) refl
+        where
+          go : (b : Bool) → leb n (length s) ≡ b → readNumber canonic w tag s ≡ refused k
+          go true p = let g = big-there n s small (leb-true n (length s) p) in let z : _≡_ {A = ℕ} 0 1 = cc in absurd (omega arith)
+          go false p = let l = leb-false n (length s) p in read-short l ∙ sym (big-short n s small l) ∙ f
+
+      module _ (v m : ℕ) (f : readBigEndian n s ≡ accepted v m) where
+        read-value : readNumber canonic w tag s ≡ passed (cond canonic (eqb (minTag w v) tag) true) (accepted v n)
+        read-value = go (leb n (length s)) refl
+          where
+            go : (b : Bool) → leb n (length s) ≡ b → readNumber canonic w tag s ≡ passed (cond canonic (eqb (minTag w v) tag) true) (accepted v n)
+            go true p =
+                let g = big-there n s small (leb-true n (length s) p) in
+                let same : valueOf (take n s) ≡ v = cc in
+                rw (← same) (read-bytes (leb-true n (length s) p))
+            go false p = let g = big-short n s small (leb-false n (length s) p) in let z : _≡_ {A = ℕ} 0 1 = cc in absurd (omega arith)
+
+        pub read-lenient : canonic ≡ false → readNumber canonic w tag s ≡ accepted v n
+        read-lenient c = read-value ∙ rw c
+
+        pub read-strict : canonic ≡ true → minTag w v ≡ tag → readNumber canonic w tag s ≡ accepted v n
+        read-strict c same = read-value ∙ rw (c, eq-eqb (minTag w v) tag same)
+
+        pub read-longer : canonic ≡ true → (minTag w v ≡ tag → ⊥) → readNumber canonic w tag s ≡ refused 2
+        read-longer c other = read-value ∙ rw (c, ne-eqb (minTag w v) tag other)
 
 -- ---- reading a standalone number
 pub standalone-none : (canonic : Bool) (s : List ℕ) (i : ℕ) → length s ≤ i → readStandalone canonic (drop i s) ≡ refused 1

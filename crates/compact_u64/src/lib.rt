@@ -1,10 +1,11 @@
 // Compact numbers: docs/FORMAT.md, "Compact numbers". Names follow the crate compact_u64 that willow-rs uses.
 ghost use mathlib.Core.Path.{_≡_};
+ghost use mathlib.Core.List.{_++_};
 ghost use Prim.Native.Nat.{_+_, _≤_, _<_, _^_};
-ghost use lib.ListN.{length, take, drop};
+ghost use lib.ListN.{length, drop};
 ghost use Rattle.codec.specs.Answers.{outcomeOf};
 ghost use Rattle.codec.specs.Format.{allowed, putAnswer, putBuffer, writeAnswer, writeBuffer};
-ghost use Rattle.compact_u64.specs.BigEndian.{valueOf, bigEndian};
+ghost use Rattle.compact_u64.specs.BigEndian.{bigEndian, readBigEndian};
 ghost use Rattle.compact_u64.specs.Number.{inlineLimit, widthExponent, minTag, numberBytes, standaloneBytes, readNumber, readStandalone, standalone};
 ghost use Rattle.compact_u64.specs.Answers.{bits, numberAnswer, refusalOf};
 use codec::Decoded;
@@ -82,19 +83,23 @@ pub fn min_tag(width: TagWidth, value: u64) -> u8
     (limit + width_exponent(value)) as u8
 }
 
-// The number that `n` bytes from `start` on make.
-fn big_endian(message: &[u8], start: usize, n: usize) -> u64
-    requires { ⌜ (n ≤ 8) × (start + n ≤ length (now message)) ⌝ }
-    ensures { λ r. ⌜ r ≡ valueOf (take n (drop start (now (message .entry)))) ⌝ }
+// Reads the number that the first `n` bytes make, the highest first; more than eight are refused.
+pub fn decode_big_endian(message: &[u8], n: usize) -> DecodedU64
+    ensures { λ r. ⌜ numberAnswer r ≡ readBigEndian n (now (message .entry)) ⌝ }
 {
+    if 8 < n {
+        return DecodedU64::TheirFault;
+    }
+    if message.len() < n {
+        return DecodedU64::EndOfInput;
+    }
     let mut v: u64 = 0;
     let mut i: usize = 0;
     while i < n {
-        let at = start + i;
-        v = v * 256 + wide(message[at]);
+        v = v * 256 + wide(message[i]);
         i += 1;
     }
-    v
+    DecodedU64::Value(v, n)
 }
 
 // Reads the bytes after `tag`, which start at `start`.
@@ -119,10 +124,10 @@ pub fn relative_decode(
     if message.len() < start {
         return DecodedU64::EndOfInput;
     }
-    if message.len() - start < n {
-        return DecodedU64::EndOfInput;
-    }
-    let v = big_endian(message, start, n);
+    let read = decode_big_endian(&message[start..], n);
+    let DecodedU64::Value(v, _) = read else {
+        return read;
+    };
     if canonic {
         let shortest = min_tag(width, v);
         if shortest != tag {
@@ -191,6 +196,34 @@ pub fn relative_encode(buffer: &mut [u8], width: TagWidth, value: u64) -> Encode
     ensures { λ r. ⌜ (outcomeOf r ≡ putAnswer allowed (numberBytes (bits width) value) (length (now (buffer .entry)))) × (now (buffer .exit) ≡ putBuffer allowed (numberBytes (bits width) value) (now (buffer .entry))) ⌝ }
 {
     put_big_endian(buffer, relative_len_of_encoding(width, value), value)
+}
+
+// How many bytes two numbers take after their tags.
+pub fn relative_len_of_pair(width: TagWidth, value: u64, next_width: TagWidth, next: u64) -> usize
+    ensures { λ r. ⌜ (r ≡ length (numberBytes (bits width) value ++ numberBytes (bits «next_width») next)) × (r ≤ 16) ⌝ }
+{
+    let n = relative_len_of_encoding(width, value);
+    n + relative_len_of_encoding(next_width, next)
+}
+
+// Writes the bytes of two numbers after their tags.
+pub fn relative_encode_pair(
+    buffer: &mut [u8],
+    width: TagWidth,
+    value: u64,
+    next_width: TagWidth,
+    next: u64,
+) -> Encoded
+    ensures { λ r. ⌜ (outcomeOf r ≡ putAnswer allowed (numberBytes (bits width) value ++ numberBytes (bits «next_width») next) (length (now (buffer .entry)))) × (now (buffer .exit) ≡ putBuffer allowed (numberBytes (bits width) value ++ numberBytes (bits «next_width») next) (now (buffer .entry))) ⌝ }
+{
+    let both = relative_len_of_pair(width, value, next_width, next);
+    if buffer.len() < both {
+        return Encoded::NoRoom;
+    }
+    let n = relative_len_of_encoding(width, value);
+    relative_encode(buffer, width, value);
+    relative_encode(&mut buffer[n..], next_width, next);
+    Encoded::Length(both)
 }
 
 // How many bytes a standalone number takes.

@@ -17,16 +17,13 @@ use lib.ListN.{drop}
 use Rattle.codec.specs.Bytes.{TypedId}
 use Rattle.codec.specs.Answers.{accepted, AllBytes}
 use Rattle.codec.specs.Demand3.{Demand3}
-use Rattle.path.specs.declared.Path.{Path}
-use Rattle.path.specs.Record.{wellFormed, TypedPath}
+use Rattle.path.specs.Record.{Path, wellFormed, TypedPath}
 use Rattle.path_relative.specs.Records.{againstPath, readAgainstPath}
-use Rattle.grouping.specs.declared.Area.{Area}
+use Rattle.grouping.specs.Record.{Area, areaOf, wellFormedArea, TypedArea}
 use Rattle.grouping.specs.Area.{liesInside}
-use Rattle.grouping.specs.Record.{areaOf, wellFormedArea, TypedArea}
 use Rattle.area_area.specs.Records.{againstArea, readAgainstArea}
-use Rattle.entry.specs.declared.Entry.{Entry}
+use Rattle.entry.specs.Record.{Entry, entryOf, TypedEntry}
 use Rattle.entry.specs.Entry.{liesInsideArea}
-use Rattle.entry.specs.Record.{entryOf, TypedEntry}
 use Rattle.entry_area.specs.Records.{againstNamespaceArea, readAgainstNamespaceArea}
 
 pub record Whole : Type 0 where

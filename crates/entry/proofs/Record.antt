@@ -3,12 +3,9 @@ use Rattle.codec.proofs.Prelude.{_≡_, true}
 use Rattle.path.specs.Limits.{PathOk}
 use Rattle.path.specs.Record.{componentsOf, pathFrom}
 use Rattle.path.proofs.Limits.{typed-of}
-use Rattle.path.specs.Flat.{pathFlat, pathIn}
 use Rattle.path.proofs.Record.{well-formed, formed-well, apart, made, components-of}
-use Rattle.path.proofs.Loads.{flat-back}
-use Rattle.entry.specs.declared.Entry.{Entry}
+use Rattle.entry.specs.Record.{Entry, entryOf, entryFrom, wellFormedEntry, TypedEntry}
 use Rattle.entry.specs.Entry.{EntryValue, TypedEntryValue}
-use Rattle.entry.specs.Record.{entryOf, entryFrom, wellFormedEntry, TypedEntry}
 
 pub record ApartEntry (e : Entry) : Type 0 where
   pub typed : TypedEntryValue (entryOf e)
@@ -46,8 +43,3 @@ made-entry v t ok =
       well = formed-well (pathFrom (v .path)) (p .well);
       back = rw (components-of (v .path));
     }
-
--- the flat path of an entry that was tested whole
-pub flat-path : (e : Entry) → TypedEntry e → wellFormedEntry e ≡ true → pathIn (pathFlat (e .path)) ≡ e .path
-unfolding wellFormedEntry
-flat-path e t w = flat-back (e .path) (t .path) w

@@ -1,17 +1,19 @@
 -- What stands beside a reader's answer.
-use mathlib.Core.List.{[]}
+use mathlib.Core.List.{List, []}
+use Prim.Native.Nat.{ℕ}
 use Rattle.codec.specs.Answers.{Answer, Gives}
 use Rattle.codec.specs.Bytes.{zeroId}
 use Rattle.codec.specs.declared.Decoded.{Decoded}
-use Rattle.entry.specs.declared.Entry.{Entry}
-use Rattle.entry.specs.declared.DecodedEntry.{DecodedEntry}
-use Rattle.entry.specs.Record.{entryFrom}
+use Rattle.entry.specs.Record.{Entry, entryFrom, entryWith, fieldsOf}
+use Rattle.entry.specs.declared.DecodedFields.{DecodedFields}
+use Rattle.path.specs.Flat.{pathIn}
 
 abbrev pub zeroEntry : Entry
 zeroEntry = entryFrom (record { namespace = zeroId; subspace = zeroId; path = []; time = 0; size = 0; digest = zeroId })
 
-abbrev pub GivesEntry : DecodedEntry → Answer Entry → Type 0
-GivesEntry r x = Gives zeroEntry (r .answer) (r .entry) x
+-- the fields, and the record that the path was read into
+abbrev pub ReadsEntry : DecodedFields → List ℕ → Answer Entry → Type 0
+ReadsEntry r path x = Gives zeroEntry (r .answer) (entryWith (r .fields) (pathIn path)) x
 
-unfoldable pub refusal : Decoded → DecodedEntry
-refusal d = record { answer = d; entry = zeroEntry }
+unfoldable pub fieldsRefusal : Decoded → DecodedFields
+fieldsRefusal d = record { answer = d; fields = fieldsOf zeroEntry }

@@ -1,5 +1,4 @@
 -- docs/FORMAT.md, "Entries": an entry on plain values.
-use mathlib.Core.Path.{_≡_}
 use mathlib.Core.List.{List}
 use mathlib.Core.Bool.{Bool, _&&_}
 use mathlib.Core.Option.{some}

@@ -1,23 +1,26 @@
--- docs/FORMAT.md, "Entries": an entry as the code holds it. It is well formed when its path is.
+-- docs/FORMAT.md, "Entries": an entry's record. It is well formed when its path is. The code holds the path's record apart from the other fields.
 use mathlib.Core.List.{List}
-use mathlib.Core.Bool.{Bool, cond, _&&_}
+use mathlib.Core.Bool.{Bool, _&&_}
 use mathlib.Core.Option.{some}
 use Prim.Native.Nat.{ℕ}
 use Rattle.codec.specs.Bytes.{sameBytes, TypedId}
 use Rattle.compact_u64.specs.Number.{U64}
-use Rattle.path.specs.declared.Path.{Path}
-use Rattle.path.specs.declared.Compared.{Compared}
-use Rattle.path.specs.declared.Compared.the-variants as compared
-use Rattle.path.specs.Record.{componentsOf, pathFrom, sized, wellFormed, TypedPath}
-use Rattle.path.specs.Answers.{verdict}
-use Rattle.grouping.specs.declared.Area.{Area}
+use Rattle.path.specs.Record.{Path, componentsOf, pathFrom, sized, wellFormed, TypedPath}
+use Rattle.path.specs.Answers.{Said, saidIf}
+use Rattle.grouping.specs.Record.{Area, subspaceOf, areaOf, wellFormedArea}
 use Rattle.grouping.specs.declared.AreaHead.{AreaHead}
 use Rattle.grouping.specs.Range.{includesTime}
 use Rattle.grouping.specs.Area.{includesSubspace}
-use Rattle.grouping.specs.Record.{subspaceOf, areaOf, wellFormedArea}
-use Rattle.entry.specs.declared.Entry.{Entry}
 use Rattle.entry.specs.declared.EntryFields.{EntryFields}
 use Rattle.entry.specs.Entry.{EntryValue, liesInsideArea}
+
+pub record Entry : Type 0 where
+  pub «namespace_id» : List ℕ
+  pub «subspace_id» : List ℕ
+  pub path : Path
+  pub timestamp : ℕ
+  pub «payload_length» : ℕ
+  pub «payload_digest» : List ℕ
 
 -- ---- the values of a record, and the record of values
 abbrev pub entryOf : Entry → EntryValue
@@ -85,5 +88,5 @@ fieldsInside n h f =
     && includesTime (h .times) (f .timestamp))
 
 -- 5 unless both are well formed
-unfoldable pub entryInside : List ℕ → Area → Entry → Compared
-entryInside n r e = cond (wellFormedArea r && wellFormedEntry e) (verdict (liesInsideArea n (areaOf r) (entryOf e))) compared.Malformed
+unfoldable pub entryInside : List ℕ → Area → Entry → Said Bool
+entryInside n r e = saidIf (wellFormedArea r && wellFormedEntry e) (liesInsideArea n (areaOf r) (entryOf e))

@@ -18,12 +18,12 @@ use Rattle.path_relative.proofs.Against.{against-reads, against-relaxes}
 use Rattle.grouping.specs.Range.{TypedRange, includesTime}
 use Rattle.grouping.specs.Area.{AreaValue, TypedSubspace, includesSubspace}
 use Rattle.entry.specs.Entry.{EntryValue, liesInsideArea}
-use Rattle.entry_end.specs.declared.Header.{Header}
-use Rattle.entry_end.specs.Header.{unpackHeader, packHeader, HeaderFits}
-use Rattle.entry_end.specs.End.{headerOf, endFrom}
-use Rattle.entry_end.specs.Relations.{EndAs}
-use Rattle.entry_end.proofs.HeaderLayout.{header-layout, header-fits}
-use Rattle.entry_end.proofs.Reading.{end-reads, end-relaxes}
+use Rattle.entry_area_end.specs.declared.EntryAreaHeader.{EntryAreaHeader}
+use Rattle.entry_area_end.specs.Header.{unpackHeader, packHeader, HeaderFits}
+use Rattle.entry_area_end.specs.End.{headerOf, endFrom}
+use Rattle.entry_area_end.specs.Relations.{EndAs}
+use Rattle.entry_area_end.proofs.HeaderLayout.{header-layout, header-fits}
+use Rattle.entry_area_end.proofs.Reading.{end-reads, end-relaxes}
 use Rattle.entry_area.specs.Entry.{isAny, entryHeader, idBytes, endBytes, restBytes, entryBytes, readId, valueFrom, readRest, readParts, readEntry}
 use Rattle.entry_area.specs.Relations.{IdAs, EntryAs}
 use Rattle.entry_area.proofs.Id.{id-reads}
@@ -48,7 +48,7 @@ inside-of n r v i = rw (i .namespace, i .subspace, i .prefix, i .time)
 
 -- ---- reading
 module _ (n : List ℕ) (r : AreaValue) where
-  PartsRel : Header → EntryValue → List ℕ → Type 0
+  PartsRel : EntryAreaHeader → EntryValue → List ℕ → Type 0
   PartsRel h = Joined (IdAs (r .subspace) (h .«id_written»)) (λ s. Joined (Tested (isPrefix (r .path)) (AgainstAs (r .path))) (λ p. Mapped (valueFrom n s p) (EndAs (r .times) h)))
 
   Rel : EntryValue → List ℕ → Type 0

@@ -1,6 +1,5 @@
 pub mod Id
 pub mod Entry
 pub mod Records
-pub mod Tail
 pub mod Writing
 pub mod DecodeExits

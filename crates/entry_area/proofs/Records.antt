@@ -10,13 +10,11 @@ use Rattle.codec.proofs.Lawful.{verdict-allowed, lawful-of, reshaped-lawful, re
 use Rattle.codec.proofs.Demand3.{demand3}
 use Rattle.path.specs.Limits.{pathOk}
 use Rattle.path.proofs.Limits.{path-ok, ok-path}
-use Rattle.grouping.specs.declared.Area.{Area}
+use Rattle.grouping.specs.Record.{Area, areaOf, wellFormedArea, TypedArea}
 use Rattle.grouping.specs.Area.{AreaValue}
-use Rattle.grouping.specs.Record.{areaOf, wellFormedArea, TypedArea}
 use Rattle.grouping.proofs.Record.{apart-area}
-use Rattle.entry.specs.declared.Entry.{Entry}
+use Rattle.entry.specs.Record.{Entry, entryOf, entryFrom, wellFormedEntry, TypedEntry}
 use Rattle.entry.specs.Entry.{EntryValue, TypedEntryValue, liesInsideArea}
-use Rattle.entry.specs.Record.{entryOf, entryFrom, wellFormedEntry, TypedEntry}
 use Rattle.entry.proofs.Record.{apart-entry, made-entry}
 use Rattle.entry_area.specs.Entry.{entryBytes, readEntry}
 use Rattle.entry_area.specs.Records.{againstNamespaceArea, readAgainstNamespaceArea}

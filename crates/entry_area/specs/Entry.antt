@@ -6,24 +6,22 @@ use Prim.Native.Nat.{ℕ}
 use lib.Dec.{eqb}
 use Rattle.codec.specs.Header.{readHeader}
 use Rattle.codec.specs.Reader.{Reader, give, someBytes, andThen, guard, checked, mapped}
-use Rattle.compact_u64.specs.Number.{numberBytes}
 use Rattle.path.specs.Prefix.{isPrefix}
 use Rattle.path_relative.specs.Against.{againstBytes, readAgainst}
 use Rattle.grouping.specs.declared.TimeRange.{TimeRange}
 use Rattle.grouping.specs.Area.{AreaValue}
-use Rattle.time_relative.specs.Difference.{differenceOf}
 use Rattle.entry.specs.Entry.{EntryValue}
-use Rattle.entry_end.specs.declared.Header.{Header}
-use Rattle.entry_end.specs.declared.End.{End}
-use Rattle.entry_end.specs.Header.{unpackHeader, packHeader}
-use Rattle.entry_end.specs.End.{headerOf, endFrom, readEnd}
+use Rattle.entry_area_end.specs.declared.EntryAreaHeader.{EntryAreaHeader}
+use Rattle.entry_area_end.specs.declared.End.{End}
+use Rattle.entry_area_end.specs.Header.{unpackHeader, packHeader}
+use Rattle.entry_area_end.specs.End.{headerOf, endOf, endFrom, readEnd}
 
 -- ---- writing: header, id, path against the area's, time difference, payload length, digest. The id is written where the area has any subspace
 abbrev pub isAny : Option (List ℕ) → Bool
 isAny none = true
 isAny (some id) = false
 
-abbrev pub entryHeader : AreaValue → EntryValue → Header
+abbrev pub entryHeader : AreaValue → EntryValue → EntryAreaHeader
 entryHeader r v = headerOf (isAny (r .subspace)) (r .times) (v .time) (v .size)
 
 abbrev pub idBytes : Option (List ℕ) → List ℕ → List ℕ
@@ -34,15 +32,9 @@ idBytes (some r) id = []
 abbrev pub valueEnd : EntryValue → End
 valueEnd v = endFrom (v .time) (v .size) (v .digest)
 
--- the header and the id; what stands after the path
+-- the header and the id
 abbrev pub startOf : TimeRange → Option (List ℕ) → List ℕ → End → List ℕ
 startOf r s id e = packHeader (headerOf (isAny s) r (e .timestamp) (e .«payload_length»)) ∷ idBytes s id
-
-abbrev pub payloadOf : End → List ℕ
-payloadOf e = numberBytes 2 (e .«payload_length») ++ e .«payload_digest»
-
-abbrev pub endOf : TimeRange → End → List ℕ
-endOf r e = numberBytes 2 (differenceOf r (e .timestamp) .difference) ++ payloadOf e
 
 abbrev pub startBytes : AreaValue → EntryValue → List ℕ
 startBytes r v = startOf (r .times) (r .subspace) (v .subspace) (valueEnd v)
@@ -74,13 +66,13 @@ valueFrom namespace subspace path end = record {
 }
 
 -- what follows the id: a path that the area's is a prefix of, then the fields after it
-unfoldable pub readRest : Bool → List ℕ → List ℕ → List (List ℕ) → TimeRange → Header → Reader EntryValue
+unfoldable pub readRest : Bool → List ℕ → List ℕ → List (List ℕ) → TimeRange → EntryAreaHeader → Reader EntryValue
 readRest canonic n subspace r times h =
     andThen (checked (isPrefix r) (readAgainst canonic r)) (λ path.
     mapped (valueFrom n subspace path) (
     readEnd canonic times h))
 
-unfoldable pub readParts : Bool → List ℕ → AreaValue → Header → Reader EntryValue
+unfoldable pub readParts : Bool → List ℕ → AreaValue → EntryAreaHeader → Reader EntryValue
 readParts canonic n r h =
     andThen (readId (r .subspace) (h .«id_written»)) (λ subspace.
     readRest canonic n subspace (r .path) (r .times) h)

@@ -9,12 +9,11 @@ ghost use Rattle.path.specs.Record.{sized};
 ghost use Rattle.path.specs.Flat.{pathIn};
 ghost use Rattle.path_relative.specs.Records.{sharedBy};
 ghost use Rattle.grouping.specs.Record.{subspaceOf};
-ghost use Rattle.entry_area.specs.Entry.{idBytes, startOf, payloadOf, endOf};
+ghost use Rattle.entry_area.specs.Entry.{idBytes, startOf};
 ghost use Rattle.entry_area.specs.Records.{endIn, tailBytes, knownBytes};
 use codec::Encoded;
-use compact_u64::TagWidth;
 use entry::EntryFields;
-use entry_end::End;
+use entry_area_end::End;
 use grouping::AreaHead;
 use grouping::AreaSubspace;
 use grouping::TimeRange;
@@ -41,66 +40,34 @@ pub(crate) fn start_len(subspace: AreaSubspace) -> usize
     1
 }
 
-// How many bytes the fields after the path take.
-pub(crate) fn end_len(end: End, times: TimeRange) -> usize
-    ensures { λ r. ⌜ (r ≡ length (endOf times end)) × (r ≤ 48) ⌝ }
-{
-    let told = time_relative::difference(times, end.timestamp);
-    let a = compact_u64::relative_len_of_encoding(TagWidth::Two, told.difference);
-    let b = compact_u64::relative_len_of_encoding(TagWidth::Two, end.payload_length);
-    a + (b + 32)
-}
-
 // The header and the id.
 fn put_start(buffer: &mut [u8], times: TimeRange, subspace: AreaSubspace, id: [u8; 32], end: End)
     requires { ⌜ length (startOf times (subspaceOf subspace) id end) ≤ length (now buffer) ⌝ }
     ensures { λ _. ⌜ now (buffer .exit) ≡ over (startOf times (subspaceOf subspace) id end) (now (buffer .entry)) ⌝ }
 {
-    buffer[0] = entry_end::header_byte(subspace.any, times, end.timestamp, end.payload_length);
+    buffer[0] = entry_area_end::header_byte(subspace.any, times, end.timestamp, end.payload_length);
     if !subspace.any {
         return;
     }
     byte_codec::put_bytes(&mut buffer[1..], &id);
 }
 
-// The payload length and the digest.
-fn put_payload(buffer: &mut [u8], end: End)
-    requires { ⌜ length (payloadOf end) ≤ length (now buffer) ⌝ }
-    ensures { λ _. ⌜ now (buffer .exit) ≡ over (payloadOf end) (now (buffer .entry)) ⌝ }
-{
-    let n = compact_u64::relative_len_of_encoding(TagWidth::Two, end.payload_length);
-    compact_u64::relative_encode(buffer, TagWidth::Two, end.payload_length);
-    let digest = end.payload_digest;
-    byte_codec::put_bytes(&mut buffer[n..], &digest);
-}
-
-// The fields after the path.
-fn put_end(buffer: &mut [u8], end: End, times: TimeRange)
-    requires { ⌜ length (endOf times end) ≤ length (now buffer) ⌝ }
-    ensures { λ _. ⌜ now (buffer .exit) ≡ over (endOf times end) (now (buffer .entry)) ⌝ }
-{
-    let told = time_relative::difference(times, end.timestamp);
-    let n = compact_u64::relative_len_of_encoding(TagWidth::Two, told.difference);
-    compact_u64::relative_encode(buffer, TagWidth::Two, told.difference);
-    put_payload(&mut buffer[n..], end);
-}
-
-// The path, `k` components of which are shared, and what stands after it: the path before the place of what follows it, since it is what may not fit.
+// The path, `k` components of which are shared, and what stands after it.
 fn put_rest(tail: &mut [u8], end: End, times: TimeRange, path: &[u8], k: usize) -> Encoded
     requires { ⌜ sharedBy sized k .check (pathIn (now path)) ≡ allowed ⌝ }
     ensures { λ r. ⌜ (outcomeOf r ≡ putAnswer allowed (tailBytes times end (pathIn (now (path .entry))) k) (length (now (tail .entry)))) × (now (tail .exit) ≡ putBuffer allowed (tailBytes times end (pathIn (now (path .entry))) k) (now (tail .entry))) ⌝ }
 {
-    let z = end_len(end, times);
-    if tail.len() < z {
-        return Encoded::NoRoom;
-    }
-    let e = tail.len() - z;
-    let shared = path_relative_encode::sized::encode_shared(&mut tail[..e], path, k);
+    let shared = path_relative_encode::sized::shared_len(path, k);
     let Encoded::Length(n) = shared else {
         return shared;
     };
-    put_end(&mut tail[n..], end, times);
-    Encoded::Length(n + z)
+    let whole = n + entry_area_end::relative_len_of_encoding(end, times);
+    if tail.len() < whole {
+        return Encoded::NoRoom;
+    }
+    path_relative_encode::sized::encode_shared(tail, path, k);
+    entry_area_end::relative_encode(&mut tail[n..], end, times);
+    Encoded::Length(whole)
 }
 
 // Writes an entry whose path shares `k` components with the area's: the rest before what comes first, since it is what may not fit.
@@ -108,22 +75,22 @@ pub(crate) fn put_entry(
     buffer: &mut [u8],
     fields: EntryFields,
     path: &[u8],
-    of: AreaHead,
+    reference: AreaHead,
     k: usize,
 ) -> Encoded
     requires { ⌜ sharedBy sized k .check (pathIn (now path)) ≡ allowed ⌝ }
-    ensures { λ r. ⌜ (outcomeOf r ≡ putAnswer allowed (knownBytes of fields (pathIn (now (path .entry))) k) (length (now (buffer .entry)))) × (now (buffer .exit) ≡ putBuffer allowed (knownBytes of fields (pathIn (now (path .entry))) k) (now (buffer .entry))) ⌝ }
+    ensures { λ r. ⌜ (outcomeOf r ≡ putAnswer allowed (knownBytes reference fields (pathIn (now (path .entry))) k) (length (now (buffer .entry)))) × (now (buffer .exit) ≡ putBuffer allowed (knownBytes reference fields (pathIn (now (path .entry))) k) (now (buffer .entry))) ⌝ }
 {
     let end = end_of(fields);
-    let a = start_len(of.subspace);
+    let a = start_len(reference.subspace);
     if buffer.len() < a {
         return Encoded::NoRoom;
     }
-    let rest = put_rest(&mut buffer[a..], end, of.times, path, k);
+    let rest = put_rest(&mut buffer[a..], end, reference.times, path, k);
     let Encoded::Length(n) = rest else {
         return rest;
     };
     let id = fields.subspace_id;
-    put_start(buffer, of.times, of.subspace, id, end);
+    put_start(buffer, reference.times, reference.subspace, id, end);
     Encoded::Length(a + n)
 }

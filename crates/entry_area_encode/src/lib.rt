@@ -1,62 +1,57 @@
 // Writing entries against a namespace and an area: docs/FORMAT.md, "Entries". A port of relative_encodings/entry_area.rs.
 ghost use mathlib.Core.Path.{_≡_};
-ghost use lib.ListN.{length};
 ghost use Rattle.codec.specs.Answers.{outcomeOf};
-ghost use Rattle.codec.specs.Format.{writeAnswer, writeBuffer, lengthAnswer};
+ghost use Rattle.codec.specs.Format.{lengthAnswer, WritesInto};
+ghost use Rattle.path.specs.Flat.{pathIn};
+ghost use Rattle.grouping.specs.Record.{areaWith};
+ghost use Rattle.entry.specs.Record.{entryWith};
 ghost use Rattle.entry_area.specs.Records.{againstNamespaceArea};
 use codec::Encoded;
-use entry::Entry;
-use grouping::Area;
+use entry::EntryFields;
 use grouping::AreaHead;
 
 mod entry_encode;
-pub mod lent;
 pub mod sized;
 
 // How many bytes an entry against a namespace and an area takes.
-pub fn relative_len_of_encoding(entry: Entry, namespace: [u8; 32], area: Area) -> Encoded
-    ensures { λ r. ⌜ outcomeOf r ≡ lengthAnswer (againstNamespaceArea namespace area) entry ⌝ }
+pub fn relative_len_of_encoding<'a>(
+    fields: EntryFields,
+    path: &'a [u8],
+    namespace: [u8; 32],
+    reference: AreaHead,
+    reference_path: &'a [u8],
+) -> Encoded
+    ensures { λ r. ⌜ outcomeOf r ≡ lengthAnswer (againstNamespaceArea namespace (areaWith reference (pathIn (now («reference_path» .entry))))) (entryWith fields (pathIn (now (path .entry)))) ⌝ }
 {
-    let of_well = area.well_formed();
-    if !of_well {
-        return Encoded::Malformed;
-    }
-    let well = entry.well_formed();
+    let well = reference.subspace.well_formed();
     if !well {
         return Encoded::Malformed;
     }
-    let path = entry.path.flat();
-    let of_path = area.path.flat();
-    let fields = entry.fields();
-    let subspace = area.subspace;
-    let times = area.times;
-    let of = AreaHead {
-        subspace: subspace,
-        times: times,
-    };
-    sized::relative_len_of_encoding(fields, &path, namespace, of, &of_path)
+    let formed = path::lent::both_formed(reference_path, path);
+    if !formed {
+        return Encoded::Malformed;
+    }
+    sized::relative_len_of_encoding(fields, path, namespace, reference, reference_path)
 }
 
 // Writes an entry against a namespace and an area.
-pub fn relative_encode(buffer: &mut [u8], entry: Entry, namespace: [u8; 32], area: Area) -> Encoded
-    ensures { λ r. ⌜ (outcomeOf r ≡ writeAnswer (againstNamespaceArea namespace area) entry (length (now (buffer .entry)))) × (now (buffer .exit) ≡ writeBuffer (againstNamespaceArea namespace area) entry (now (buffer .entry))) ⌝ }
+pub fn relative_encode<'a>(
+    buffer: &mut [u8],
+    fields: EntryFields,
+    path: &'a [u8],
+    namespace: [u8; 32],
+    reference: AreaHead,
+    reference_path: &'a [u8],
+) -> Encoded
+    ensures { λ r. ⌜ WritesInto (againstNamespaceArea namespace (areaWith reference (pathIn (now («reference_path» .entry))))) (entryWith fields (pathIn (now (path .entry)))) r (now (buffer .entry)) (now (buffer .exit)) ⌝ }
 {
-    let of_well = area.well_formed();
-    if !of_well {
-        return Encoded::Malformed;
-    }
-    let well = entry.well_formed();
+    let well = reference.subspace.well_formed();
     if !well {
         return Encoded::Malformed;
     }
-    let path = entry.path.flat();
-    let of_path = area.path.flat();
-    let fields = entry.fields();
-    let subspace = area.subspace;
-    let times = area.times;
-    let of = AreaHead {
-        subspace: subspace,
-        times: times,
-    };
-    sized::relative_encode(buffer, fields, &path, namespace, of, &of_path)
+    let formed = path::lent::both_formed(reference_path, path);
+    if !formed {
+        return Encoded::Malformed;
+    }
+    sized::relative_encode(buffer, fields, path, namespace, reference, reference_path)
 }

@@ -3,7 +3,7 @@ ghost use mathlib.Core.Path.{_≡_};
 ghost use Rattle.codec.specs.Answers.{outcomeOf};
 ghost use Rattle.codec.specs.Format.{lengthAnswer, WritesInto};
 ghost use Rattle.path.specs.Flat.{pathIn};
-ghost use Rattle.grouping.specs.Record.{headed, sizedArea};
+ghost use Rattle.grouping.specs.Record.{areaWith, sizedArea};
 ghost use Rattle.entry.specs.Record.{entryWith, sizedEntry};
 ghost use Rattle.entry_area.specs.Records.{againstNamespaceAreaBy};
 use crate::entry_encode;
@@ -17,19 +17,19 @@ pub fn relative_len_of_encoding<'a>(
     fields: EntryFields,
     path: &'a [u8],
     namespace: [u8; 32],
-    of: AreaHead,
-    of_path: &'a [u8],
+    reference: AreaHead,
+    reference_path: &'a [u8],
 ) -> Encoded
-    ensures { λ r. ⌜ outcomeOf r ≡ lengthAnswer (againstNamespaceAreaBy sizedArea sizedEntry namespace (headed of (pathIn (now («of_path» .entry))))) (entryWith fields (pathIn (now (path .entry)))) ⌝ }
+    ensures { λ r. ⌜ outcomeOf r ≡ lengthAnswer (againstNamespaceAreaBy sizedArea sizedEntry namespace (areaWith reference (pathIn (now («reference_path» .entry))))) (entryWith fields (pathIn (now (path .entry)))) ⌝ }
 {
-    let common = path::lent::longest_common_prefix(of_path, path);
+    let common = path::lent::longest_common_prefix(reference_path, path);
     let ComponentCount::Components(k) = common else {
         return Encoded::Malformed;
     };
-    if k != path::lent::count(of_path) {
+    if k != path::lent::count(reference_path) {
         return Encoded::Outside;
     }
-    let inside = fields.lies_inside(namespace, of);
+    let inside = fields.lies_inside(namespace, reference);
     if !inside {
         return Encoded::Outside;
     }
@@ -37,9 +37,9 @@ pub fn relative_len_of_encoding<'a>(
     let Encoded::Length(n) = shared else {
         return shared;
     };
-    let a = entry_encode::start_len(of.subspace);
+    let a = entry_encode::start_len(reference.subspace);
     let end = entry_encode::end_of(fields);
-    Encoded::Length(a + n + entry_encode::end_len(end, of.times))
+    Encoded::Length(a + n + entry_area_end::relative_len_of_encoding(end, reference.times))
 }
 
 // Writes an entry against a namespace and an area.
@@ -48,21 +48,21 @@ pub fn relative_encode<'a>(
     fields: EntryFields,
     path: &'a [u8],
     namespace: [u8; 32],
-    of: AreaHead,
-    of_path: &'a [u8],
+    reference: AreaHead,
+    reference_path: &'a [u8],
 ) -> Encoded
-    ensures { λ r. ⌜ WritesInto (againstNamespaceAreaBy sizedArea sizedEntry namespace (headed of (pathIn (now («of_path» .entry))))) (entryWith fields (pathIn (now (path .entry)))) r (now (buffer .entry)) (now (buffer .exit)) ⌝ }
+    ensures { λ r. ⌜ WritesInto (againstNamespaceAreaBy sizedArea sizedEntry namespace (areaWith reference (pathIn (now («reference_path» .entry))))) (entryWith fields (pathIn (now (path .entry)))) r (now (buffer .entry)) (now (buffer .exit)) ⌝ }
 {
-    let common = path::lent::longest_common_prefix(of_path, path);
+    let common = path::lent::longest_common_prefix(reference_path, path);
     let ComponentCount::Components(k) = common else {
         return Encoded::Malformed;
     };
-    if k != path::lent::count(of_path) {
+    if k != path::lent::count(reference_path) {
         return Encoded::Outside;
     }
-    let inside = fields.lies_inside(namespace, of);
+    let inside = fields.lies_inside(namespace, reference);
     if !inside {
         return Encoded::Outside;
     }
-    entry_encode::put_entry(buffer, fields, path, of, k)
+    entry_encode::put_entry(buffer, fields, path, reference, k)
 }

@@ -1,21 +1,19 @@
 -- What the readers' definitions answer at each exit of the code.
-use Rattle.codec.proofs.Prelude.{_≡_, refl, ap, List, Bool, true, false, cond, ℕ, _+_, _≤_, _<_, arith, add-one, leb, leb-true, leb-false, length, drop, getD, length-drop, drop-of-length-le, drop-cons, drop-drop}
-use Rattle.codec.specs.Answers.{accepted, refused}
+use Rattle.codec.proofs.Prelude.{_≡_, refl, ap, List, [], Bool, true, false, ℕ, _+_, _≤_, _<_, arith, add-one, leb, leb-true, leb-false, length, drop, getD, length-drop, drop-of-length-le, drop-cons, drop-drop}
+use Rattle.codec.specs.Answers.{Answer, accepted, refused, answerOf}
 use Rattle.codec.specs.Reader.{someBytes, mapped, onFormed}
 use Rattle.codec.specs.declared.Decoded.{Decoded}
-use Rattle.codec.specs.declared.Decoded.the-variants as decoded
-use Rattle.codec.proofs.Answers.{NoValue, gives-refused}
+use Rattle.codec.proofs.Answers.{gives-refused}
 use Rattle.codec.proofs.Bounded.{someBytes-bounded}
 use Rattle.codec.proofs.Readers.{named-inv, named-refused}
-use Rattle.path.specs.declared.Path.{Path}
-use Rattle.path.specs.Record.{componentsOf, pathFrom, wellFormed}
+use Rattle.path.specs.Record.{Path, componentsOf, pathFrom, wellFormed}
+use Rattle.path.specs.Flat.{pathIn}
 use Rattle.path_relative.specs.Against.{readAgainst}
 use Rattle.path_relative.specs.Records.{readAgainstPath}
 use Rattle.path_relative.proofs.Against.{against-bounded}
-use Rattle.entry.specs.declared.Entry.{Entry}
-use Rattle.entry.specs.Record.{entryOf, entryFrom, wellFormedEntry}
-use Rattle.entry.specs.Answers.{GivesEntry, refusal}
-use Rattle.entry_numbers.specs.declared.Header.{Header}
+use Rattle.entry.specs.Record.{Entry, entryOf, entryFrom, wellFormedEntry}
+use Rattle.entry.specs.Answers.{zeroEntry, ReadsEntry, fieldsRefusal}
+use Rattle.entry_numbers.specs.declared.EntryHeader.{EntryHeader}
 use Rattle.entry_numbers.specs.declared.Numbers.{Numbers}
 use Rattle.entry_numbers.specs.Header.{unpackHeader}
 use Rattle.entry_numbers.specs.Numbers.{readNumbers}
@@ -27,7 +25,7 @@ use Rattle.entry_entry.specs.Records.{readAgainstEntry}
 use Rattle.entry_entry.proofs.Entry.{ids-bounded, head-bounded}
 
 -- ---- the ids
-module _ (namespace subspace : List ℕ) (h : Header) (s : List ℕ) where
+module _ (namespace subspace : List ℕ) (h : EntryHeader) (s : List ℕ) where
   pub ids-first : (k : ℕ) → readId (h .«namespace_written») namespace s ≡ refused k → readIds namespace subspace h s ≡ refused k
   unfolding readIds
   ids-first k e = rw e
@@ -94,15 +92,20 @@ joined h p d = record {
   «payload_digest» = d;
 }
 
+-- a refusal beside an empty record
+pub reads-refused : (d : Decoded) (path : List ℕ) {x : Answer Entry} (k : ℕ) → pathIn path ≡ pathFrom [] → answerOf d zeroEntry ≡ refused k → x ≡ refused k → ReadsEntry (fieldsRefusal d) path x
+unfolding fieldsRefusal entryFrom
+reads-refused d path k e f g = rw e (gives-refused k f g)
+
 module _ (r : Entry) (s : List ℕ) (i : ℕ) where
-  pub entry-unread : (d : Decoded) (x : NoValue d) → readHead (r .«namespace_id») (r .«subspace_id») (r .timestamp) (drop i s) ≡ refused (x .why)
-      → GivesEntry (refusal (cond (wellFormed (r .path)) d decoded.Malformed)) (readAgainstEntry r (drop i s))
-  unfolding readAgainstEntry readEntry wellFormedEntry refusal
-  entry-unread d x e = go (wellFormed (r .path))
-    where
-      go : (b : Bool) → GivesEntry (refusal (cond b d decoded.Malformed)) (onFormed b (mapped entryFrom (readEntry (entryOf r))) (drop i s))
-      go true = gives-refused (x .why) (x .beside _) (rw e)
-      go false = gives-refused 5 refl refl
+  pub entry-malformed : wellFormed (r .path) ≡ false → readAgainstEntry r (drop i s) ≡ refused 5
+  unfolding readAgainstEntry wellFormedEntry
+  entry-malformed w = rw w
+
+  pub entry-head : wellFormed (r .path) ≡ true → (k : ℕ) → readHead (r .«namespace_id») (r .«subspace_id») (r .timestamp) (drop i s) ≡ refused k
+      → readAgainstEntry r (drop i s) ≡ refused k
+  unfolding readAgainstEntry readEntry wellFormedEntry
+  entry-head w k e = rw (w, e)
 
   module _ (h : Head) (a : ℕ) (e : readHead (r .«namespace_id») (r .«subspace_id») (r .timestamp) (drop i s) ≡ accepted h a) where
     pub entry-path : (k : ℕ) → readAgainstPath false (r .path) (drop (i + a) s) ≡ refused k → readAgainstEntry r (drop i s) ≡ refused k

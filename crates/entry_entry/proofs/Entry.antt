@@ -13,7 +13,7 @@ use Rattle.path.specs.Limits.{PathOk}
 use Rattle.path_relative.specs.Against.{readAgainst}
 use Rattle.path_relative.proofs.Against.{against-back}
 use Rattle.entry.specs.Entry.{EntryValue, TypedEntryValue}
-use Rattle.entry_numbers.specs.declared.Header.{Header}
+use Rattle.entry_numbers.specs.declared.EntryHeader.{EntryHeader}
 use Rattle.entry_numbers.specs.Header.{unpackHeader, packHeader, HeaderFits}
 use Rattle.entry_numbers.specs.Numbers.{headerOf, numbersFrom, numbersBytes, readNumbers}
 use Rattle.entry_numbers.proofs.HeaderLayout.{header-layout, header-fits}
@@ -62,7 +62,7 @@ module _ (r v : EntryValue) (t : TypedEntryValue v) where
 id-bounded : (written : Bool) (r : List ℕ) → Bounded (readId written r)
 id-bounded written r = choose-bounded written (someBytes 32) (give r) (someBytes-bounded 32) (give-bounded r)
 
-pub ids-bounded : (namespace subspace : List ℕ) (h : Header) → Bounded (readIds namespace subspace h)
+pub ids-bounded : (namespace subspace : List ℕ) (h : EntryHeader) → Bounded (readIds namespace subspace h)
 unfolding readIds
 ids-bounded namespace subspace h =
     then-bounded (readId (h .«namespace_written») namespace) _ (id-bounded (h .«namespace_written») namespace) (λ n.

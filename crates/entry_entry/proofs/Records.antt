@@ -5,8 +5,7 @@ use Rattle.codec.specs.Reads.{ReadsAs, ReadsBack}
 use Rattle.codec.proofs.Tests.{and-right}
 use Rattle.codec.proofs.Lawful.{verdict-allowed}
 use Rattle.codec.proofs.ReadsAs.{all-of, mapped-as}
-use Rattle.entry.specs.declared.Entry.{Entry}
-use Rattle.entry.specs.Record.{entryOf, entryFrom, wellFormedEntry, TypedEntry}
+use Rattle.entry.specs.Record.{Entry, entryOf, entryFrom, wellFormedEntry, TypedEntry}
 use Rattle.entry.proofs.Record.{apart-entry}
 use Rattle.entry_entry.specs.Records.{againstEntry, readAgainstEntry}
 use Rattle.entry_entry.proofs.Entry.{entry-as}

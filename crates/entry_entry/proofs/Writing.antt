@@ -9,8 +9,7 @@ use Rattle.path_relative.specs.Against.{againstBytes}
 use Rattle.path_relative.specs.Records.{againstBy}
 use Rattle.path_relative.proofs.Against.{against-short}
 use Rattle.path_relative.proofs.Lent.{against-whole}
-use Rattle.entry.specs.declared.Entry.{Entry}
-use Rattle.entry.specs.Record.{fieldsOf, sizedEntry, wellFormedEntry}
+use Rattle.entry.specs.Record.{Entry, fieldsOf, sizedEntry, wellFormedEntry}
 use Rattle.entry_numbers.specs.Header.{packHeader}
 use Rattle.entry_numbers.specs.Numbers.{numbersBytes}
 use Rattle.entry_entry.specs.Entry.{idWritten, idBytes, entryBytes}
@@ -60,18 +59,11 @@ module _ (r e : Entry) where
             (againstBytes (componentsOf (r .path)) (componentsOf (e .path))) (e .«payload_digest»),
       )
 
-  -- entries that were tested whole, and by their paths
-  pub entry-malformed : (wellFormedEntry r && wellFormedEntry e) ≡ false → againstEntry r .check e ≡ barred 5
-  entry-malformed w = rw w
-
-  pub entry-whole : (wellFormedEntry r && wellFormedEntry e) ≡ true → againstEntryBy sizedEntry r .check e ≡ againstEntry r .check e
-  unfolding wellFormedEntry sizedEntry
-  entry-whole w = against-whole (r .path) (e .path) w
-
+  -- entries that were tested whole
   pub paths-malformed : (wellFormed (r .path) && wellFormed (e .path)) ≡ false → againstEntry r .check e ≡ barred 5
   unfolding wellFormedEntry
-  paths-malformed w = entry-malformed w
+  paths-malformed w = rw w
 
   pub paths-whole : (wellFormed (r .path) && wellFormed (e .path)) ≡ true → againstEntryBy sizedEntry r .check e ≡ againstEntry r .check e
-  unfolding wellFormedEntry
-  paths-whole w = entry-whole w
+  unfolding wellFormedEntry sizedEntry
+  paths-whole w = against-whole (r .path) (e .path) w

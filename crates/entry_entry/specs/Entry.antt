@@ -7,7 +7,7 @@ use Rattle.codec.specs.Header.{readHeader}
 use Rattle.codec.specs.Reader.{Reader, give, someBytes, andThen, mapped, choose}
 use Rattle.path_relative.specs.Against.{againstBytes, readAgainst}
 use Rattle.entry.specs.Entry.{EntryValue}
-use Rattle.entry_numbers.specs.declared.Header.{Header}
+use Rattle.entry_numbers.specs.declared.EntryHeader.{EntryHeader}
 use Rattle.entry_numbers.specs.declared.Numbers.{Numbers}
 use Rattle.entry_numbers.specs.Header.{unpackHeader, packHeader}
 use Rattle.entry_numbers.specs.Numbers.{headerOf, numbersBytes, readNumbers}
@@ -18,7 +18,7 @@ use Rattle.entry_entry.specs.declared.Head.{Head}
 unfoldable pub idWritten : List ℕ → List ℕ → Bool
 idWritten r id = not (sameBytes id r)
 
-abbrev pub entryHeader : EntryValue → EntryValue → Header
+abbrev pub entryHeader : EntryValue → EntryValue → EntryHeader
 entryHeader r v = headerOf (idWritten (r .namespace) (v .namespace)) (idWritten (r .subspace) (v .subspace)) (r .time) (v .time) (v .size)
 
 unfoldable pub idBytes : List ℕ → List ℕ → List ℕ
@@ -43,7 +43,7 @@ readId written r = choose written (someBytes 32) (give r)
 abbrev pub idsFrom : List ℕ → List ℕ → Ids
 idsFrom namespace subspace = record { «namespace_id» = namespace; «subspace_id» = subspace }
 
-unfoldable pub readIds : List ℕ → List ℕ → Header → Reader Ids
+unfoldable pub readIds : List ℕ → List ℕ → EntryHeader → Reader Ids
 readIds namespace subspace h =
     andThen (readId (h .«namespace_written») namespace) (λ n.
     mapped (idsFrom n) (

@@ -1,13 +1,12 @@
--- docs/FORMAT.md, "Entries against an entry": the same, as the code holds entries. 5 is tested on the reference and on the entry; nothing lies outside.
+-- docs/FORMAT.md, "Entries against an entry": the same, on records. 5 is tested on the reference and on the entry; nothing lies outside.
 use mathlib.Core.List.{List, _++_}
 use mathlib.Core.Bool.{Bool, true, _&&_}
 use Prim.Native.Nat.{ℕ}
 use Rattle.codec.specs.Format.{Format, verdictBy}
 use Rattle.codec.specs.Reader.{Reader, mapped, onFormed}
-use Rattle.entry.specs.declared.Entry.{Entry}
+use Rattle.entry.specs.Record.{Entry, entryOf, entryFrom, wellFormedEntry}
 use Rattle.entry.specs.declared.EntryFields.{EntryFields}
-use Rattle.entry.specs.Record.{entryOf, entryFrom, wellFormedEntry}
-use Rattle.entry_numbers.specs.declared.Header.{Header}
+use Rattle.entry_numbers.specs.declared.EntryHeader.{EntryHeader}
 use Rattle.entry_numbers.specs.Numbers.{headerOf, numbersBytes}
 use Rattle.entry_entry.specs.Entry.{idWritten, idBytes, entryBytes, readEntry}
 
@@ -25,7 +24,7 @@ unfoldable pub readAgainstEntry : Entry → Reader Entry
 readAgainstEntry r = onFormed (wellFormedEntry r) (mapped entryFrom (readEntry (entryOf r)))
 
 -- ---- inside the writer: the header, and what follows it, by the bytes of the path
-abbrev pub headerWith : EntryFields → EntryFields → Header
+abbrev pub headerWith : EntryFields → EntryFields → EntryHeader
 headerWith r f =
     headerOf
     (idWritten (r .«namespace_id») (f .«namespace_id»))

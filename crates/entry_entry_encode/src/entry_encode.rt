@@ -20,21 +20,21 @@ fn id_written(id: [u8; 32], reference: [u8; 32]) -> bool
     !byte_codec::same_bytes(&id, &reference)
 }
 
-fn header_byte(fields: EntryFields, of: EntryFields) -> u8
-    ensures { λ r. ⌜ r ≡ packHeader (headerWith of fields) ⌝ }
+fn header_byte(fields: EntryFields, reference: EntryFields) -> u8
+    ensures { λ r. ⌜ r ≡ packHeader (headerWith reference fields) ⌝ }
 {
     let namespace_id = fields.namespace_id;
-    let of_namespace = of.namespace_id;
-    let namespace_written = id_written(namespace_id, of_namespace);
+    let reference_namespace = reference.namespace_id;
+    let namespace_written = id_written(namespace_id, reference_namespace);
     let subspace_id = fields.subspace_id;
-    let of_subspace = of.subspace_id;
-    let subspace_written = id_written(subspace_id, of_subspace);
+    let reference_subspace = reference.subspace_id;
+    let subspace_written = id_written(subspace_id, reference_subspace);
     entry_numbers::header_byte(
         namespace_written,
         subspace_written,
         fields.timestamp,
         fields.payload_length,
-        of.timestamp,
+        reference.timestamp,
     )
 }
 
@@ -50,27 +50,27 @@ fn id_len(id: [u8; 32], reference: [u8; 32]) -> usize
 }
 
 // How many bytes the ids take.
-fn ids_len(fields: EntryFields, of: EntryFields) -> usize
-    ensures { λ r. ⌜ (r ≡ length (idsWith of fields)) × (r ≤ 64) ⌝ }
+fn ids_len(fields: EntryFields, reference: EntryFields) -> usize
+    ensures { λ r. ⌜ (r ≡ length (idsWith reference fields)) × (r ≤ 64) ⌝ }
 {
     let namespace_id = fields.namespace_id;
-    let of_namespace = of.namespace_id;
-    let a = id_len(namespace_id, of_namespace);
+    let reference_namespace = reference.namespace_id;
+    let a = id_len(namespace_id, reference_namespace);
     let subspace_id = fields.subspace_id;
-    let of_subspace = of.subspace_id;
-    a + id_len(subspace_id, of_subspace)
+    let reference_subspace = reference.subspace_id;
+    a + id_len(subspace_id, reference_subspace)
 }
 
 // How many bytes an entry takes whose path takes `path` bytes.
-pub(crate) fn entry_len(fields: EntryFields, of: EntryFields, path: usize) -> usize
+pub(crate) fn entry_len(fields: EntryFields, reference: EntryFields, path: usize) -> usize
     requires { ⌜ path ≤ 2000 ⌝ }
-    ensures { λ r. ⌜ r ≡ 1 + (length (idsWith of fields) + (length (numbersBytes (of .timestamp) (fields .timestamp) (fields .«payload_length»)) + (path + 32))) ⌝ }
+    ensures { λ r. ⌜ r ≡ 1 + (length (idsWith reference fields) + (length (numbersBytes (reference .timestamp) (fields .timestamp) (fields .«payload_length»)) + (path + 32))) ⌝ }
 {
-    let a = ids_len(fields, of);
+    let a = ids_len(fields, reference);
     let b = entry_numbers::relative_len_of_encoding(
         fields.timestamp,
         fields.payload_length,
-        of.timestamp,
+        reference.timestamp,
     );
     1 + (a + (b + (path + 32)))
 }
@@ -88,16 +88,16 @@ fn put_id(buffer: &mut [u8], id: [u8; 32], reference: [u8; 32]) -> usize
 }
 
 // The ids.
-fn put_ids(buffer: &mut [u8], fields: EntryFields, of: EntryFields) -> usize
-    requires { ⌜ length (idsWith of fields) ≤ length (now buffer) ⌝ }
-    ensures { λ r. ⌜ (r ≡ length (idsWith of fields)) × (now (buffer .exit) ≡ over (idsWith of fields) (now (buffer .entry))) ⌝ }
+fn put_ids(buffer: &mut [u8], fields: EntryFields, reference: EntryFields) -> usize
+    requires { ⌜ length (idsWith reference fields) ≤ length (now buffer) ⌝ }
+    ensures { λ r. ⌜ (r ≡ length (idsWith reference fields)) × (now (buffer .exit) ≡ over (idsWith reference fields) (now (buffer .entry))) ⌝ }
 {
     let namespace_id = fields.namespace_id;
-    let of_namespace = of.namespace_id;
-    let a = put_id(buffer, namespace_id, of_namespace);
+    let reference_namespace = reference.namespace_id;
+    let a = put_id(buffer, namespace_id, reference_namespace);
     let subspace_id = fields.subspace_id;
-    let of_subspace = of.subspace_id;
-    a + put_id(&mut buffer[a..], subspace_id, of_subspace)
+    let reference_subspace = reference.subspace_id;
+    a + put_id(&mut buffer[a..], subspace_id, reference_subspace)
 }
 
 // The path, `k` components of which are shared, and the digest.
@@ -113,45 +113,45 @@ fn put_end(buffer: &mut [u8], digest: [u8; 32], path: &[u8], k: usize)
 }
 
 // What follows the ids.
-fn put_rest(buffer: &mut [u8], fields: EntryFields, of: EntryFields, path: &[u8], k: usize)
-    requires { ⌜ (sharedBy sized k .check (pathIn (now path)) ≡ allowed) × (length (restWith of fields (sharedBy sized k .encode (pathIn (now path)))) ≤ length (now buffer)) ⌝ }
-    ensures { λ _. ⌜ now (buffer .exit) ≡ over (restWith of fields (sharedBy sized k .encode (pathIn (now (path .entry))))) (now (buffer .entry)) ⌝ }
+fn put_rest(buffer: &mut [u8], fields: EntryFields, reference: EntryFields, path: &[u8], k: usize)
+    requires { ⌜ (sharedBy sized k .check (pathIn (now path)) ≡ allowed) × (length (restWith reference fields (sharedBy sized k .encode (pathIn (now path)))) ≤ length (now buffer)) ⌝ }
+    ensures { λ _. ⌜ now (buffer .exit) ≡ over (restWith reference fields (sharedBy sized k .encode (pathIn (now (path .entry))))) (now (buffer .entry)) ⌝ }
 {
     let n = entry_numbers::relative_len_of_encoding(
         fields.timestamp,
         fields.payload_length,
-        of.timestamp,
+        reference.timestamp,
     );
     entry_numbers::relative_encode(
         buffer,
         fields.timestamp,
         fields.payload_length,
-        of.timestamp,
+        reference.timestamp,
     );
     let digest = fields.payload_digest;
     put_end(&mut buffer[n..], digest, path, k);
 }
 
 // What follows the header.
-fn put_parts(buffer: &mut [u8], fields: EntryFields, of: EntryFields, path: &[u8], k: usize)
-    requires { ⌜ (sharedBy sized k .check (pathIn (now path)) ≡ allowed) × (length (partsWith of fields (sharedBy sized k .encode (pathIn (now path)))) ≤ length (now buffer)) ⌝ }
-    ensures { λ _. ⌜ now (buffer .exit) ≡ over (partsWith of fields (sharedBy sized k .encode (pathIn (now (path .entry))))) (now (buffer .entry)) ⌝ }
+fn put_parts(buffer: &mut [u8], fields: EntryFields, reference: EntryFields, path: &[u8], k: usize)
+    requires { ⌜ (sharedBy sized k .check (pathIn (now path)) ≡ allowed) × (length (partsWith reference fields (sharedBy sized k .encode (pathIn (now path)))) ≤ length (now buffer)) ⌝ }
+    ensures { λ _. ⌜ now (buffer .exit) ≡ over (partsWith reference fields (sharedBy sized k .encode (pathIn (now (path .entry))))) (now (buffer .entry)) ⌝ }
 {
-    let n = put_ids(buffer, fields, of);
-    put_rest(&mut buffer[n..], fields, of, path, k);
+    let n = put_ids(buffer, fields, reference);
+    put_rest(&mut buffer[n..], fields, reference, path, k);
 }
 
 // Writes an entry, `k` components of whose path are shared.
 pub(crate) fn put_entry(
     buffer: &mut [u8],
     fields: EntryFields,
-    of: EntryFields,
+    reference: EntryFields,
     path: &[u8],
     k: usize,
 )
-    requires { ⌜ (sharedBy sized k .check (pathIn (now path)) ≡ allowed) × (1 + length (partsWith of fields (sharedBy sized k .encode (pathIn (now path)))) ≤ length (now buffer)) ⌝ }
-    ensures { λ _. ⌜ now (buffer .exit) ≡ over (packHeader (headerWith of fields) ∷ partsWith of fields (sharedBy sized k .encode (pathIn (now (path .entry))))) (now (buffer .entry)) ⌝ }
+    requires { ⌜ (sharedBy sized k .check (pathIn (now path)) ≡ allowed) × (1 + length (partsWith reference fields (sharedBy sized k .encode (pathIn (now path)))) ≤ length (now buffer)) ⌝ }
+    ensures { λ _. ⌜ now (buffer .exit) ≡ over (packHeader (headerWith reference fields) ∷ partsWith reference fields (sharedBy sized k .encode (pathIn (now (path .entry))))) (now (buffer .entry)) ⌝ }
 {
-    buffer[0] = header_byte(fields, of);
-    put_parts(&mut buffer[1..], fields, of, path, k);
+    buffer[0] = header_byte(fields, reference);
+    put_parts(&mut buffer[1..], fields, reference, path, k);
 }

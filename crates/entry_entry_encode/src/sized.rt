@@ -13,16 +13,16 @@ use path::ComponentCount;
 pub fn relative_len_of_encoding<'a>(
     fields: EntryFields,
     path: &'a [u8],
-    of: EntryFields,
-    of_path: &'a [u8],
+    reference: EntryFields,
+    reference_path: &'a [u8],
 ) -> Encoded
-    ensures { λ r. ⌜ outcomeOf r ≡ lengthAnswer (againstEntryBy sizedEntry (entryWith of (pathIn (now («of_path» .entry))))) (entryWith fields (pathIn (now (path .entry)))) ⌝ }
+    ensures { λ r. ⌜ outcomeOf r ≡ lengthAnswer (againstEntryBy sizedEntry (entryWith reference (pathIn (now («reference_path» .entry))))) (entryWith fields (pathIn (now (path .entry)))) ⌝ }
 {
-    let len = path_relative_encode::sized::relative_len_of_encoding(path, of_path);
+    let len = path_relative_encode::sized::relative_len_of_encoding(path, reference_path);
     let Encoded::Length(n) = len else {
         return len;
     };
-    Encoded::Length(crate::entry_encode::entry_len(fields, of, n))
+    Encoded::Length(crate::entry_encode::entry_len(fields, reference, n))
 }
 
 // Writes an entry against a reference.
@@ -30,12 +30,12 @@ pub fn relative_encode<'a>(
     buffer: &mut [u8],
     fields: EntryFields,
     path: &'a [u8],
-    of: EntryFields,
-    of_path: &'a [u8],
+    reference: EntryFields,
+    reference_path: &'a [u8],
 ) -> Encoded
-    ensures { λ r. ⌜ WritesInto (againstEntryBy sizedEntry (entryWith of (pathIn (now («of_path» .entry))))) (entryWith fields (pathIn (now (path .entry)))) r (now (buffer .entry)) (now (buffer .exit)) ⌝ }
+    ensures { λ r. ⌜ WritesInto (againstEntryBy sizedEntry (entryWith reference (pathIn (now («reference_path» .entry))))) (entryWith fields (pathIn (now (path .entry)))) r (now (buffer .entry)) (now (buffer .exit)) ⌝ }
 {
-    let common = path::lent::longest_common_prefix(of_path, path);
+    let common = path::lent::longest_common_prefix(reference_path, path);
     let ComponentCount::Components(k) = common else {
         return Encoded::Malformed;
     };
@@ -43,10 +43,10 @@ pub fn relative_encode<'a>(
     let Encoded::Length(n) = shared else {
         return shared;
     };
-    let len = crate::entry_encode::entry_len(fields, of, n);
+    let len = crate::entry_encode::entry_len(fields, reference, n);
     if buffer.len() < len {
         return Encoded::NoRoom;
     }
-    crate::entry_encode::put_entry(buffer, fields, of, path, k);
+    crate::entry_encode::put_entry(buffer, fields, reference, path, k);
     Encoded::Length(len)
 }

@@ -3,7 +3,7 @@ use Rattle.codec.proofs.Prelude.{_≡_, refl, Bool, ℕ, _+_, _≤_, _<_, arith
 use Rattle.codec.specs.Header.{field, placed, bit, Layout}
 use Rattle.codec.proofs.Header.{field-fits, bit-small, flag-of, same-bytes}
 use Rattle.compact_u64.proofs.Tags.{min-tag-fits}
-use Rattle.entry_numbers.specs.declared.Header.{Header}
+use Rattle.entry_numbers.specs.declared.EntryHeader.{EntryHeader}
 use Rattle.entry_numbers.specs.Header.{namespaceWrittenAt, subspaceWrittenAt, timeAddedAt, timeTagAt, lengthTagAt, unpackHeader, packHeader, HeaderFits}
 use Rattle.entry_numbers.specs.Numbers.{headerOf}
 
@@ -22,7 +22,7 @@ record Parts (p n s added t l : ℕ) : Type 0 where
 parts : (n s added t l : ℕ) → n ≤ 1 → s ≤ 1 → added ≤ 1 → t < 4 → l < 8 → Parts (sum n s added t l) n s added t l
 parts n s added t l a b c d e = record { byte = omega arith; n-is = omega arith; s-is = omega arith; added-is = omega arith; t-is = omega arith; l-is = omega arith }
 
-header-apart : (h : Header) → HeaderFits h → (packHeader h < 256) × (unpackHeader (packHeader h) ≡ h)
+header-apart : (h : EntryHeader) → HeaderFits h → (packHeader h < 256) × (unpackHeader (packHeader h) ≡ h)
 header-apart h f =
     let p = packHeader h in
     let x = parts (bit (h .«namespace_written»)) (bit (h .«subspace_written»)) (bit (h .«time_added»)) (h .«time_tag») (h .«length_tag»)

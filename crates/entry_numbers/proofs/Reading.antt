@@ -10,7 +10,7 @@ use Rattle.compact_u64.proofs.Number.{number-back, number-bounded}
 use Rattle.grouping.specs.declared.RangeEnd.the-variants.{Closed}
 use Rattle.time_distance.specs.Distance.{distance, readFrom}
 use Rattle.time_distance.proofs.Distance.{from-bounded, later-as, earlier-as}
-use Rattle.entry_numbers.specs.declared.Header.{Header}
+use Rattle.entry_numbers.specs.declared.EntryHeader.{EntryHeader}
 use Rattle.entry_numbers.specs.Numbers.{headerOf, numbersBytes, numbersFrom, readNumbers}
 
 -- ---- what was written is read back
@@ -30,14 +30,14 @@ module _ (r time size : ℕ) (known : U64 r) (typed : U64 time) (small : U64 siz
   numbers-as n s = then-as time-as (λ x. mapped (numbersFrom x) (readNumber false 3 (minTag 3 size))) (mapped-as size-as (numbersFrom time))
 
 -- ---- no more bytes are consumed than there are
-pub numbers-bounded : (time : ℕ) (h : Header) → Bounded (readNumbers time h)
+pub numbers-bounded : (time : ℕ) (h : EntryHeader) → Bounded (readNumbers time h)
 unfolding readNumbers
 numbers-bounded time h =
     then-bounded (readFrom (Closed time) (h .«time_added») (h .«time_tag»)) _ (from-bounded (Closed time) (h .«time_added») (h .«time_tag»)) (λ x.
     mapped-bounded (numbersFrom x) _ (number-bounded 3 (h .«length_tag») false))
 
 -- ---- the exits
-module _ (time : ℕ) (h : Header) (s : List ℕ) where
+module _ (time : ℕ) (h : EntryHeader) (s : List ℕ) where
   pub numbers-first : (k : ℕ) → readFrom (Closed time) (h .«time_added») (h .«time_tag») s ≡ refused k → readNumbers time h s ≡ refused k
   unfolding readNumbers
   numbers-first k e = rw e

@@ -1,7 +1,7 @@
 -- docs/FORMAT.md, "Entries against an entry": the header byte.
 use Prim.Native.Nat.{ℕ, _+_, _<_}
 use Rattle.codec.specs.Header.{field, flag, placed, bit}
-use Rattle.entry_numbers.specs.declared.Header.{Header}
+use Rattle.entry_numbers.specs.declared.EntryHeader.{EntryHeader}
 
 -- where each part stands
 abbrev pub namespaceWrittenAt : ℕ
@@ -19,7 +19,7 @@ timeTagAt = 3
 abbrev pub lengthTagAt : ℕ
 lengthTagAt = 5
 
-abbrev pub unpackHeader : ℕ → Header
+abbrev pub unpackHeader : ℕ → EntryHeader
 unpackHeader b = record {
   «namespace_written» = flag namespaceWrittenAt b;
   «subspace_written» = flag subspaceWrittenAt b;
@@ -28,7 +28,7 @@ unpackHeader b = record {
   «length_tag» = field lengthTagAt 3 b;
 }
 
-abbrev pub packHeader : Header → ℕ
+abbrev pub packHeader : EntryHeader → ℕ
 packHeader h =
     placed namespaceWrittenAt 1 (bit (h .«namespace_written»))
     + placed subspaceWrittenAt 1 (bit (h .«subspace_written»))
@@ -36,6 +36,6 @@ packHeader h =
     + placed timeTagAt 2 (h .«time_tag»)
     + placed lengthTagAt 3 (h .«length_tag»)
 
-pub record HeaderFits (h : Header) : Type 0 where
+pub record HeaderFits (h : EntryHeader) : Type 0 where
   pub time : h .«time_tag» < 4
   pub length : h .«length_tag» < 8

@@ -7,11 +7,11 @@ use Rattle.codec.specs.Reader.{Reader, andThen, mapped}
 use Rattle.compact_u64.specs.Number.{minTag, numberBytes, readNumber}
 use Rattle.grouping.specs.declared.RangeEnd.the-variants.{Closed}
 use Rattle.time_distance.specs.Distance.{distance, readFrom}
-use Rattle.entry_numbers.specs.declared.Header.{Header}
+use Rattle.entry_numbers.specs.declared.EntryHeader.{EntryHeader}
 use Rattle.entry_numbers.specs.declared.Numbers.{Numbers}
 
 -- ---- writing: the difference from the reference's time r, then the payload length. A time is added only if it is later
-unfoldable pub headerOf : Bool → Bool → ℕ → ℕ → ℕ → Header
+unfoldable pub headerOf : Bool → Bool → ℕ → ℕ → ℕ → EntryHeader
 headerOf namespaceWritten subspaceWritten r time size = record {
   «namespace_written» = namespaceWritten;
   «subspace_written» = subspaceWritten;
@@ -30,7 +30,7 @@ numbersFrom time size = record { timestamp = time; «payload_length» = size }
 abbrev pub noNumbers : Numbers
 noNumbers = numbersFrom 0 0
 
-unfoldable pub readNumbers : ℕ → Header → Reader Numbers
+unfoldable pub readNumbers : ℕ → EntryHeader → Reader Numbers
 readNumbers r h =
     andThen (readFrom (Closed r) (h .«time_added») (h .«time_tag»)) (λ time.
     mapped (numbersFrom time) (

@@ -1,7 +1,7 @@
 // The header byte of an entry against an entry.
 ghost use mathlib.Core.Path.{_≡_};
 ghost use Rattle.entry_numbers.specs.Header.{unpackHeader, packHeader, HeaderFits};
-use crate::Header;
+use crate::EntryHeader;
 
 // What one of each part adds to the byte.
 const NAMESPACE_WRITTEN: u8 = 128;
@@ -15,10 +15,10 @@ const TIME_TAG: u8 = 8;
 const LENGTH_TAG: u8 = 1;
 
 // What a header byte says.
-pub fn unpack(b: u8) -> Header
+pub fn unpack(b: u8) -> EntryHeader
     ensures { λ r. ⌜ r ≡ unpackHeader b ⌝ }
 {
-    Header {
+    EntryHeader {
         namespace_written: b / NAMESPACE_WRITTEN % 2 == 1,
         subspace_written: b / SUBSPACE_WRITTEN % 2 == 1,
         time_added: b / TIME_ADDED % 2 == 1,
@@ -27,7 +27,7 @@ pub fn unpack(b: u8) -> Header
     }
 }
 
-pub(crate) fn pack(header: Header) -> u8
+pub(crate) fn pack(header: EntryHeader) -> u8
     requires { ⌜ HeaderFits header ⌝ }
     ensures { λ r. ⌜ r ≡ packHeader header ⌝ }
 {

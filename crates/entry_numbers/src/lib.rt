@@ -16,7 +16,7 @@ use grouping::RangeEnd;
 pub mod entry_header;
 
 // What the header byte says.
-pub struct Header {
+pub struct EntryHeader {
     pub namespace_written: bool,
     pub subspace_written: bool,
     pub time_added: bool,
@@ -42,11 +42,11 @@ fn header_of(
     time: u64,
     size: u64,
     reference: u64,
-) -> Header
+) -> EntryHeader
     ensures { λ r. ⌜ r ≡ headerOf «namespace_written» «subspace_written» reference time size ⌝ }
 {
     let difference = time_distance::abs_diff(time, reference);
-    Header {
+    EntryHeader {
         namespace_written: namespace_written,
         subspace_written: subspace_written,
         time_added: reference < time,
@@ -81,7 +81,7 @@ fn refuse(answer: Decoded) -> DecodedNumbers
 }
 
 // Reads the time against a reference's and the payload length, by the header.
-pub fn relative_decode(message: &[u8], header: Header, reference: u64) -> DecodedNumbers
+pub fn relative_decode(message: &[u8], header: EntryHeader, reference: u64) -> DecodedNumbers
     ensures { λ r. ⌜ Gives noNumbers (r .answer) (r .numbers) (readNumbers reference header (now (message .entry))) ⌝ }
 {
     let from = RangeEnd::Closed(reference);
@@ -119,21 +119,13 @@ pub fn relative_len_of_encoding(time: u64, size: u64, reference: u64) -> usize
     ensures { λ r. ⌜ (r ≡ length (numbersBytes reference time size)) × (r ≤ 16) ⌝ }
 {
     let difference = time_distance::abs_diff(time, reference);
-    let a = compact_u64::relative_len_of_encoding(TagWidth::Two, difference);
-    a + compact_u64::relative_len_of_encoding(TagWidth::Three, size)
+    compact_u64::relative_len_of_pair(TagWidth::Two, difference, TagWidth::Three, size)
 }
 
 // Writes the time's difference and the payload length.
 pub fn relative_encode(buffer: &mut [u8], time: u64, size: u64, reference: u64) -> Encoded
     ensures { λ r. ⌜ (outcomeOf r ≡ putAnswer allowed (numbersBytes reference time size) (length (now (buffer .entry)))) × (now (buffer .exit) ≡ putBuffer allowed (numbersBytes reference time size) (now (buffer .entry))) ⌝ }
 {
-    let n = relative_len_of_encoding(time, size, reference);
-    if buffer.len() < n {
-        return Encoded::NoRoom;
-    }
     let difference = time_distance::abs_diff(time, reference);
-    let a = compact_u64::relative_len_of_encoding(TagWidth::Two, difference);
-    compact_u64::relative_encode(buffer, TagWidth::Two, difference);
-    compact_u64::relative_encode(&mut buffer[a..], TagWidth::Three, size);
-    Encoded::Length(n)
+    compact_u64::relative_encode_pair(buffer, TagWidth::Two, difference, TagWidth::Three, size)
 }

@@ -4,8 +4,7 @@ use Rattle.codec.specs.Answers.{AllBytes}
 use Rattle.codec.proofs.Bytes.{AllBytes·drop}
 use Rattle.codec.proofs.Tests.{and-left, and-right}
 use Rattle.path.specs.Record.{wellFormed}
-use Rattle.grouping.specs.declared.Area.{Area}
-use Rattle.grouping.specs.Record.{headOf, headed, wellFormedArea, wellFormedSubspace, TypedArea}
+use Rattle.grouping.specs.Record.{Area, headOf, areaWith, wellFormedArea, wellFormedSubspace, TypedArea}
 use Rattle.path.specs.Flat.{pathFlat, pathIn}
 use Rattle.flat.specs.PathRecord.{pathIf}
 use Rattle.flat.specs.Times.{timesFlat, timesMarked, timesIn}
@@ -64,7 +63,7 @@ area-stores s long b w = go (leb (getD s 0 0) 1 && timesMarked (drop 674 s)) ref
     go false e f = absurd (unmarked (drop 33 s) f)
 
 -- an area whose marks are 0 or 1, by its head and the record of its path; any other is not well formed
-pub area-lent : (s p : List ℕ) → (p ≡ take 641 (drop 33 s)) × (length p ≡ 641) → areaMarked s ≡ true → headed (headOf (areaIn s)) (pathIn p) ≡ areaIn s
+pub area-lent : (s p : List ℕ) → (p ≡ take 641 (drop 33 s)) × (length p ≡ 641) → areaMarked s ≡ true → areaWith (headOf (areaIn s)) (pathIn p) ≡ areaIn s
 unfolding areaIn pathIn
 area-lent s p e m =
     let path : pathIn p ≡ pathIf (areaMarked s) (drop 33 s) = path-within p (drop 33 s) e ∙ whole (areaMarked s) m in

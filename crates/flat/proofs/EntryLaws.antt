@@ -3,8 +3,7 @@ use Rattle.codec.proofs.Prelude.{_≡_, refl, sym, ap, _∙_, List, _++_, appen
 use Rattle.codec.specs.Answers.{AllBytes}
 use Rattle.codec.proofs.Bytes.{AllBytes·drop}
 use Rattle.compact_u64.specs.BigEndian.{bigEndian, valueOf}
-use Rattle.entry.specs.declared.Entry.{Entry}
-use Rattle.entry.specs.Record.{fieldsOf, entryWith, wellFormedEntry, TypedEntry}
+use Rattle.entry.specs.Record.{Entry, fieldsOf, entryWith, wellFormedEntry, TypedEntry}
 use Rattle.path.specs.Flat.{pathFlat, pathIn}
 use Rattle.flat.specs.EntryRecord.{entryFlat, entryIn}
 use Rattle.path.proofs.Loads.{number-loads, number-stores, path-long, path-loads, path-stores, path-within}

@@ -5,8 +5,7 @@ use Rattle.codec.specs.Header.{bit}
 use Rattle.codec.proofs.Bytes.{AllBytes·drop}
 use Rattle.codec.proofs.Tests.{and-left, and-right}
 use Rattle.path.specs.Record.{wellFormed}
-use Rattle.range_3d.specs.declared.Range3d.{Range3d}
-use Rattle.range_3d.specs.Record.{headOf, headed, wellFormedSubspaces, wellFormedPaths, wellFormedRange3d, TypedRange3d}
+use Rattle.range_3d.specs.Record.{Range3d, headOf, rangeWith, wellFormedSubspaces, wellFormedPaths, wellFormedRange3d, TypedRange3d}
 use Rattle.path.specs.Flat.{pathFlat, pathIn}
 use Rattle.flat.specs.PathRecord.{pathIf}
 use Rattle.flat.specs.Times.{timesFlat, timesMarked, timesIn}
@@ -148,12 +147,12 @@ range-stores s long b w = go (rangeMarked s) refl (and-left (wellFormed (rangeIn
     go false e f = absurd (unmarked (drop 65 s) f)
 
 -- a 3d range whose marks are 0 or 1, by its head and the records of its paths; any other is not well formed
-pub range-lent : (s p q : List ℕ) → (p ≡ take 641 (drop 65 s)) × (length p ≡ 641) → (q ≡ take 641 (drop 707 s)) × (length q ≡ 641) → rangeMarked s ≡ true → headed (headOf (rangeIn s)) (pathIn p) (pathIn q) ≡ rangeIn s
+pub range-lent : (s p q : List ℕ) → (p ≡ take 641 (drop 65 s)) × (length p ≡ 641) → (q ≡ take 641 (drop 707 s)) × (length q ≡ 641) → rangeMarked s ≡ true → rangeWith (headOf (rangeIn s)) (pathIn p) (pathIn q) ≡ rangeIn s
 unfolding rangeIn pathIn
 range-lent s p q e f m =
     let start : pathIn p ≡ pathIf (rangeMarked s) (drop 65 s) = path-within p (drop 65 s) e ∙ whole (rangeMarked s) m in
     let end : pathIn q ≡ pathIn (drop 707 s) = path-within q (drop 707 s) f in
-    λ i. headed (headOf (rangeIn s)) (start i) (end i)
+    λ i. rangeWith (headOf (rangeIn s)) (start i) (end i)
   where
     whole : (b : Bool) → b ≡ true → pathIn (drop 65 s) ≡ pathIf b (drop 65 s)
     whole b e = rw e
@@ -162,7 +161,7 @@ range-marks : (s : List ℕ) → rangeMarked s ≡ false → wellFormedRange3d (
 unfolding rangeIn wellFormedRange3d wellFormedPaths
 range-marks s m w = unmarked (drop 65 s) (rw m at (and-left (wellFormed (rangeIn s .paths .start)) _ (and-right (wellFormedSubspaces (rangeIn s .subspaces)) _ w)))
 
-range-unmarked : (s : List ℕ) → rangeMarked s ≡ false → wellFormedRange3d (rangeIn s) ≡ false
+pub range-unmarked : (s : List ℕ) → rangeMarked s ≡ false → wellFormedRange3d (rangeIn s) ≡ false
 range-unmarked s m = go (wellFormedRange3d (rangeIn s)) refl
   where
     go : (b : Bool) → wellFormedRange3d (rangeIn s) ≡ b → b ≡ false

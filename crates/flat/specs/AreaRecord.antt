@@ -5,7 +5,7 @@ use Prim.Native.Nat.{ℕ}
 use lib.Dec.{eqb, leb}
 use lib.ListN.{take, drop, getD}
 use Rattle.codec.specs.Header.{bit}
-use Rattle.grouping.specs.declared.Area.{Area}
+use Rattle.grouping.specs.Record.{Area}
 use Rattle.grouping.specs.declared.AreaSubspace.{AreaSubspace}
 use Rattle.path.specs.Flat.{pathFlat}
 use Rattle.flat.specs.PathRecord.{pathIf}

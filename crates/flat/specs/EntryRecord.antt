@@ -3,9 +3,8 @@ use mathlib.Core.List.{List, _++_}
 use Prim.Native.Nat.{ℕ}
 use lib.ListN.{take, drop}
 use Rattle.compact_u64.specs.BigEndian.{bigEndian, valueOf}
-use Rattle.entry.specs.declared.Entry.{Entry}
+use Rattle.entry.specs.Record.{Entry, fieldsOf}
 use Rattle.entry.specs.declared.EntryFields.{EntryFields}
-use Rattle.entry.specs.Record.{fieldsOf}
 use Rattle.path.specs.Flat.{pathFlat, pathIn}
 
 abbrev pub idsFlat : EntryFields → List ℕ

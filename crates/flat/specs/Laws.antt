@@ -5,13 +5,9 @@ use mathlib.Core.Bool.{Bool, true}
 use Prim.Native.Nat.{ℕ}
 use lib.ListN.{length}
 use Rattle.codec.specs.Answers.{AllBytes}
-use Rattle.path.specs.declared.Path.{Path}
 use Rattle.path.specs.Record.{wellFormed, TypedPath}
-use Rattle.grouping.specs.declared.Area.{Area}
 use Rattle.grouping.specs.Record.{wellFormedArea, TypedArea}
-use Rattle.entry.specs.declared.Entry.{Entry}
 use Rattle.entry.specs.Record.{wellFormedEntry, TypedEntry}
-use Rattle.range_3d.specs.declared.Range3d.{Range3d}
 use Rattle.range_3d.specs.Record.{wellFormedRange3d, TypedRange3d}
 use Rattle.path.specs.Flat.{pathFlat, pathIn}
 use Rattle.flat.specs.AreaRecord.{areaFlat, areaIn}

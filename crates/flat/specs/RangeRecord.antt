@@ -5,9 +5,9 @@ use Prim.Native.Nat.{ℕ}
 use lib.Dec.{eqb, leb}
 use lib.ListN.{take, drop, getD}
 use Rattle.codec.specs.Header.{bit}
-use Rattle.path.specs.declared.Path.{Path}
+use Rattle.path.specs.Record.{Path}
 use Rattle.range_3d.specs.declared.SubspaceRange.{SubspaceRange}
-use Rattle.range_3d.specs.declared.Range3d.{Range3d}
+use Rattle.range_3d.specs.Record.{Range3d}
 use Rattle.path.specs.Flat.{pathFlat, pathIn}
 use Rattle.flat.specs.PathRecord.{pathIf}
 use Rattle.flat.specs.Times.{timesFlat, timesMarked, timesIn}

@@ -1,17 +1,12 @@
 // An area: the mark of any subspace, the id, the path, the times.
 ghost use mathlib.Core.Path.{_≡_};
 ghost use mathlib.Core.Bool.{_&&_};
-ghost use mathlib.Core.List.{_++_};
 ghost use Prim.Native.Nat.{_≤_};
 ghost use lib.ListN.{length, take, drop};
-ghost use Rattle.path.specs.Flat.{pathSize};
-ghost use Rattle.grouping.specs.Record.{headOf};
-ghost use Rattle.flat.specs.PathRecord.{sizesOf};
-ghost use Rattle.flat.specs.Times.{timesFlat};
+ghost use Rattle.path.specs.Flat.{pathSize, pathIn};
+ghost use Rattle.grouping.specs.Record.{headOf, areaWith};
 ghost use Rattle.flat.specs.AreaRecord.{subspaceFlat, areaMarked, areaIn, areaFlat};
 ghost use Rattle.path.specs.Puts.{Puts};
-use flat::PathSizes;
-use grouping::Area;
 use grouping::AreaHead;
 use grouping::AreaSubspace;
 use grouping::TimeRange;
@@ -56,22 +51,6 @@ fn times_in(flat: &[u8]) -> TimeRange
     crate::times::times_in(&flat[TIMES..])
 }
 
-// A mark that is none shows as a count that no path has.
-fn path_sizes_in(flat: &[u8]) -> PathSizes
-    requires { ⌜ 691 ≤ length (now flat) ⌝ }
-    ensures { λ r. ⌜ r ≡ sizesOf (areaIn (now (flat .entry)) .path) ⌝ }
-{
-    let marked = marked(flat);
-    crate::path_record::sizes_in(&flat[PATH..], marked)
-}
-
-fn path_bytes_in<'a>(flat: &'a [u8]) -> &'a [u8]
-    requires { ⌜ 691 ≤ length (now flat) ⌝ }
-    ensures { λ r. ⌜ now r ≡ areaIn (now (flat .entry)) .path .bytes ⌝ }
-{
-    crate::path_record::bytes_in(&flat[PATH..])
-}
-
 fn put_subspace(flat: &mut [u8], subspace: AreaSubspace)
     requires { ⌜ 33 ≤ length (now flat) ⌝ }
     ensures { λ _. ⌜ Puts 33 (subspaceFlat subspace) (now (flat .entry)) (now (flat .exit)) ⌝ }
@@ -82,37 +61,13 @@ fn put_subspace(flat: &mut [u8], subspace: AreaSubspace)
 }
 
 // Writes an area from the first byte on.
-fn put_area(flat: &mut [u8], subspace: AreaSubspace, times: TimeRange, path: &[u8])
+fn put_area(flat: &mut [u8], head: AreaHead, path: &[u8])
     requires { ⌜ (691 ≤ length (now flat)) × (length (now path) ≡ pathSize) ⌝ }
-    ensures { λ _. ⌜ Puts 691 (subspaceFlat subspace ++ (now (path .entry) ++ timesFlat times)) (now (flat .entry)) (now (flat .exit)) ⌝ }
+    ensures { λ _. ⌜ Puts 691 (areaFlat (areaWith head (pathIn (now (path .entry))))) (now (flat .entry)) (now (flat .exit)) ⌝ }
 {
-    put_subspace(flat, subspace);
-    crate::path_record::put_path(&mut flat[PATH..], path);
-    crate::times::put_times(&mut flat[TIMES..], times);
-}
-
-pub fn subspace(flat: &[u8; SIZE]) -> AreaSubspace
-    ensures { λ r. ⌜ r ≡ areaIn (now (flat .entry)) .subspace ⌝ }
-{
-    subspace_in(flat)
-}
-
-pub fn times(flat: &[u8; SIZE]) -> TimeRange
-    ensures { λ r. ⌜ r ≡ areaIn (now (flat .entry)) .times ⌝ }
-{
-    times_in(flat)
-}
-
-pub fn path_sizes(flat: &[u8; SIZE]) -> PathSizes
-    ensures { λ r. ⌜ r ≡ sizesOf (areaIn (now (flat .entry)) .path) ⌝ }
-{
-    path_sizes_in(flat)
-}
-
-pub fn path_bytes<'a>(flat: &'a [u8; SIZE]) -> &'a [u8]
-    ensures { λ r. ⌜ now r ≡ areaIn (now (flat .entry)) .path .bytes ⌝ }
-{
-    path_bytes_in(flat)
+    put_subspace(flat, head.subspace);
+    crate::put_path(&mut flat[PATH..], path);
+    crate::times::put_times(&mut flat[TIMES..], head.times);
 }
 
 fn head_in(flat: &[u8]) -> AreaHead
@@ -165,9 +120,8 @@ pub fn both_marked<'a>(flat: &'a [u8; SIZE], other: &'a [u8; SIZE]) -> bool
     marked(other)
 }
 
-pub fn store(flat: &mut [u8; SIZE], area: Area)
-    ensures { λ _. ⌜ now (flat .exit) ≡ areaFlat area ⌝ }
+pub fn store(flat: &mut [u8; SIZE], head: AreaHead, path: &[u8; 641])
+    ensures { λ _. ⌜ now (flat .exit) ≡ areaFlat (areaWith head (pathIn (now (path .entry)))) ⌝ }
 {
-    let path = area.path.flat();
-    put_area(flat, area.subspace, area.times, &path);
+    put_area(flat, head, path);
 }

@@ -1,16 +1,12 @@
 // An entry: namespace id, subspace id, path, timestamp, payload length, payload digest.
 ghost use mathlib.Core.Path.{_≡_};
-ghost use mathlib.Core.List.{_++_};
 ghost use Prim.Native.Nat.{_≤_};
 ghost use lib.ListN.{length, take, drop};
-ghost use Rattle.path.specs.Flat.{pathSize};
-ghost use Rattle.entry.specs.Record.{fieldsOf};
-ghost use Rattle.flat.specs.PathRecord.{sizesOf};
+ghost use Rattle.path.specs.Flat.{pathSize, pathIn};
+ghost use Rattle.entry.specs.Record.{fieldsOf, entryWith};
 ghost use Rattle.flat.specs.EntryRecord.{idsFlat, endFlat, entryIn, entryFlat};
 ghost use Rattle.path.specs.Puts.{Puts};
-use entry::Entry;
 use entry::EntryFields;
-use flat::PathSizes;
 
 // How many bytes an entry has, and where its parts start.
 pub const SIZE: usize = 753;
@@ -47,20 +43,6 @@ fn fields_in(flat: &[u8]) -> EntryFields
     }
 }
 
-fn path_sizes_in(flat: &[u8]) -> PathSizes
-    requires { ⌜ 753 ≤ length (now flat) ⌝ }
-    ensures { λ r. ⌜ r ≡ sizesOf (entryIn (now (flat .entry)) .path) ⌝ }
-{
-    crate::path_record::sizes_in(&flat[PATH..], true)
-}
-
-fn path_bytes_in<'a>(flat: &'a [u8]) -> &'a [u8]
-    requires { ⌜ 753 ≤ length (now flat) ⌝ }
-    ensures { λ r. ⌜ now r ≡ entryIn (now (flat .entry)) .path .bytes ⌝ }
-{
-    crate::path_record::bytes_in(&flat[PATH..])
-}
-
 fn put_ids(flat: &mut [u8], fields: EntryFields)
     requires { ⌜ 64 ≤ length (now flat) ⌝ }
     ensures { λ _. ⌜ Puts 64 (idsFlat fields) (now (flat .entry)) (now (flat .exit)) ⌝ }
@@ -82,10 +64,10 @@ fn put_end(flat: &mut [u8], fields: EntryFields)
 // Writes an entry from the first byte on.
 fn put_entry(flat: &mut [u8], fields: EntryFields, path: &[u8])
     requires { ⌜ (753 ≤ length (now flat)) × (length (now path) ≡ pathSize) ⌝ }
-    ensures { λ _. ⌜ Puts 753 (idsFlat fields ++ (now (path .entry) ++ endFlat fields)) (now (flat .entry)) (now (flat .exit)) ⌝ }
+    ensures { λ _. ⌜ Puts 753 (entryFlat (entryWith fields (pathIn (now (path .entry))))) (now (flat .entry)) (now (flat .exit)) ⌝ }
 {
     put_ids(flat, fields);
-    crate::path_record::put_path(&mut flat[PATH..], path);
+    crate::put_path(&mut flat[PATH..], path);
     put_end(&mut flat[TIMESTAMP..], fields);
 }
 
@@ -93,18 +75,6 @@ pub fn fields(flat: &[u8; SIZE]) -> EntryFields
     ensures { λ r. ⌜ r ≡ fieldsOf (entryIn (now (flat .entry))) ⌝ }
 {
     fields_in(flat)
-}
-
-pub fn path_sizes(flat: &[u8; SIZE]) -> PathSizes
-    ensures { λ r. ⌜ r ≡ sizesOf (entryIn (now (flat .entry)) .path) ⌝ }
-{
-    path_sizes_in(flat)
-}
-
-pub fn path_bytes<'a>(flat: &'a [u8; SIZE]) -> &'a [u8]
-    ensures { λ r. ⌜ now r ≡ entryIn (now (flat .entry)) .path .bytes ⌝ }
-{
-    path_bytes_in(flat)
 }
 
 fn path_in<'a>(flat: &'a [u8]) -> &'a [u8]
@@ -121,10 +91,8 @@ pub fn path<'a>(flat: &'a [u8; SIZE]) -> &'a [u8]
     path_in(flat)
 }
 
-pub fn store(flat: &mut [u8; SIZE], entry: Entry)
-    ensures { λ _. ⌜ now (flat .exit) ≡ entryFlat entry ⌝ }
+pub fn store(flat: &mut [u8; SIZE], fields: EntryFields, path: &[u8; 641])
+    ensures { λ _. ⌜ now (flat .exit) ≡ entryFlat (entryWith fields (pathIn (now (path .entry)))) ⌝ }
 {
-    let fields = entry.fields();
-    let path = entry.path.flat();
-    put_entry(flat, fields, &path);
+    put_entry(flat, fields, path);
 }

@@ -1,19 +1,13 @@
 // A 3d range: subspace start, mark, end; path start, mark, end; times. The marks say that an end is open.
 ghost use mathlib.Core.Path.{_≡_};
 ghost use mathlib.Core.Bool.{_&&_};
-ghost use mathlib.Core.List.{_∷_, _++_};
 ghost use Prim.Native.Nat.{_≤_};
 ghost use lib.ListN.{length, take, drop};
-ghost use Rattle.codec.specs.Header.{bit};
-ghost use Rattle.path.specs.Flat.{pathSize};
-ghost use Rattle.range_3d.specs.Record.{headOf};
-ghost use Rattle.flat.specs.PathRecord.{sizesOf};
-ghost use Rattle.flat.specs.RangeRecord.{subspacesFlat, subspacesIn, rangeMarked, rangeIn, rangeFlat};
-ghost use Rattle.flat.specs.Times.{timesFlat};
+ghost use Rattle.path.specs.Flat.{pathSize, pathIn};
+ghost use Rattle.range_3d.specs.Record.{headOf, rangeWith};
+ghost use Rattle.flat.specs.RangeRecord.{subspacesFlat, pathsFlat, subspacesIn, rangeMarked, rangeIn, rangeFlat};
 ghost use Rattle.path.specs.Puts.{Puts};
-use flat::PathSizes;
 use grouping::TimeRange;
-use range_3d::Range3d;
 use range_3d::Range3dHead;
 use range_3d::SubspaceRange;
 
@@ -77,36 +71,6 @@ fn times_in(flat: &[u8]) -> TimeRange
     crate::times::times_in(&flat[TIMES..])
 }
 
-// A mark that is none shows as a count that no path has.
-fn start_sizes_in(flat: &[u8]) -> PathSizes
-    requires { ⌜ 1365 ≤ length (now flat) ⌝ }
-    ensures { λ r. ⌜ r ≡ sizesOf (rangeIn (now (flat .entry)) .paths .start) ⌝ }
-{
-    let marked = marked(flat);
-    crate::path_record::sizes_in(&flat[PATH_START..], marked)
-}
-
-fn end_sizes_in(flat: &[u8]) -> PathSizes
-    requires { ⌜ 1365 ≤ length (now flat) ⌝ }
-    ensures { λ r. ⌜ r ≡ sizesOf (rangeIn (now (flat .entry)) .paths .end) ⌝ }
-{
-    crate::path_record::sizes_in(&flat[PATH_END..], true)
-}
-
-fn start_bytes_in<'a>(flat: &'a [u8]) -> &'a [u8]
-    requires { ⌜ 1365 ≤ length (now flat) ⌝ }
-    ensures { λ r. ⌜ now r ≡ rangeIn (now (flat .entry)) .paths .start .bytes ⌝ }
-{
-    crate::path_record::bytes_in(&flat[PATH_START..])
-}
-
-fn end_bytes_in<'a>(flat: &'a [u8]) -> &'a [u8]
-    requires { ⌜ 1365 ≤ length (now flat) ⌝ }
-    ensures { λ r. ⌜ now r ≡ rangeIn (now (flat .entry)) .paths .end .bytes ⌝ }
-{
-    crate::path_record::bytes_in(&flat[PATH_END..])
-}
-
 fn put_subspaces(flat: &mut [u8], subspaces: SubspaceRange)
     requires { ⌜ 65 ≤ length (now flat) ⌝ }
     ensures { λ _. ⌜ Puts 65 (subspacesFlat subspaces) (now (flat .entry)) (now (flat .exit)) ⌝ }
@@ -121,72 +85,23 @@ fn put_subspaces(flat: &mut [u8], subspaces: SubspaceRange)
 // The paths, from the first byte on.
 fn put_paths<'a>(flat: &mut [u8], start: &'a [u8], end_open: bool, end: &'a [u8])
     requires { ⌜ (1283 ≤ length (now flat)) × (length (now start) ≡ pathSize) × (length (now end) ≡ pathSize) ⌝ }
-    ensures { λ _. ⌜ Puts 1283 (now (start .entry) ++ (bit «end_open» ∷ now (end .entry))) (now (flat .entry)) (now (flat .exit)) ⌝ }
+    ensures { λ _. ⌜ Puts 1283 (pathsFlat (pathIn (now (start .entry))) «end_open» (pathIn (now (end .entry)))) (now (flat .entry)) (now (flat .exit)) ⌝ }
 {
     let open = PATH_OPEN - PATH_START;
     let at = PATH_END - PATH_START;
-    crate::path_record::put_path(flat, start);
+    crate::put_path(flat, start);
     flat[open] = byte_codec::bit(end_open);
-    crate::path_record::put_path(&mut flat[at..], end);
+    crate::put_path(&mut flat[at..], end);
 }
 
 // Writes a 3d range from the first byte on.
-fn put_range<'a>(
-    flat: &mut [u8],
-    subspaces: SubspaceRange,
-    times: TimeRange,
-    start: &'a [u8],
-    end_open: bool,
-    end: &'a [u8],
-)
+fn put_range<'a>(flat: &mut [u8], head: Range3dHead, start: &'a [u8], end: &'a [u8])
     requires { ⌜ (1365 ≤ length (now flat)) × (length (now start) ≡ pathSize) × (length (now end) ≡ pathSize) ⌝ }
-    ensures { λ _. ⌜ Puts 1365 (subspacesFlat subspaces ++ (now (start .entry) ++ (bit «end_open» ∷ now (end .entry)) ++ timesFlat times)) (now (flat .entry)) (now (flat .exit)) ⌝ }
+    ensures { λ _. ⌜ Puts 1365 (rangeFlat (rangeWith head (pathIn (now (start .entry))) (pathIn (now (end .entry))))) (now (flat .entry)) (now (flat .exit)) ⌝ }
 {
-    put_subspaces(flat, subspaces);
-    put_paths(&mut flat[PATH_START..], start, end_open, end);
-    crate::times::put_times(&mut flat[TIMES..], times);
-}
-
-pub fn subspaces(flat: &[u8; SIZE]) -> SubspaceRange
-    ensures { λ r. ⌜ r ≡ rangeIn (now (flat .entry)) .subspaces ⌝ }
-{
-    subspaces_in(flat)
-}
-
-pub fn end_open(flat: &[u8; SIZE]) -> bool
-    ensures { λ r. ⌜ r ≡ rangeIn (now (flat .entry)) .paths .«end_open» ⌝ }
-{
-    end_open_in(flat)
-}
-
-pub fn times(flat: &[u8; SIZE]) -> TimeRange
-    ensures { λ r. ⌜ r ≡ rangeIn (now (flat .entry)) .times ⌝ }
-{
-    times_in(flat)
-}
-
-pub fn start_sizes(flat: &[u8; SIZE]) -> PathSizes
-    ensures { λ r. ⌜ r ≡ sizesOf (rangeIn (now (flat .entry)) .paths .start) ⌝ }
-{
-    start_sizes_in(flat)
-}
-
-pub fn end_sizes(flat: &[u8; SIZE]) -> PathSizes
-    ensures { λ r. ⌜ r ≡ sizesOf (rangeIn (now (flat .entry)) .paths .end) ⌝ }
-{
-    end_sizes_in(flat)
-}
-
-pub fn start_bytes<'a>(flat: &'a [u8; SIZE]) -> &'a [u8]
-    ensures { λ r. ⌜ now r ≡ rangeIn (now (flat .entry)) .paths .start .bytes ⌝ }
-{
-    start_bytes_in(flat)
-}
-
-pub fn end_bytes<'a>(flat: &'a [u8; SIZE]) -> &'a [u8]
-    ensures { λ r. ⌜ now r ≡ rangeIn (now (flat .entry)) .paths .end .bytes ⌝ }
-{
-    end_bytes_in(flat)
+    put_subspaces(flat, head.subspaces);
+    put_paths(&mut flat[PATH_START..], start, head.end_open, end);
+    crate::times::put_times(&mut flat[TIMES..], head.times);
 }
 
 fn head_in(flat: &[u8]) -> Range3dHead
@@ -236,7 +151,14 @@ pub fn path_end<'a>(flat: &'a [u8; SIZE]) -> &'a [u8]
     path_end_in(flat)
 }
 
-// Whether the marks of two 3d ranges are 0 or 1.
+// Whether the marks of a 3d range are 0 or 1.
+pub fn is_marked(flat: &[u8; SIZE]) -> bool
+    ensures { λ r. ⌜ r ≡ rangeMarked (now (flat .entry)) ⌝ }
+{
+    marked(flat)
+}
+
+// The same of two.
 pub fn both_marked<'a>(flat: &'a [u8; SIZE], other: &'a [u8; SIZE]) -> bool
     ensures { λ r. ⌜ r ≡ (rangeMarked (now (flat .entry)) && rangeMarked (now (other .entry))) ⌝ }
 {
@@ -247,17 +169,9 @@ pub fn both_marked<'a>(flat: &'a [u8; SIZE], other: &'a [u8; SIZE]) -> bool
     marked(other)
 }
 
-pub fn store(flat: &mut [u8; SIZE], range: Range3d)
-    ensures { λ _. ⌜ now (flat .exit) ≡ rangeFlat range ⌝ }
+// Stores a 3d range by its head and the records of its paths.
+pub fn store<'a>(flat: &mut [u8; SIZE], head: Range3dHead, start: &'a [u8; 641], end: &'a [u8; 641])
+    ensures { λ _. ⌜ now (flat .exit) ≡ rangeFlat (rangeWith head (pathIn (now (start .entry))) (pathIn (now (end .entry)))) ⌝ }
 {
-    let start = range.paths.start.flat();
-    let end = range.paths.end.flat();
-    put_range(
-        flat,
-        range.subspaces,
-        range.times,
-        &start,
-        range.paths.end_open,
-        &end,
-    );
+    put_range(flat, head, start, end);
 }

@@ -1,4 +1,4 @@
-pub mod Compare
 pub mod Typed
 pub mod Record
 pub mod Heads
+pub mod Compare

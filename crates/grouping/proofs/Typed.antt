@@ -6,10 +6,8 @@ use Rattle.grouping.specs.declared.RangeEnd.the-variants.{Closed, Open}
 use Rattle.grouping.specs.declared.TimeRange.{TimeRange}
 use Rattle.grouping.specs.Range.{TypedRange, top, endValue}
 use Rattle.codec.specs.Answers.{AllBytes}
-use Rattle.path.proofs.Typed.{each-byte, typed}
+use Rattle.path.proofs.Typed.{each-byte}
 use Rattle.grouping.specs.declared.AreaSubspace.{AreaSubspace}
-use Rattle.grouping.specs.declared.Area.{Area}
-use Rattle.grouping.specs.Record.{TypedArea}
 
 typed-end : (x : ℕ) (e : RangeEnd) (vs : List Val)
     → shadow (Rattle.grouping.proofs.RangeEnd.the-field .row .own ((Rattle.grouping.proofs.TimeRange.the-type .to (record { start = x; end = e })) .1 .0) vs) → endValue e ≤ top
@@ -23,13 +21,3 @@ pub typed-id : (s : AreaSubspace) {vs : List Val} → Is (struct.row Rattle.gro
 typed-id s g =
     let id = g .1 .1 .1 .0 in
     (length-unmapped ℕ (s .id) 32 (id .1 .0 .1), each-byte (s .id) (id .0) (id .1 .1))
-
-pub typed-area : (a : Area) {vs : List Val} → Is (struct.row Rattle.grouping.proofs.Area.the-type) a vs → TypedArea a
-typed-area a g =
-    let id = typed-id (a .subspace) (g .1 .1 .0) in
-    record {
-      long = id .0;
-      bytes = id .1;
-      path = typed (a .path) (g .1 .1 .1 .0);
-      times = typed-range (a .times) (g .1 .1 .1 .1 .0);
-    }

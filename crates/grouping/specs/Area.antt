@@ -1,5 +1,4 @@
 -- docs/FORMAT.md, "Areas": an area on plain values: any subspace or one id, the components of a path, and a range of times.
-use mathlib.Core.Path.{_≡_}
 use mathlib.Core.List.{List}
 use mathlib.Core.Bool.{Bool, true, false, _&&_}
 use mathlib.Core.Option.{Option, none, some}

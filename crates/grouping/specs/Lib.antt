@@ -1,3 +1,4 @@
 pub mod Range
 pub mod Area
 pub mod Record
+pub mod Answers

@@ -1,4 +1,4 @@
--- docs/FORMAT.md, "Areas": an area as the code holds it, an id beside a mark, a path record and a range of times.
+-- docs/FORMAT.md, "Areas": an area's record, an id beside a mark, the record of a path and a range of times. The code holds the path's record apart from the rest.
 use mathlib.Core.Path.{_≡_}
 use mathlib.Core.List.{List}
 use mathlib.Core.Bool.{Bool, true, false, cond, _&&_}
@@ -7,17 +7,18 @@ use Prim.Native.Nat.{ℕ}
 use lib.ListN.{length, replicate}
 use Rattle.codec.specs.Answers.{AllBytes}
 use Rattle.codec.specs.Bytes.{sameBytes}
-use Rattle.path.specs.declared.Path.{Path}
-use Rattle.path.specs.declared.Compared.{Compared}
-use Rattle.path.specs.declared.Compared.the-variants as compared
-use Rattle.path.specs.Record.{componentsOf, pathFrom, sized, wellFormed, TypedPath}
-use Rattle.path.specs.Answers.{verdict}
+use Rattle.path.specs.Record.{Path, componentsOf, pathFrom, sized, wellFormed, TypedPath}
+use Rattle.path.specs.Answers.{Said, saidIf}
 use Rattle.grouping.specs.declared.AreaSubspace.{AreaSubspace}
 use Rattle.grouping.specs.declared.TimeRange.{TimeRange}
-use Rattle.grouping.specs.declared.Area.{Area}
 use Rattle.grouping.specs.declared.AreaHead.{AreaHead}
 use Rattle.grouping.specs.Range.{TypedRange}
 use Rattle.grouping.specs.Area.{AreaValue, includesSubspace, includesArea, liesInside}
+
+pub record Area : Type 0 where
+  pub subspace : AreaSubspace
+  pub path : Path
+  pub times : TimeRange
 
 -- ---- the values of a record, and the record of values
 abbrev pub subspaceOf : AreaSubspace → Option (List ℕ)
@@ -30,16 +31,12 @@ subspaceFrom (some id) = record { any = false; id = id }
 abbrev pub areaOf : Area → AreaValue
 areaOf a = record { subspace = subspaceOf (a .subspace); path = componentsOf (a .path); times = a .times }
 
--- a record of these parts
-abbrev pub areaWith : AreaSubspace → Path → TimeRange → Area
-areaWith subspace path times = record { subspace = subspace; path = path; times = times }
-
 -- what an area has beside its path, and both together
 abbrev pub headOf : Area → AreaHead
 headOf a = record { subspace = a .subspace; times = a .times }
 
-abbrev pub headed : AreaHead → Path → Area
-headed h path = areaWith (h .subspace) path (h .times)
+abbrev pub areaWith : AreaHead → Path → Area
+areaWith h path = record { subspace = h .subspace; path = path; times = h .times }
 
 unfoldable pub areaFrom : AreaValue → Area
 areaFrom v = record { subspace = subspaceFrom (v .subspace); path = pathFrom (v .path); times = v .times }
@@ -66,11 +63,8 @@ pub record TypedArea (a : Area) : Type 0 where
 unfoldable pub subspaceIncludes : AreaSubspace → AreaSubspace → Bool
 subspaceIncludes r s = includesSubspace (subspaceOf r) (subspaceOf s)
 
-abbrev pub compareAreas : (AreaValue → AreaValue → Bool) → Area → Area → Compared
-compareAreas test r a = cond (wellFormedArea r && wellFormedArea a) (verdict (test (areaOf r) (areaOf a))) compared.Malformed
+unfoldable pub areaIncludes : Area → Area → Said Bool
+areaIncludes r a = saidIf (wellFormedArea r && wellFormedArea a) (includesArea (areaOf r) (areaOf a))
 
-unfoldable pub areaIncludes : Area → Area → Compared
-areaIncludes = compareAreas includesArea
-
-unfoldable pub areaInside : Area → Area → Compared
-areaInside = compareAreas liesInside
+unfoldable pub areaInside : Area → Area → Said Bool
+areaInside r a = saidIf (wellFormedArea r && wellFormedArea a) (liesInside (areaOf r) (areaOf a))

@@ -1,11 +1,11 @@
 // Groupings of entries: ranges of times, and areas: docs/FORMAT.md, "Areas". A port of grouping/range.rs and grouping/area.rs.
 ghost use mathlib.Core.Path.{_≡_};
+ghost use Rattle.grouping.specs.Answers.{emptyHead, headRefusal};
 ghost use Rattle.grouping.specs.Area.{headInside};
-ghost use Rattle.grouping.specs.Record.{headOf, subspaceOf, wellFormedSubspace, subspaceIncludes, wellFormedArea, areaIncludes, areaInside};
-use path::Compared;
-use path::Path;
+ghost use Rattle.grouping.specs.Record.{subspaceOf, wellFormedSubspace, subspaceIncludes};
+use codec::Decoded;
 
-pub mod parts;
+pub mod lent;
 mod range;
 
 // Where a range of times ends: before a time, or nowhere.
@@ -26,16 +26,27 @@ pub struct AreaSubspace {
     pub id: [u8; 32],
 }
 
-pub struct Area {
-    pub subspace: AreaSubspace,
-    pub path: Path,
-    pub times: TimeRange,
-}
-
-// What an area has beside its path.
+// What an area has beside its path, whose record is lent.
 pub struct AreaHead {
     pub subspace: AreaSubspace,
     pub times: TimeRange,
+}
+
+// What an area has beside its path, which is read into a lent record, beside the answer; beside a refusal that of the empty area.
+pub struct DecodedAreaHead {
+    pub answer: Decoded,
+    pub head: AreaHead,
+}
+
+// A refusal beside the head of the empty area.
+pub fn refuse_head(answer: Decoded) -> DecodedAreaHead
+    ensures { λ r. ⌜ r ≡ headRefusal answer ⌝ }
+{
+    let head = AreaHead::empty();
+    DecodedAreaHead {
+        answer: answer,
+        head: head,
+    }
 }
 
 impl AreaSubspace {
@@ -66,6 +77,22 @@ impl AreaSubspace {
 }
 
 impl AreaHead {
+    // That of the empty area, in which no time lies.
+    pub fn empty() -> AreaHead
+        ensures { λ r. ⌜ r ≡ emptyHead ⌝ }
+    {
+        AreaHead {
+            subspace: AreaSubspace {
+                any: true,
+                id: [0u8; 32],
+            },
+            times: TimeRange {
+                start: 0,
+                end: RangeEnd::Closed(0),
+            },
+        }
+    }
+
     // Whether another area lies inside, as far as subspaces and times tell.
     pub fn contains(self, other: AreaHead) -> bool
         ensures { λ r. ⌜ r ≡ headInside (subspaceOf (self .subspace)) (self .times) (subspaceOf (other .subspace)) (other .times) ⌝ }
@@ -86,68 +113,5 @@ impl AreaHead {
         }
         let end = other_times.end;
         times.bounds(end.value())
-    }
-}
-
-impl Area {
-    // What it has beside its path.
-    pub fn head(self) -> AreaHead
-        ensures { λ r. ⌜ r ≡ headOf self ⌝ }
-    {
-        let subspace = self.subspace;
-        let times = self.times;
-        AreaHead {
-            subspace: subspace,
-            times: times,
-        }
-    }
-
-    pub fn well_formed(self) -> bool
-        ensures { λ r. ⌜ r ≡ wellFormedArea self ⌝ }
-    {
-        let subspace = self.subspace.well_formed();
-        if !subspace {
-            return false;
-        }
-        self.path.well_formed()
-    }
-
-    pub fn includes_area(self, area: Area) -> Compared
-        ensures { λ r. ⌜ r ≡ areaIncludes self area ⌝ }
-    {
-        let path = self.path;
-        let other = area.path;
-        parts::includes(
-            self.subspace,
-            self.times,
-            &path.bytes,
-            &path.lengths,
-            path.count,
-            area.subspace,
-            area.times,
-            &other.bytes,
-            &other.lengths,
-            other.count,
-        )
-    }
-
-    // Whether an area lies inside: it is included, and its start and end lie between the start and the end.
-    pub fn contains(self, area: Area) -> Compared
-        ensures { λ r. ⌜ r ≡ areaInside self area ⌝ }
-    {
-        let path = self.path;
-        let other = area.path;
-        parts::contains(
-            self.subspace,
-            self.times,
-            &path.bytes,
-            &path.lengths,
-            path.count,
-            area.subspace,
-            area.times,
-            &other.bytes,
-            &other.lengths,
-            other.count,
-        )
     }
 }

@@ -1,10 +1,10 @@
 // Areas.
-ghost use mathlib.Core.Path.{_≡_};
 ghost use lib.ListN.{drop};
 ghost use Rattle.codec.specs.Format.{lengthAnswer};
 ghost use Rattle.area_area.specs.Records.{againstArea, readAgainstArea};
 ghost use Rattle.flat.specs.AreaRecord.{areaIn, areaFlat};
 ghost use Rattle.calls.specs.Calls.{Encodes, Told, Stores};
+use codec::Decoded;
 use codec::Encoded;
 
 // Writes an area against a reference.
@@ -21,7 +21,7 @@ pub extern "C" fn jakepuro_area_area_encode<'a>(
     if !marked {
         return calls::tell_length(Encoded::Malformed, written);
     }
-    let answer = area_area_encode::lent::relative_encode(
+    let answer = area_area_encode::relative_encode(
         buffer,
         flat_records::area_record::head(area),
         flat_records::area_record::path(area),
@@ -44,7 +44,7 @@ pub extern "C" fn jakepuro_area_area_len_of_encoding<'a>(
     if !marked {
         return calls::tell_length(Encoded::Malformed, length);
     }
-    let answer = area_area_encode::lent::relative_len_of_encoding(
+    let answer = area_area_encode::relative_len_of_encoding(
         flat_records::area_record::head(area),
         flat_records::area_record::path(area),
         flat_records::area_record::head(reference),
@@ -65,18 +65,19 @@ pub extern "C" fn jakepuro_area_area_decode<'a>(
 ) -> u8
     ensures { λ r. ⌜ Stores areaFlat (readAgainstArea canonic (areaIn (now (reference .entry))) (drop start (now (message .entry)))) (now (area .entry)) (now (area .exit)) r (now (consumed .exit)) ⌝ }
 {
-    let of = flat_records::area_record::path_sizes(reference);
-    let read = area_area_decode::parts::relative_decode(
+    let marked = flat_records::area_record::is_marked(reference);
+    if !marked {
+        return calls::tell_refusal(Decoded::Malformed, consumed);
+    }
+    let mut path = [0u8; 641];
+    let read = area_area_decode::relative_decode(
         message,
         start,
         canonic,
-        flat_records::area_record::subspace(reference),
-        flat_records::area_record::times(reference),
-        flat_records::area_record::path_bytes(reference),
-        &of.lengths,
-        of.count,
+        flat_records::area_record::head(reference),
+        flat_records::area_record::path(reference),
+        &mut path,
     );
     let answer = read.answer;
-    let value = read.area;
-    calls::give_area(answer, value, area, consumed)
+    calls::give_area(answer, read.head, &path, area, consumed)
 }

@@ -1,5 +1,4 @@
 // Entries.
-ghost use mathlib.Core.Path.{_≡_};
 ghost use lib.ListN.{drop};
 ghost use Rattle.codec.specs.Format.{lengthAnswer};
 ghost use Rattle.entry_area.specs.Records.{againstNamespaceArea, readAgainstNamespaceArea};
@@ -7,6 +6,7 @@ ghost use Rattle.entry_entry.specs.Records.{againstEntry, readAgainstEntry};
 ghost use Rattle.flat.specs.AreaRecord.{areaIn};
 ghost use Rattle.flat.specs.EntryRecord.{entryIn, entryFlat};
 ghost use Rattle.calls.specs.Calls.{Encodes, Told, Stores};
+use codec::Decoded;
 use codec::Encoded;
 
 // Writes an entry against a namespace and an area.
@@ -25,7 +25,7 @@ pub extern "C" fn jakepuro_entry_area_encode<'a>(
         return calls::tell_length(Encoded::Malformed, written);
     }
     let space = *namespace;
-    let answer = entry_area_encode::lent::relative_encode(
+    let answer = entry_area_encode::relative_encode(
         buffer,
         flat_records::entry_record::fields(entry),
         flat_records::entry_record::path(entry),
@@ -51,7 +51,7 @@ pub extern "C" fn jakepuro_entry_area_len_of_encoding<'a>(
         return calls::tell_length(Encoded::Malformed, length);
     }
     let space = *namespace;
-    let answer = entry_area_encode::lent::relative_len_of_encoding(
+    let answer = entry_area_encode::relative_len_of_encoding(
         flat_records::entry_record::fields(entry),
         flat_records::entry_record::path(entry),
         space,
@@ -74,22 +74,23 @@ pub extern "C" fn jakepuro_entry_area_decode<'a>(
 ) -> u8
     ensures { λ r. ⌜ Stores entryFlat (readAgainstNamespaceArea canonic (now (namespace .entry)) (areaIn (now (area .entry))) (drop start (now (message .entry)))) (now (entry .entry)) (now (entry .exit)) r (now (consumed .exit)) ⌝ }
 {
+    let marked = flat_records::area_record::is_marked(area);
+    if !marked {
+        return calls::tell_refusal(Decoded::Malformed, consumed);
+    }
     let space = *namespace;
-    let of = flat_records::area_record::path_sizes(area);
-    let read = entry_area_decode::parts::relative_decode(
+    let mut path = [0u8; 641];
+    let read = entry_area_decode::relative_decode(
         message,
         start,
         canonic,
         space,
-        flat_records::area_record::subspace(area),
-        flat_records::area_record::times(area),
-        flat_records::area_record::path_bytes(area),
-        &of.lengths,
-        of.count,
+        flat_records::area_record::head(area),
+        flat_records::area_record::path(area),
+        &mut path,
     );
     let answer = read.answer;
-    let value = read.entry;
-    calls::give_entry(answer, value, entry, consumed)
+    calls::give_entry(answer, read.fields, &path, entry, consumed)
 }
 
 // Writes an entry against an entry.
@@ -102,7 +103,7 @@ pub extern "C" fn jakepuro_entry_entry_encode<'a>(
 ) -> u8
     ensures { λ r. ⌜ Encodes (againstEntry (entryIn (now (reference .entry)))) (entryIn (now (entry .entry))) (now (buffer .entry)) (now (buffer .exit)) r (now (written .exit)) ⌝ }
 {
-    let answer = entry_entry_encode::lent::relative_encode(
+    let answer = entry_entry_encode::relative_encode(
         buffer,
         flat_records::entry_record::fields(entry),
         flat_records::entry_record::path(entry),
@@ -121,7 +122,7 @@ pub extern "C" fn jakepuro_entry_entry_len_of_encoding<'a>(
 ) -> u8
     ensures { λ r. ⌜ Told (lengthAnswer (againstEntry (entryIn (now (reference .entry)))) (entryIn (now (entry .entry)))) r (now (length .exit)) ⌝ }
 {
-    let answer = entry_entry_encode::lent::relative_len_of_encoding(
+    let answer = entry_entry_encode::relative_len_of_encoding(
         flat_records::entry_record::fields(entry),
         flat_records::entry_record::path(entry),
         flat_records::entry_record::fields(reference),
@@ -141,17 +142,14 @@ pub extern "C" fn jakepuro_entry_entry_decode<'a>(
 ) -> u8
     ensures { λ r. ⌜ Stores entryFlat (readAgainstEntry (entryIn (now (reference .entry))) (drop start (now (message .entry)))) (now (entry .entry)) (now (entry .exit)) r (now (consumed .exit)) ⌝ }
 {
-    let of = flat_records::entry_record::fields(reference);
-    let of_sizes = flat_records::entry_record::path_sizes(reference);
-    let read = entry_entry_decode::parts::relative_decode(
+    let mut path = [0u8; 641];
+    let read = entry_entry_decode::relative_decode(
         message,
         start,
-        of,
-        flat_records::entry_record::path_bytes(reference),
-        &of_sizes.lengths,
-        of_sizes.count,
+        flat_records::entry_record::fields(reference),
+        flat_records::entry_record::path(reference),
+        &mut path,
     );
     let answer = read.answer;
-    let value = read.entry;
-    calls::give_entry(answer, value, entry, consumed)
+    calls::give_entry(answer, read.fields, &path, entry, consumed)
 }

@@ -1,5 +1,4 @@
 // Paths.
-ghost use mathlib.Core.Path.{_≡_};
 ghost use lib.ListN.{drop};
 ghost use Rattle.codec.specs.Format.{lengthAnswer};
 ghost use Rattle.path_codec.specs.Plain.{plainPath, readPath};
@@ -16,7 +15,7 @@ pub extern "C" fn jakepuro_path_encode(
 ) -> u8
     ensures { λ r. ⌜ Encodes (plainPath) (pathIn (now (path .entry))) (now (buffer .entry)) (now (buffer .exit)) r (now (written .exit)) ⌝ }
 {
-    let answer = path_codec::lent::encode(buffer, path);
+    let answer = path_codec::encode(buffer, path);
     calls::tell_length(answer, written)
 }
 
@@ -25,7 +24,7 @@ pub extern "C" fn jakepuro_path_encode(
 pub extern "C" fn jakepuro_path_len_of_encoding(path: &[u8; 641], length: &mut usize) -> u8
     ensures { λ r. ⌜ Told (lengthAnswer (plainPath) (pathIn (now (path .entry)))) r (now (length .exit)) ⌝ }
 {
-    let answer = path_codec::lent::len_of_encoding(path);
+    let answer = path_codec::len_of_encoding(path);
     calls::tell_length(answer, length)
 }
 
@@ -41,7 +40,7 @@ pub extern "C" fn jakepuro_path_decode(
     ensures { λ r. ⌜ Stores pathFlat (readPath canonic (drop start (now (message .entry)))) (now (path .entry)) (now (path .exit)) r (now (consumed .exit)) ⌝ }
 {
     let mut out = [0u8; 641];
-    let answer = path_codec::lent_decode::decode(message, start, canonic, &mut out);
+    let answer = path_codec::decode(message, start, canonic, &mut out);
     calls::give_path(answer, &out, path, consumed)
 }
 
@@ -55,7 +54,7 @@ pub extern "C" fn jakepuro_path_path_encode<'a>(
 ) -> u8
     ensures { λ r. ⌜ Encodes (againstPath (pathIn (now (reference .entry)))) (pathIn (now (path .entry))) (now (buffer .entry)) (now (buffer .exit)) r (now (written .exit)) ⌝ }
 {
-    let answer = path_relative_encode::lent::relative_encode(buffer, path, reference);
+    let answer = path_relative_encode::relative_encode(buffer, path, reference);
     calls::tell_length(answer, written)
 }
 
@@ -68,7 +67,7 @@ pub extern "C" fn jakepuro_path_path_len_of_encoding<'a>(
 ) -> u8
     ensures { λ r. ⌜ Told (lengthAnswer (againstPath (pathIn (now (reference .entry)))) (pathIn (now (path .entry)))) r (now (length .exit)) ⌝ }
 {
-    let answer = path_relative_encode::lent::relative_len_of_encoding(path, reference);
+    let answer = path_relative_encode::relative_len_of_encoding(path, reference);
     calls::tell_length(answer, length)
 }
 
@@ -85,7 +84,7 @@ pub extern "C" fn jakepuro_path_path_decode<'a>(
     ensures { λ r. ⌜ Stores pathFlat (readAgainstPath canonic (pathIn (now (reference .entry))) (drop start (now (message .entry)))) (now (path .entry)) (now (path .exit)) r (now (consumed .exit)) ⌝ }
 {
     let mut out = [0u8; 641];
-    let answer = path_relative_decode::lent::relative_decode(
+    let answer = path_relative_decode::relative_decode(
         message,
         start,
         canonic,
@@ -105,7 +104,7 @@ pub extern "C" fn jakepuro_path_extends_encode<'a>(
 ) -> u8
     ensures { λ r. ⌜ Encodes (extendsPath (pathIn (now (extends .entry)))) (pathIn (now (path .entry))) (now (buffer .entry)) (now (buffer .exit)) r (now (written .exit)) ⌝ }
 {
-    let answer = path_relative_encode::lent::encode_path_extends_path(buffer, path, extends);
+    let answer = path_relative_encode::encode_path_extends_path(buffer, path, extends);
     calls::tell_length(answer, written)
 }
 
@@ -118,7 +117,7 @@ pub extern "C" fn jakepuro_path_extends_len_of_encoding<'a>(
 ) -> u8
     ensures { λ r. ⌜ Told (lengthAnswer (extendsPath (pathIn (now (extends .entry)))) (pathIn (now (path .entry)))) r (now (length .exit)) ⌝ }
 {
-    let answer = path_relative_encode::lent::path_extends_path_encoding_len(path, extends);
+    let answer = path_relative_encode::path_extends_path_encoding_len(path, extends);
     calls::tell_length(answer, length)
 }
 
@@ -135,7 +134,7 @@ pub extern "C" fn jakepuro_path_extends_decode<'a>(
     ensures { λ r. ⌜ Stores pathFlat (readExtendsPath canonic (pathIn (now (extends .entry))) (drop start (now (message .entry)))) (now (path .entry)) (now (path .exit)) r (now (consumed .exit)) ⌝ }
 {
     let mut out = [0u8; 641];
-    let answer = path_relative_decode::lent::decode_path_extends_path(
+    let answer = path_relative_decode::decode_path_extends_path(
         message,
         start,
         canonic,

@@ -1,11 +1,13 @@
 // 3d ranges.
-ghost use mathlib.Core.Path.{_≡_};
 ghost use lib.ListN.{drop};
 ghost use Rattle.codec.specs.Format.{lengthAnswer};
 ghost use Rattle.range3d_range3d.specs.Records.{againstRange, readAgainstRange};
 ghost use Rattle.flat.specs.RangeRecord.{rangeIn, rangeFlat};
 ghost use Rattle.calls.specs.Calls.{Encodes, Told, Stores};
 use codec::Encoded;
+
+// The code of a refusal for marks that are none.
+const MALFORMED: u8 = 5;
 
 // Writes a 3d range against a 3d range.
 #[no_mangle]
@@ -21,7 +23,7 @@ pub extern "C" fn jakepuro_range3d_range3d_encode<'a>(
     if !marked {
         return calls::tell_length(Encoded::Malformed, written);
     }
-    let answer = range3d_range3d_encode::lent::relative_encode(
+    let answer = range3d_range3d_encode::relative_encode(
         buffer,
         flat_records::range_record::head(range),
         flat_records::range_record::path_start(range),
@@ -46,7 +48,7 @@ pub extern "C" fn jakepuro_range3d_range3d_len_of_encoding<'a>(
     if !marked {
         return calls::tell_length(Encoded::Malformed, length);
     }
-    let answer = range3d_range3d_encode::lent::relative_len_of_encoding(
+    let answer = range3d_range3d_encode::relative_len_of_encoding(
         flat_records::range_record::head(range),
         flat_records::range_record::path_start(range),
         flat_records::range_record::path_end(range),
@@ -68,22 +70,23 @@ pub extern "C" fn jakepuro_range3d_range3d_decode<'a>(
 ) -> u8
     ensures { λ r. ⌜ Stores rangeFlat (readAgainstRange (rangeIn (now (reference .entry))) (drop start (now (message .entry)))) (now (range .entry)) (now (range .exit)) r (now (consumed .exit)) ⌝ }
 {
-    let of_start = flat_records::range_record::start_sizes(reference);
-    let of_end = flat_records::range_record::end_sizes(reference);
-    let read = range3d_range3d_decode::parts::relative_decode(
+    let marked = flat_records::range_record::is_marked(reference);
+    if !marked {
+        *consumed = 0;
+        return MALFORMED;
+    }
+    let mut path_start = [0u8; 641];
+    let mut path_end = [0u8; 641];
+    let read = range3d_range3d_decode::relative_decode(
         message,
         start,
-        flat_records::range_record::subspaces(reference),
-        flat_records::range_record::start_bytes(reference),
-        &of_start.lengths,
-        of_start.count,
-        flat_records::range_record::end_open(reference),
-        flat_records::range_record::end_bytes(reference),
-        &of_end.lengths,
-        of_end.count,
-        flat_records::range_record::times(reference),
+        flat_records::range_record::head(reference),
+        flat_records::range_record::path_start(reference),
+        flat_records::range_record::path_end(reference),
+        &mut path_start,
+        &mut path_end,
     );
     let answer = read.answer;
-    let value = read.range;
-    calls::give_range(answer, value, range, consumed)
+    let head = read.head;
+    calls::give_range(answer, head, &path_start, &path_end, range, consumed)
 }

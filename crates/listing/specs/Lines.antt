@@ -5,7 +5,8 @@ use Prim.Native.Nat.{ℕ}
 use lib.Dec.{eqb, leb}
 use lib.ListN.{length}
 use Rattle.path.specs.Record.{pathFrom}
-use Rattle.grouping.specs.declared.Area.{Area}
+use Rattle.path.specs.Flat.{pathIn}
+use Rattle.grouping.specs.Record.{Area}
 use Rattle.area_area.specs.Records.{readAgainstArea}
 use Rattle.text.specs.Decimal.{decimalText}
 use Rattle.path_text.specs.declared.PathField.{PathField}
@@ -28,7 +29,7 @@ areaText a = subspaceText (a .subspace) ++ afterTab (componentsTextOf (a .path))
 abbrev pub areaField : List ℕ → (Area → List ℕ) → List ℕ
 areaField line k =
     onField (readSubspaceText (field 1 line) .ok) (readSubspaceText (field 1 line) .subspace) (λ subspace.
-    onPath (readPathField (field 2 line) .found) (readPathField (field 2 line) .path) (λ path.
+    onPath (readPathField (field 2 line) .found) (pathIn (readPathField (field 2 line) .path .flat)) (λ path.
     decimalField 3 line (λ start.
     onField (readEndText (field 4 line) .ok) (readEndText (field 4 line) .end) (λ end.
     k (record { subspace = subspace; path = path; times = record { start = start; end = end } })))))

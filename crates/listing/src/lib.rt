@@ -4,6 +4,8 @@ ghost use mathlib.Core.Bool.{false};
 ghost use Prim.Native.Nat.{_≤_};
 ghost use lib.ListN.{length};
 ghost use Rattle.codec.specs.Format.{over};
+ghost use Rattle.path.specs.Flat.{pathIn};
+ghost use Rattle.grouping.specs.Record.{areaWith};
 ghost use Rattle.lines.specs.Lines.{span, answers, fittingLines};
 ghost use Rattle.case_text.specs.Texts.{ended};
 ghost use Rattle.case_text.specs.Answers.{Puts, PutsWithin};
@@ -16,9 +18,7 @@ use case_text::Op;
 use case_text::fields;
 use case_text::put;
 use decimal::Decimal;
-use grouping::Area;
-use grouping::AreaSubspace;
-use grouping::RangeEnd;
+use grouping::AreaHead;
 use grouping::TimeRange;
 use path::Path;
 use path_text::Found;
@@ -30,7 +30,8 @@ pub const MAX_LINE: usize = 4096;
 // An area that four fields say; where they are not in their form, one that nobody looks at.
 pub struct AreaField {
     pub ok: bool,
-    pub area: Area,
+    pub head: AreaHead,
+    pub path: Path,
 }
 
 // What was answered: the bytes of the lines, and those of the answers.
@@ -56,26 +57,18 @@ fn read_path(s: &[u8]) -> PathField
 fn no_area() -> AreaField
     ensures { λ r. ⌜ r .ok ≡ false ⌝ }
 {
+    let head = AreaHead::empty();
     let path = Path::new_empty();
     AreaField {
         ok: false,
-        area: Area {
-            subspace: AreaSubspace {
-                any: true,
-                id: [0u8; 32],
-            },
-            path: path,
-            times: TimeRange {
-                start: 0,
-                end: RangeEnd::Closed(0),
-            },
-        },
+        head: head,
+        path: path,
     }
 }
 
 // Reads the second field of a line and the three after it.
 fn read_area(line: &[u8]) -> AreaField
-    ensures { λ r. ⌜ Says (areaField (now (line .entry))) (r .ok) (r .area) ⌝ }
+    ensures { λ r. ⌜ Says (areaField (now (line .entry))) (r .ok) (areaWith (r .head) (pathIn (r .path .flat))) ⌝ }
 {
     let first = area_text::read_subspace(text::part(line, b'\t', 1));
     if !first.ok {
@@ -99,27 +92,27 @@ fn read_area(line: &[u8]) -> AreaField
     let end = fourth.end;
     AreaField {
         ok: true,
-        area: Area {
+        head: AreaHead {
             subspace: subspace,
-            path: path,
             times: TimeRange {
                 start: start,
                 end: end,
             },
         },
+        path: path,
     }
 }
 
 // Prints an area from the buffer's first byte on.
-fn print(area: Area, buffer: &mut [u8; MAX_BYTES]) -> usize
-    ensures { λ r. ⌜ Puts 0 (areaText area) (now (buffer .entry)) (now (buffer .exit)) r ⌝ }
+fn print(area: AreaHead, path: &[u8; 641], buffer: &mut [u8; MAX_BYTES]) -> usize
+    ensures { λ r. ⌜ Puts 0 (areaText (areaWith area (pathIn (now (path .entry))))) (now (buffer .entry)) (now (buffer .exit)) r ⌝ }
 {
     let subspace = area.subspace;
     let times = area.times;
     let end = times.end;
     let mut p = area_text::put_subspace(buffer, 0, subspace);
     p = text::put_bytes(buffer, p, b"\t");
-    p = path_text::put_components(buffer, p, area.path);
+    p = path_text::put_components(buffer, p, path);
     p = text::put_bytes(buffer, p, b"\t");
     p = text::put_decimal(buffer, p, times.start);
     p = text::put_bytes(buffer, p, b"\t");
@@ -133,19 +126,26 @@ fn read_line(line: &[u8], out: &mut [u8], at: usize, canonic: bool) -> usize
     if text::part_count(line, b'\t') != 6 {
         return put::refuse(out, at);
     }
-    let field = read_area(line);
-    if !field.ok {
+    let reference = read_area(line);
+    if !reference.ok {
         return put::refuse(out, at);
     }
-    let reference = field.area;
     let mut bytes = [0u8; MAX_BYTES];
     let hex = fields::hex(line, 5, &mut bytes);
     let HexField::Bytes(n) = hex else {
         return put::refuse(out, at);
     };
-    let read = area_area_decode::relative_decode(&bytes[..n], 0, canonic, reference);
+    let mut path = [0u8; path::lent::SIZE];
+    let read = area_area_decode::relative_decode(
+        &bytes[..n],
+        0,
+        canonic,
+        reference.head,
+        &reference.path.flat,
+        &mut path,
+    );
     let mut text = [0u8; MAX_BYTES];
-    let k = print(read.area, &mut text);
+    let k = print(read.head, &path, &mut text);
     let answer = read.answer;
     put::value(out, at, answer, &text, k)
 }

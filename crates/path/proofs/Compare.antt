@@ -1,19 +1,16 @@
 -- Comparing two records component by component: what is known after k components that both have.
-use Rattle.codec.proofs.Prelude.{_≡_, refl, sym, ap, _∙_, List, Bool, true, false, cond, _&&_, ℕ, suc, _+_, _≤_, _<_, add-one, arith, eqb, length, take, drop, getD, length-drop, drop-of-length-le, length-take-le, getD-take, getD-drop, take-suc}
-use Rattle.path.specs.declared.Path.{Path}
-use Rattle.path.specs.declared.ComponentCount.the-variants as count
-use Rattle.path.specs.declared.Compared.the-variants as compared
-use Rattle.path.specs.Record.{componentsOf, sized, wellFormed, lengthAt, startAt}
+use Rattle.codec.proofs.Prelude.{_≡_, refl, sym, ap, _∙_, List, true, cond, _&&_, ℕ, suc, _+_, _≤_, _<_, add-one, arith, eqb, length, take, drop, getD, length-drop, drop-of-length-le, length-take-le, getD-take, getD-drop, take-suc}
+use Rattle.path.specs.Record.{Path, componentsOf, sized, wellFormed, lengthAt, startAt}
 use Rattle.codec.specs.Bytes.{sameBytes}
 use Rattle.codec.proofs.SameBytes.{same-refl, different}
 use Rattle.path.specs.Prefix.{shared, isPrefix, samePath}
-use Rattle.path.specs.Answers.{said, unsaid, saidIf, commonPrefix, verdict, prefixOf, equalTo}
+use Rattle.path.specs.Answers.{said, unsaid, saidIf}
 use Rattle.codec.proofs.Tests.{and-left, and-right}
 use Rattle.path.proofs.Prefix.{shared-nil, shared-sym}
 use Rattle.path.specs.Flat.{pathIn, lent}
-use Rattle.path.proofs.Records.{whole-in, lent-is}
+use Rattle.path.proofs.Records.{whole-in, lent-is, lent-known}
 use Rattle.path.proofs.Verdicts.{said-known, unsaid-known}
-use Rattle.path.proofs.Components.{Formed, parts-formed, sized-formed, bytesAt, count-is, next-start, ends, component}
+use Rattle.path.proofs.Components.{Formed, parts-formed, sized-formed, well-sized, bytesAt, count-is, next-start, ends, component}
 
 -- ---- parts of two lists, from at on: i elements that agree and one more; parts that differ
 pub agree-next : (x y : List ℕ) (at i : ℕ) → at + i < length x → at + i < length y
@@ -118,6 +115,24 @@ module _ {p q : Path} {k at : ℕ} (t : Together p q k at) where
             more = t .more ∙ rw n (omega arith);
           }
 
+-- ---- two records that were tested whole
+module _ (p q : Path) (w : (wellFormed p && wellFormed q) ≡ true) where
+  pub both-sized : (sized p && sized q) ≡ (wellFormed p && wellFormed q)
+  both-sized = rw (well-sized p (and-left _ _ w), well-sized q (and-right (wellFormed p) _ w), w)
+
+-- the same components, from the number of those that both have
+module _ (p q : Path) where
+  pub equal-told : (s t : List ℕ) → p ≡ pathIn s → q ≡ pathIn t → (k n m : ℕ) → said k ≡ saidIf (wellFormed p && wellFormed q) (shared (componentsOf p) (componentsOf q))
+      → n ≡ lent 0 (λ x. x .count) s → m ≡ lent 0 (λ x. x .count) t → said (eqb k n && eqb k m) ≡ saidIf (wellFormed p && wellFormed q) (samePath (componentsOf p) (componentsOf q))
+  unfolding samePath isPrefix
+  equal-told s t ep eq k n m e cn cm =
+      let x = said-known (wellFormed p && wellFormed q) (shared (componentsOf p) (componentsOf q)) k e in
+      let fp = parts-formed (and-left (wellFormed p) (wellFormed q) (x .0)) in
+      let fq = parts-formed (and-right (wellFormed p) (wellFormed q) (x .0)) in
+      let np : n ≡ length (componentsOf p) = cn ∙ lent-known s (rw ep at fp) 0 (λ x. x .count) ∙ rw ep (sym (count-is (pathIn s) (rw ep at fp))) in
+      let nq : m ≡ length (componentsOf q) = cm ∙ lent-known t (rw eq at fq) 0 (λ x. x .count) ∙ rw eq (sym (count-is (pathIn t) (rw eq at fq))) in
+      rw (x .0, shared-sym (componentsOf q) (componentsOf p), x .1, np, nq)
+
 -- ---- a prefix, from the number of components that both have
 module _ (p q : Path) where
   pub prefix-said : (k : ℕ) → said k ≡ saidIf (sized p && sized q) (shared (componentsOf p) (componentsOf q))
@@ -138,44 +153,3 @@ module _ (p q : Path) where
 
   pub prefix-unsaid : unsaid 5 ≡ saidIf (sized p && sized q) (shared (componentsOf p) (componentsOf q)) → unsaid 5 ≡ saidIf (sized p && sized q) (isPrefix (componentsOf p) (componentsOf q))
   prefix-unsaid e = rw (unsaid-known (sized p && sized q) (shared (componentsOf p) (componentsOf q)) 5 e .0)
-
--- ---- what comparing answers, from the number of components that both have
-record Common (p q : Path) (k : ℕ) : Type 0 where
-  both : (wellFormed p && wellFormed q) ≡ true
-  left : Formed p
-  right : Formed q
-  is : shared (componentsOf p) (componentsOf q) ≡ k
-
-module _ (p q : Path) where
-  not-both : commonPrefix p q ≡ count.Malformed → (wellFormed p && wellFormed q) ≡ false
-  unfolding commonPrefix
-  not-both e = go (wellFormed p && wellFormed q) e
-    where
-      go : (b : Bool) → cond b (count.Components (shared (componentsOf p) (componentsOf q))) count.Malformed ≡ count.Malformed → b ≡ false
-      go true e = cc
-      go false e = refl
-
-  pub prefix-malformed : commonPrefix p q ≡ count.Malformed → prefixOf p q ≡ compared.Malformed
-  unfolding prefixOf
-  prefix-malformed e = rw (not-both e)
-
-  pub equal-malformed : commonPrefix p q ≡ count.Malformed → equalTo p q ≡ compared.Malformed
-  unfolding equalTo
-  equal-malformed e = rw (not-both e)
-
-  module _ (k : ℕ) (e : commonPrefix p q ≡ count.Components k) where
-    common : Common p q k
-    unfolding commonPrefix
-    common = go (wellFormed p && wellFormed q) refl e
-      where
-        go : (b : Bool) → (wellFormed p && wellFormed q) ≡ b → cond b (count.Components (shared (componentsOf p) (componentsOf q))) count.Malformed ≡ count.Components k → Common p q k
-        go true w e = record { both = w; left = parts-formed (and-left _ _ w); right = parts-formed (and-right (wellFormed p) _ w); is = cc }
-        go false w e = let z : _≡_ {A = ℕ} 0 1 = cc in absurd (omega arith)
-
-    pub prefix-verdict : prefixOf p q ≡ verdict (eqb k (p .count))
-    unfolding prefixOf isPrefix
-    prefix-verdict = rw (common .both, common .is, count-is p (common .left))
-
-    pub equal-verdict : equalTo p q ≡ verdict (eqb k (p .count) && eqb k (q .count))
-    unfolding equalTo samePath isPrefix
-    equal-verdict = rw (common .both, shared-sym (componentsOf q) (componentsOf p), common .is, count-is p (common .left), count-is q (common .right))

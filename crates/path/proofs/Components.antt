@@ -1,8 +1,7 @@
 -- The components of a well-formed record, one by one: where each starts, how long it is, and what is left after it.
 use Rattle.codec.proofs.Prelude.{_≡_, sym, _∙_, List, _∷_, true, ℕ, _+_, _-_, _≤_, _<_, add-one, arith, leb, eqb, leb-true, le-leb, eqb-true, eq-eqb, length, take, drop, getD, length-drop, drop-cons, drop-drop, length-take-le, getD-take, take-suc, take-take, take-all}
-use Rattle.path.specs.declared.Path.{Path}
+use Rattle.path.specs.Record.{Path, sumOf, used, componentsOf, sized, wellFormed, TypedPath, lengthAt, startAt}
 use Rattle.path.specs.Limits.{totalOf}
-use Rattle.path.specs.Record.{sumOf, used, componentsOf, sized, wellFormed, TypedPath, lengthAt, startAt}
 use Rattle.path.proofs.Lists.{sum-snoc, sum-take, cut, drop-cut}
 use Rattle.path.proofs.Limits.{total-split}
 use Rattle.codec.proofs.Tests.{and-left, and-right}

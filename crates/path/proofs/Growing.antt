@@ -7,10 +7,9 @@ use Rattle.codec.proofs.Lending.{put-over, put-end, to-end, over-one}
 use Rattle.path.specs.Limits.{totalOf}
 use Rattle.path.specs.Record.{sumOf, used, joined, cutUp, componentsOf, startAt, pathFrom, allAtMost, sized}
 use Rattle.path.specs.Flat.{shorts, shortsIn, pathFlat, pathIn}
-use Rattle.path.specs.Builder.{fitsAfter}
-use Rattle.path.specs.declared.LentBuilder.{LentBuilder}
-use Rattle.path.specs.declared.LentGrowth.{LentGrowth}
-use Rattle.path.specs.Lent.{Built, built, lentBuilder, builtFrom, overFrom, recordMore, builtMore, Appends}
+use Rattle.path.specs.Builder.{fitsAfter, Built, built, builderOf, builtFrom, overFrom, recordMore, builtMore, Appends}
+use Rattle.path.specs.declared.PathBuilder.{PathBuilder}
+use Rattle.path.specs.declared.Growth.{Growth}
 use Rattle.path.proofs.Lists.{drop-zeros, length-joined, joined-append, all-zeros, Cut, cut, take-cut}
 use Rattle.path.proofs.Limits.{total-append, total-snoc}
 use Rattle.path.proofs.Record.{bytes-long, lengths-long, count-of, components-of, sum-of}
@@ -33,10 +32,6 @@ module _ (cs : List (List ℕ)) (few : length cs ≤ 20) (fits : totalOf cs ≤ 
 
   pub flat-in : pathIn (pathFlat (pathFrom cs)) ≡ pathFrom cs
   flat-in = rw append-nil at (path-fits (pathFrom cs) [] (bytes-long cs fits) (lengths-long cs few) (omega (arith, count-of cs)) all-small)
-
-  pub flat-long : length (pathFlat (pathFrom cs)) ≡ 641
-  unfolding pathFlat
-  flat-long = rw length-append (omega (arith, length-shorts (pathFrom cs .lengths), bytes-long cs fits, lengths-long cs few))
 
   pub sized-from : sized (pathFrom cs) ≡ true
   unfolding sized
@@ -122,14 +117,14 @@ unfolding builtFrom
 built-more cs c few fits =
     let bytes = more-of cs (c ∷ []) (omega arith) (omega arith) in
     let count : length cs + 1 ≡ length (cs ++ (c ∷ [])) = sym (length-append cs (c ∷ [])) in
-    λ i. built (lentBuilder (sym (total-snoc cs c) i) (count i)) (bytes i)
+    λ i. built (builderOf (sym (total-snoc cs c) i) (count i)) (bytes i)
 
 -- a builder and a record of these components
-pub built-none : {b : LentBuilder} {s : List ℕ} → b ≡ lentBuilder 0 0 → s ≡ replicate 641 0 → built b s ≡ builtFrom []
+pub built-none : {b : PathBuilder} {s : List ℕ} → b ≡ builderOf 0 0 → s ≡ replicate 641 0 → built b s ≡ builtFrom []
 unfolding builtFrom
 built-none e f = λ i. built (e i) ((f ∙ flat-empty) i)
 
-module _ {b : LentBuilder} {s : List ℕ} (cs : List (List ℕ)) (is : built b s ≡ builtFrom cs) where
+module _ {b : PathBuilder} {s : List ℕ} (cs : List (List ℕ)) (is : built b s ≡ builtFrom cs) where
   pub built-total : b .total ≡ totalOf cs
   unfolding builtFrom
   built-total = ap (λ (x : Built). x .builder .total) is
@@ -149,7 +144,7 @@ module _ {b : LentBuilder} {s : List ℕ} (cs : List (List ℕ)) (is : built b s
   built-components few fits = ap componentsOf (built-path few fits) ∙ components-of cs
 
   -- appending a component that fits gives those of one more
-  pub appends-built : (c : List ℕ) {g : LentGrowth} {left : List ℕ} → Appends b c s g left → length c ≤ 300 → length cs < 20 → totalOf cs + length c ≤ 600 → built (g .builder) left ≡ builtFrom (cs ++ (c ∷ []))
+  pub appends-built : (c : List ℕ) {g : Growth} {left : List ℕ} → Appends b c s g left → length c ≤ 300 → length cs < 20 → totalOf cs + length c ≤ 600 → built (g .builder) left ≡ builtFrom (cs ++ (c ∷ []))
   appends-built c {g} {left} a short few fits =
       let f : fitsAfter (b .total) (b .count) (length c) ≡ true = fits-after (b .total) (b .count) (length c) short (omega (arith, built-count)) (omega (arith, built-total)) in
       rw f at (a .is) ∙ ap (λ (x : Built). builtMore (x .builder) c (x .bytes)) is ∙ built-more cs c few fits

@@ -1,5 +1,5 @@
 -- Laws of components and their limits.
-use Rattle.codec.proofs.Prelude.{_≡_, refl, sym, ap, _∙_, List, [], _∷_, _++_, true, ℕ, zero, suc, _+_, _≤_, arith, leb, leb-true, le-leb, length, take, drop, length-take, take-append-drop}
+use Rattle.codec.proofs.Prelude.{_≡_, refl, sym, ap, _∙_, List, [], _∷_, _++_, true, ℕ, zero, suc, _+_, _≤_, arith, leb, leb-true, le-leb, length, take, drop, take-append-drop}
 use Rattle.codec.specs.Writings.{All}
 use Rattle.path.specs.Limits.{totalOf, limits, allShort, pathOk, Component, PathOk, TypedComponents}
 use Rattle.codec.proofs.Tests.{and-left, and-right}
@@ -66,10 +66,3 @@ path-ok cs t e =
 pub ok-path : (cs : List (List ℕ)) → PathOk cs → pathOk cs ≡ true
 unfolding pathOk
 ok-path cs p = rw (limits-of (totalOf cs) (length cs) (p .total) (p .count)) (short-of cs (p .all))
-
--- ---- parts of a path within the limits
-pub ok-take : (k : ℕ) (cs : List (List ℕ)) → PathOk cs → PathOk (take k cs)
-ok-take k cs p = record { total = omega (arith, total-split k cs, p .total); count = shorter k cs (p .count); all = all-take Component k cs (p .all) }
-  where
-    shorter : (k : ℕ) (cs : List (List ℕ)) → length cs ≤ 20 → length (take k cs) ≤ 20
-    shorter k cs h = simp length-take (omega arith)

@@ -1,10 +1,8 @@
 -- Laws of lists of lengths, and of bytes cut by them.
-use Rattle.codec.proofs.Prelude.{_≡_, refl, sym, ap, _∙_, List, [], _∷_, _++_, map, append-assoc, true, _&&_, ℕ, zero, suc, _+_, _-_, _*_, _≤_, _<_, suc-mul, sub-zero, zero-sub, add-one, arith, leb, leb-true, putMid, length, take, drop, getD, replicate, length-append, length-drop, drop-of-length-le, take-append-drop, take-append-seam, drop-append-seam, drop-append-add, length-take-le, take-add, take-all, drop-cons, drop-drop, paste}
+use Rattle.codec.proofs.Prelude.{_≡_, refl, sym, ap, _∙_, List, [], _∷_, _++_, map, append-assoc, true, _&&_, ℕ, zero, suc, _+_, _-_, _≤_, _<_, sub-zero, zero-sub, add-one, arith, leb, leb-true, length, take, drop, getD, replicate, length-append, length-drop, drop-of-length-le, take-append-drop, take-append-seam, drop-append-seam, length-take-le, take-add, drop-cons, drop-drop}
 use Rattle.path.specs.Limits.{totalOf}
 use Rattle.path.specs.Record.{sumOf, joined, cutUp, allAtMost}
-use Rattle.codec.specs.Format.{over}
 use Rattle.codec.proofs.Tests.{and-left, and-right}
-use Rattle.codec.proofs.Lending.{to-end, put-end}
 
 -- ---- sums
 pub sum-snoc : (ls : List ℕ) (n : ℕ) → sumOf (ls ++ (n ∷ [])) ≡ sumOf ls + n
@@ -15,36 +13,6 @@ pub sum-take : (i : ℕ) (ls : List ℕ) → sumOf (take i ls) + sumOf (drop i l
 sum-take zero ls = omega arith
 sum-take (suc i) [] = omega arith
 sum-take (suc i) (l ∷ ls) = omega (arith, sum-take i ls)
-
-pub sum-next : (s : List ℕ) (i : ℕ) → i < length s → sumOf (drop i s) ≡ getD s i 0 + sumOf (drop (i + 1) s)
-sum-next s i h = rw (add-one, drop-cons s i 0)
-
-pub sum-end : (s : List ℕ) (i : ℕ) → length s ≤ i → sumOf (drop i s) ≡ 0
-sum-end s i h = rw drop-of-length-le
-
--- the sum of s, of which t is that of the first i
-pub record Summed (s : List ℕ) (t i : ℕ) : Type 0 where
-  pub within : i ≤ length s
-  pub rest : t + sumOf (drop i s) ≡ sumOf s
-
-pub summed-none : (s : List ℕ) → Summed s 0 0
-summed-none s = record { within = omega arith; rest = omega arith }
-
-module _ {s : List ℕ} {t i : ℕ} (m : Summed s t i) where
-  pub summed-next : i < length s → Summed s (t + getD s i 0) (i + 1)
-  summed-next h = record { within = omega arith; rest = omega (arith, m .rest, sum-next s i h) }
-
-  pub summed-fits : i < length s → t + getD s i 0 ≤ sumOf s
-  summed-fits h = omega (arith, m .rest, sum-next s i h)
-
-  pub summed-all : length s ≤ i → t ≡ sumOf s
-  summed-all h = omega (arith, m .rest, sum-end s i h)
-
-pub bounded-sum : (m : ℕ) (l : List ℕ) → allAtMost m l ≡ true → sumOf l ≤ length l * m
-bounded-sum m [] h = omega arith
-bounded-sum m (x ∷ l) h =
-    let e : (suc (length l)) * m ≡ length l * m + m = suc-mul (length l) m in
-    omega (arith, bounded-sum m l (and-right (leb x m) _ h), leb-true x m (and-left _ _ h))
 
 -- ---- every element at most m
 pub at-most-next : (m : ℕ) (s : List ℕ) (i : ℕ) → i < length s → allAtMost m (drop i s) ≡ (leb (getD s i 0) m && allAtMost m (drop (i + 1) s))
@@ -116,14 +84,6 @@ pub joined-append : (a b : List (List ℕ)) → joined (a ++ b) ≡ joined a ++ 
 joined-append [] b = refl
 joined-append (c ∷ a) b = rw (joined-append a b) (sym (append-assoc c (joined a) (joined b)))
 
--- elements put after those of a list that zeros fill up to n
-pub fill-more : (a c : List ℕ) (n : ℕ) → length a + length c ≤ n
-    → take (length a) (a ++ replicate (n - length a) 0) ++ (c ++ drop (length a + length c) (a ++ replicate (n - length a) 0)) ≡ (a ++ c) ++ replicate (n - (length a + length c)) 0
-fill-more a c n h =
-    let z = replicate {A = ℕ} (n - length a) 0 in
-    let m : n - length a - length c ≡ n - (length a + length c) = omega arith in
-    rw (take-append-seam, drop-append-add a z (length c), drop-zeros, m) (sym (append-assoc a c _))
-
 -- ---- parts of arrays, as the code takes them
 pub drop-take : (k n : ℕ) (l : List ℕ) → drop k (take n l) ≡ take (n - k) (drop k l)
 drop-take zero n l = rw (sub-zero n)
@@ -134,15 +94,3 @@ drop-take (suc k) (suc n) [] = none (suc n - suc k)
     none zero = refl
     none (suc m) = refl
 drop-take (suc k) (suc n) (x ∷ l) = let e : suc n - suc k ≡ n - k = omega arith in rw e (drop-take k n l)
-
--- a part of an array of k elements that goes to its end
-pub rest-part : (n k : ℕ) (l : List ℕ) → length l ≡ k → take (k - n) (drop n l) ≡ drop n l
-rest-part n k l h = take-all (k - n) (drop n l) (rw length-drop (omega arith))
-
--- a copy of the whole of s into d
-pub paste-whole : (d s : List ℕ) (at n : ℕ) → n ≡ length s → paste d at s n ≡ take at d ++ (s ++ drop (at + length s) d)
-paste-whole d s at n e = rw (e, take-all (length s) s (omega arith)) (append-assoc (take at d) s (drop (at + length s) d))
-
--- a part of an array of n elements that goes to its end, come back with the whole of c put over its start
-pub put-inside : (l c ys : List ℕ) (at n : ℕ) → length l ≡ n → ys ≡ over c (take (n - at) (drop at l)) → putMid at (n - at) l ys ≡ take at l ++ (c ++ drop (at + length c) l)
-put-inside l c ys at n long e = rw (e, ← long, put-end at l, to-end at l, drop-drop)

@@ -5,8 +5,7 @@ use Rattle.codec.proofs.Bytes.{AllBytes·drop, AllBytes·take}
 use Rattle.codec.proofs.Tests.{and-left, and-right}
 use Rattle.compact_u64.specs.BigEndian.{bigEndian, valueOf}
 use Rattle.compact_u64.proofs.BigEndian.{length-bigEndian, valueOf-bigEndian, bigEndian-valueOf}
-use Rattle.path.specs.declared.Path.{Path}
-use Rattle.path.specs.Record.{allAtMost, used, wellFormed, TypedPath}
+use Rattle.path.specs.Record.{Path, allAtMost, used, wellFormed, TypedPath}
 use Rattle.path.proofs.Lists.{drop-take}
 use Rattle.path.proofs.Record.{well-formed}
 use Rattle.path.specs.Flat.{shorts, shortsIn, pathFlat, pathIn}

@@ -3,9 +3,8 @@ use Rattle.codec.proofs.Prelude.{_≡_, refl, ap, _∙_, List, [], _∷_, _++_,
 use Rattle.codec.specs.Answers.{AllBytes}
 use Rattle.codec.specs.Writings.{All}
 use Rattle.codec.proofs.Bytes.{AllBytes·drop, AllBytes·take, AllBytes·append, AllBytes·zeros}
-use Rattle.path.specs.declared.Path.{Path}
+use Rattle.path.specs.Record.{Path, sumOf, joined, cutUp, used, componentsOf, pathFrom, allAtMost, wellFormed, TypedPath}
 use Rattle.path.specs.Limits.{totalOf, Component, PathOk}
-use Rattle.path.specs.Record.{sumOf, joined, cutUp, used, componentsOf, pathFrom, allAtMost, wellFormed, TypedPath}
 use Rattle.codec.proofs.Tests.{and-left, and-right}
 use Rattle.path.proofs.Lists.{all-zeros, zero-rest, cut, cut-joined, length-joined, sum-lengths}
 

@@ -1,14 +1,13 @@
 -- Laws of a lent record: its parts where its bytes stand.
-use Rattle.codec.proofs.Prelude.{_≡_, refl, sym, ap, _∙_, List, [], _∷_, true, false, Bool, _&&_, ℕ, zero, suc, _+_, _*_, _≤_, _<_, _-_, sub-zero, zero-sub, zero-add, add-one, arith, leb, eqb, lt-leb, le-leb, eq-eqb, ne-eqb, length, take, drop, getD, length-drop, drop-of-length-le, drop-cons, drop-drop, length-take-le, getD-take}
+use Rattle.codec.proofs.Prelude.{_≡_, refl, sym, ap, _∙_, List, [], _∷_, true, false, Bool, _&&_, ℕ, zero, suc, _+_, _*_, _≤_, _<_, _-_, sub-zero, zero-sub, zero-add, add-one, arith, leb, eqb, lt-leb, le-leb, eq-eqb, ne-eqb, length, take, drop, getD, length-drop, drop-cons, drop-drop, length-take-le, take-all, getD-take}
 use lib.ListN.{length-take}
 use Rattle.compact_u64.specs.BigEndian.{valueOf}
-use Rattle.path.specs.declared.Path.{Path}
+use Rattle.path.specs.Record.{Path, sumOf, used, componentsOf, startAt, allAtMost, lengthAt, sized, wellFormed}
 use Rattle.path.specs.Limits.{totalOf}
-use Rattle.path.specs.Record.{sumOf, used, componentsOf, startAt, allAtMost, lengthAt, sized, wellFormed}
 use Rattle.path.specs.Flat.{shortsIn, pathIn, lent}
 use Rattle.path.proofs.Lists.{at-most-next, at-most-end, drop-take}
 use Rattle.path.proofs.Shorts.{short-there}
-use Rattle.path.proofs.Components.{Formed, sized-formed, well-sized, start-is, rest-total}
+use Rattle.path.proofs.Components.{Formed, well-sized, start-is, rest-total}
 
 -- ---- the lengths
 pub length-shorts-in : (n : ℕ) (s : List ℕ) → length (shortsIn n s) ≡ n
@@ -62,21 +61,20 @@ module _ (s : List ℕ) (f : Formed (pathIn s)) where
 
 -- ---- sums of lengths
 module _ (s : List ℕ) (i : ℕ) where
-  pub span-end : (n : ℕ) → 20 ≤ i → sumOf (take n (drop i (pathIn s .lengths))) ≡ 0
-  span-end n h =
-      let past : length (pathIn s .lengths) ≤ i = omega (arith, slots s) in
-      rw (drop-of-length-le (pathIn s .lengths) past) (none n)
-    where
-      none : (n : ℕ) → sumOf (take n []) ≡ 0
-      none zero = refl
-      none (suc n) = refl
-
   pub span-next : (to : ℕ) → i < 20 → i < to → sumOf (take (to - i) (drop i (pathIn s .lengths))) ≡ lengthAt (pathIn s) i + sumOf (take (to - (i + 1)) (drop (i + 1) (pathIn s .lengths)))
   unfolding lengthAt
   span-next to few more =
       let there : i < length (pathIn s .lengths) = omega (arith, slots s) in
       let n : to - i ≡ suc (to - (i + 1)) = omega arith in
       rw (n, drop-cons (pathIn s .lengths) i 0 there, add-one i)
+
+-- places after the last do not matter
+pub span-capped : (s : List ℕ) (from to : ℕ) → 20 < to → take (to - from) (drop from (pathIn s .lengths)) ≡ take (20 - from) (drop from (pathIn s .lengths))
+span-capped s from to h =
+    let ls = pathIn s .lengths in
+    let a : length (drop from ls) ≤ to - from = rw length-drop (omega (arith, slots s)) in
+    let b : length (drop from ls) ≤ 20 - from = rw length-drop (omega (arith, slots s)) in
+    take-all (to - from) (drop from ls) a ∙ sym (take-all (20 - from) (drop from ls) b)
 
 -- ---- the first n lengths, tested from the i-th on
 module _ (s : List ℕ) (n : ℕ) (few : n ≤ 20) where
@@ -102,9 +100,11 @@ module _ (s : List ℕ) where
   unfolding sized
   sized-by h = rw (eq-eqb _ _ (room s h), eq-eqb _ _ (slots s))
 
-  -- the sum of all lengths in use
-  pub span-all : 641 ≤ length s → (n : ℕ) → n ≡ pathIn s .count → lent 0 (λ p. sumOf (take (n - 0) (drop 0 (p .lengths)))) s ≡ sumOf (used (pathIn s))
-  span-all h n e = lent-is s h 0 (λ p. sumOf (take (n - 0) (drop 0 (p .lengths)))) ∙ rw (sub-zero n, e)
+  pub well-by : 641 ≤ length s → wellFormed (pathIn s)
+      ≡ (leb (pathIn s .count) 20 && (allAtMost 300 (used (pathIn s)) && (leb (sumOf (used (pathIn s))) 600
+      && (allAtMost 0 (drop (pathIn s .count) (pathIn s .lengths)) && allAtMost 0 (drop (sumOf (used (pathIn s))) (pathIn s .bytes))))))
+  unfolding wellFormed
+  well-by h = rw (eq-eqb _ _ (room s h), eq-eqb _ _ (slots s))
 
 -- ---- the test of the whole: after the sizes, short components and zeros
 zero-pair : (x y : ℕ) → leb (x * 256 + y) 0 ≡ (leb x 0 && leb y 0)
@@ -155,9 +155,3 @@ module _ (p : Path) where
       go : (b : Bool) → wellFormed p ≡ b → b ≡ false
       go true w = sym (well-sized p w) ∙ e
       go false w = refl
-
-  pub well-by : sized p ≡ true → wellFormed p ≡ (allAtMost 300 (used p) && (allAtMost 0 (drop (p .count) (p .lengths)) && allAtMost 0 (drop (sumOf (used p)) (p .bytes))))
-  unfolding wellFormed
-  well-by e =
-      let f = sized-formed e in
-      rw (eq-eqb _ _ (f .bytes), eq-eqb _ _ (f .lengths), le-leb (p .count) 20 (f .well .count), le-leb (sumOf (used p)) 600 (f .well .total))

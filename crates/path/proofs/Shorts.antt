@@ -1,7 +1,7 @@
 -- Laws of numbers of two bytes each.
-use Rattle.codec.proofs.Prelude.{_≡_, refl, sym, ap, _∙_, List, [], _∷_, _++_, append-assoc, append-nil, ℕ, zero, suc, _+_, _*_, _<_, add-one, arith, length, take, drop, getD, drop-cons, drop-drop, take-suc}
+use Rattle.codec.proofs.Prelude.{_≡_, sym, ap, _∙_, List, [], _∷_, _++_, append-assoc, append-nil, ℕ, suc, _+_, _*_, _<_, add-one, arith, length, take, drop, getD, drop-cons, take-suc}
 use Rattle.compact_u64.specs.BigEndian.{bigEndian, valueOf}
-use Rattle.path.specs.Flat.{shorts, shortsIn}
+use Rattle.path.specs.Flat.{shorts}
 
 -- ---- one more written
 shorts-snoc : (vs : List ℕ) (v : ℕ) → shorts (vs ++ (v ∷ [])) ≡ shorts vs ++ bigEndian 2 v
@@ -17,12 +17,3 @@ short-there s i h =
     let first : i < length s = omega arith in
     let second : suc i < length s = omega arith in
     rw (drop-cons s i 0 first, drop-cons s (suc i) 0 second, add-one i) (omega arith)
-
-pub shorts-in-next : (n : ℕ) (s : List ℕ) → shortsIn n s ++ (valueOf (take 2 (drop (2 * n) s)) ∷ []) ≡ shortsIn (n + 1) s
-shorts-in-next n s = rw add-one (go n s)
-  where
-    go : (n : ℕ) (s : List ℕ) → shortsIn n s ++ (valueOf (take 2 (drop (2 * n) s)) ∷ []) ≡ shortsIn (suc n) s
-    go zero s = refl
-    go (suc n) s =
-        let e : 2 * suc n ≡ 2 + 2 * n = omega arith in
-        rw (e, ← (drop-drop (2 * n) 2 s)) (ap (λ (l : List ℕ). valueOf (take 2 s) ∷ l) (go n (drop 2 s)))

@@ -1,76 +1,69 @@
--- Builders: paths that grow by components.
+-- Builders: paths that grow by components, in a lent record.
 use mathlib.Core.Path.{_≡_}
-use mathlib.Core.List.{List, [], _∷_, _++_}
-use mathlib.Core.Bool.{Bool, true, cond, _&&_}
-use Prim.Native.Nat.{ℕ, _+_, _≤_}
-use lib.Dec.{leb, ltb, eqb}
-use lib.ListN.{length, take, drop, set}
-use Rattle.path.specs.declared.Path.{Path}
-use Rattle.path.specs.declared.PathBuilder.{PathBuilder}
+use mathlib.Core.List.{List, [], _∷_, _++_, map}
+use mathlib.Core.Bool.{Bool, true, _&&_}
+use Prim.Native.Nat.{ℕ, _+_, _*_}
+use lib.Dec.{leb, ltb}
+use lib.ListN.{length, take, drop}
+use Rattle.codec.specs.Format.{Verdict, allowed, barred, verdictBy, over}
+use Rattle.path.specs.Record.{Path, joined, componentsOf, pathFrom, sized}
 use Rattle.path.specs.declared.Appended.{Appended}
 use Rattle.path.specs.declared.Appended.the-variants as appended
+use Rattle.path.specs.declared.PathBuilder.{PathBuilder}
 use Rattle.path.specs.declared.Growth.{Growth}
 use Rattle.path.specs.Limits.{maxComponentLength, maxComponentCount, maxPathLength, totalOf}
-use Rattle.path.specs.Record.{sumOf, used, componentsOf, pathFrom, wellFormed}
+use Rattle.path.specs.Flat.{lengthsStart, bytesStart, shorts, pathFlat}
 
--- the builder that appending these components makes
-abbrev pub builderFrom : List (List ℕ) → PathBuilder
-builderFrom cs = record { path = pathFrom cs; total = totalOf cs }
+-- a builder and the record that it writes into
+pub record Built : Type 0 where
+  pub builder : PathBuilder
+  pub bytes : List ℕ
 
--- some sequence of appends makes it
-unfoldable pub isBuilder : PathBuilder → Bool
-isBuilder b = wellFormed (b .path) && eqb (b .total) (sumOf (used (b .path)))
+abbrev pub built : PathBuilder → List ℕ → Built
+built b s = record { builder = b; bytes = s }
+
+abbrev pub builderOf : ℕ → ℕ → PathBuilder
+builderOf total count = record { total = total; count = count }
+
+-- those of these components
+unfoldable pub builtFrom : List (List ℕ) → Built
+builtFrom cs = built (builderOf (totalOf cs) (length cs)) (pathFlat (pathFrom cs))
+
+-- bytes over others from a place on
+abbrev pub overFrom : ℕ → List ℕ → List ℕ → List ℕ
+overFrom at bs s = take at s ++ over bs (drop at s)
 
 -- a component of n bytes fits after count others of total bytes
 unfoldable pub fitsAfter : ℕ → ℕ → ℕ → Bool
 fitsAfter total count n = leb n maxComponentLength && (ltb count maxComponentCount && leb (total + n) maxPathLength)
 
--- a builder and the answer beside it; where it did not grow it is unchanged
-abbrev pub growth : Appended → PathBuilder → Growth
-growth a b = record { answer = a; builder = b }
+-- in a record of any content: the bytes of components after `total` others, their lengths after `count` others, and the count
+unfoldable pub recordMore : ℕ → ℕ → List (List ℕ) → List ℕ → List ℕ
+recordMore total count cs s = over ((count + length cs) ∷ []) (overFrom (lengthsStart + 2 * count) (shorts (map length cs)) (overFrom (bytesStart + total) (joined cs) s))
 
--- appending a component: 5 unless appends make the builder, then 3 unless it fits
-unfoldable pub appendComponent : PathBuilder → List ℕ → Growth
-appendComponent b c =
-    cond (isBuilder b)
-    (cond (fitsAfter (b .total) (b .path .count) (length c)) (growth appended.Grown (builderFrom (componentsOf (b .path) ++ (c ∷ [])))) (growth appended.Outside b))
-    (growth appended.Malformed b)
+-- one component more
+abbrev pub builtMore : PathBuilder → List ℕ → List ℕ → Built
+builtMore b c s = built (builderOf (b .total + length c) (b .count + 1)) (recordMore (b .total) (b .count) (c ∷ []) s)
 
--- one component more in a builder of any content: its bytes after `total` others, its length after `count` others
-unfoldable pub grown : PathBuilder → List ℕ → PathBuilder
-grown b c = record {
-  path = record {
-    bytes = take (b .total) (b .path .bytes) ++ (c ++ drop (b .total + length c) (b .path .bytes));
-    lengths = set (b .path .lengths) (b .path .count) (length c);
-    count = b .path .count + 1;
-  };
-  total = b .total + length c;
-}
+-- the numbers of the code's answers
+abbrev pub appendedVerdict : Appended → Verdict
+appendedVerdict appended.Grown = allowed
+appendedVerdict appended.Outside = barred 3
+appendedVerdict appended.Malformed = barred 5
 
--- the same with no test but that for room: for readers, which start from a builder that appends make
-unfoldable pub pushComponent : PathBuilder → List ℕ → Growth
-pushComponent b c = cond (fitsAfter (b .total) (b .path .count) (length c)) (growth appended.Grown (grown b c)) (growth appended.Outside b)
+abbrev pub ifAllowed : {A : Type 0} → Verdict → A → A → A
+ifAllowed allowed a b = a
+ifAllowed (barred k) a b = b
 
--- the builder of a path's first k components: 5, then 3 where there are fewer
-unfoldable pub prefixBuilder : Path → ℕ → Growth
-prefixBuilder p k =
-    cond (wellFormed p)
-    (cond (leb k (p .count)) (growth appended.Grown (builderFrom (take k (componentsOf p)))) (growth appended.Outside (builderFrom [])))
-    (growth appended.Malformed (builderFrom []))
+-- the answer and the builder g, and the record left: what was asked for, or what there is beside a refusal
+pub record Grows (d : Verdict) (grown beside : Built) (g : Growth) (left : List ℕ) : Type 0 where
+  pub answer : appendedVerdict (g .answer) ≡ d
+  pub is : built (g .builder) left ≡ ifAllowed d grown beside
 
--- two paths joined: 5, then 3 where they pass the limits together
-unfoldable pub joinedBuilder : Path → Path → Growth
-joinedBuilder p q =
-    cond (wellFormed p && wellFormed q)
-    (cond (leb (totalOf (componentsOf p) + totalOf (componentsOf q)) maxPathLength && leb (p .count + q .count) maxComponentCount)
-    (growth appended.Grown (builderFrom (componentsOf p ++ componentsOf q)))
-    (growth appended.Outside (builderFrom [])))
-    (growth appended.Malformed (builderFrom []))
+-- appending a component: 3 unless it fits, both then unchanged
+abbrev pub Appends : PathBuilder → List ℕ → List ℕ → Growth → List ℕ → Type 0
+Appends b c s g left = Grows (verdictBy true (fitsAfter (b .total) (b .count) (length c))) (builtMore b c s) (built b s) g left
 
--- what extending a builder by a path's first k components asks
-pub record Extendable (b : PathBuilder) (p : Path) (k : ℕ) : Type 0 where
-  pub made : b ≡ builderFrom (componentsOf (b .path))
-  pub formed : wellFormed p ≡ true
-  pub there : k ≤ p .count
-  pub few : b .path .count + k ≤ maxComponentCount
-  pub fits : b .total + totalOf (take k (componentsOf p)) ≤ maxPathLength
+-- the first k components of a path: 5 unless its sizes are within the limits, then 3 where there are fewer
+abbrev pub Prefixes : Path → ℕ → Growth → List ℕ → Type 0
+Prefixes p k g left = Grows (verdictBy (sized p) (leb k (p .count))) (builtFrom (take k (componentsOf p))) (builtFrom []) g left

@@ -5,7 +5,7 @@ use Prim.Native.Nat.{ℕ, zero, suc, _%_}
 use lib.Dec.{leb}
 use lib.ListN.{length, take, drop, getD}
 use Rattle.compact_u64.specs.BigEndian.{bigEndian, valueOf}
-use Rattle.path.specs.declared.Path.{Path}
+use Rattle.path.specs.Record.{Path}
 use Rattle.path.specs.Limits.{maxComponentCount, maxPathLength}
 
 -- where the lengths and the bytes start, and how many bytes there are in all

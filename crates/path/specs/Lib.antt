@@ -4,5 +4,4 @@ pub mod Flat
 pub mod Puts
 pub mod Prefix
 pub mod Builder
-pub mod Lent
 pub mod Answers

@@ -1,4 +1,5 @@
--- docs/FORMAT.md, "Paths": a path as the code holds it, the bytes of its components one after the other, their lengths, and their count, unused parts zero.
+-- docs/FORMAT.md, "Paths": a path's record, the bytes of its components one after the other, their lengths, and their count, unused parts zero. The code
+-- holds it as bytes: Flat says how.
 -- Definitions above this crate speak of `componentsOf`, `pathFrom`, `wellFormed` and `lengthAt`, so that lengths may be held in another way.
 use mathlib.Core.Path.{_≡_}
 use mathlib.Core.List.{List, [], _∷_, _++_, map}
@@ -7,8 +8,12 @@ use Prim.Native.Nat.{ℕ, _+_, _-_, _≤_}
 use lib.Dec.{leb, eqb}
 use lib.ListN.{length, take, drop, getD, replicate}
 use Rattle.codec.specs.Answers.{AllBytes}
-use Rattle.path.specs.declared.Path.{Path}
 use Rattle.path.specs.Limits.{maxComponentLength, maxComponentCount, maxPathLength, totalOf}
+
+pub record Path : Type 0 where
+  pub bytes : List ℕ
+  pub lengths : List ℕ
+  pub count : ℕ
 
 abbrev pub sumOf : List ℕ → ℕ
 sumOf [] = 0
@@ -38,14 +43,10 @@ pathFrom cs = record {
   count = length cs;
 }
 
--- ---- well formed: what 5 tests. That the arrays are as long as their types say is told of parts that are lent.
+-- ---- well formed: what 5 tests, also that a slice that is lent has a record's size
 abbrev pub allAtMost : ℕ → List ℕ → Bool
 allAtMost n [] = true
 allAtMost n (l ∷ ls) = leb l n && allAtMost n ls
-
--- a record of these parts
-abbrev pub pathOf : List ℕ → List ℕ → ℕ → Path
-pathOf bytes lengths count = record { bytes = bytes; lengths = lengths; count = count }
 
 unfoldable pub wellFormed : Path → Bool
 wellFormed p =
@@ -68,7 +69,7 @@ pub record Leads (p : Path) (k : ℕ) : Type 0 where
   pub fits : sized p ≡ true
   pub there : k ≤ p .count
 
--- what the language says of a record
+-- what the language says of a record, by its size and its bytes
 pub record TypedPath (p : Path) : Type 0 where
   pub bytes : length (p .bytes) ≡ maxPathLength
   pub lengths : length (p .lengths) ≡ maxComponentCount

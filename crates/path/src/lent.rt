@@ -1,5 +1,5 @@
-// Paths lent as their record, one slice: docs/ABI.md, "Records". The record's layout stands here. Functions test its sizes and go by the components that
-// these cut from its bytes, but for `well_formed`.
+// Paths lent as their record, one slice: docs/ABI.md, "Records". The record's layout stands here. Functions test its sizes alone and go by the components
+// that these cut from its bytes, but for `well_formed` and `both_formed`.
 ghost use mathlib.Core.Path.{_≡_};
 ghost use mathlib.Core.List.{[]};
 ghost use mathlib.Core.Bool.{true, _&&_};
@@ -17,9 +17,15 @@ use crate::Path;
 // How many bytes a record has, and where its lengths and its bytes start.
 pub const SIZE: usize = 641;
 
-pub(crate) const LENGTHS: usize = 1;
+pub const LENGTHS: usize = 1;
 
-pub(crate) const BYTES: usize = 41;
+pub const BYTES: usize = 41;
+
+// Of some components: their bytes in all, and whether none is too long.
+pub struct Lengths {
+    pub total: usize,
+    pub short: bool,
+}
 
 fn wide(b: u8) -> usize
     ensures { λ r. ⌜ (r ≡ b) × (r < 256) ⌝ }
@@ -85,23 +91,31 @@ pub fn bytes<'a>(path: &'a [u8]) -> &'a [u8]
     bytes_in(path)
 }
 
-// How many bytes the components from one place on and before another have.
+// How many bytes the components from one place on and before another have, with no other way out of the loop.
+fn sum(path: &[u8], from: usize, to: usize) -> usize
+    requires { ⌜ (pathSize ≤ length (now path)) × (to ≤ maxComponentCount) ⌝ }
+    ensures { λ r. ⌜ r ≡ sumOf (take (to - from) (drop from (pathIn (now (path .entry)) .lengths))) ⌝ }
+{
+    let mut total: usize = 0;
+    let mut i = from;
+    while i < to {
+        total += length_in(path, i);
+        i += 1;
+    }
+    total
+}
+
+// The same of any record and any places.
 pub fn span(path: &[u8], from: usize, to: usize) -> usize
     ensures { λ r. ⌜ r ≡ lent 0 (λ p. sumOf (take (to - from) (drop from (p .lengths)))) (now (path .entry)) ⌝ }
 {
     if path.len() < SIZE {
         return 0;
     }
-    let mut total: usize = 0;
-    let mut i = from;
-    while i < to {
-        if Path::MAX_COMPONENT_COUNT <= i {
-            return total;
-        }
-        total += length_in(path, i);
-        i += 1;
+    if Path::MAX_COMPONENT_COUNT < to {
+        return sum(path, from, Path::MAX_COMPONENT_COUNT);
     }
-    total
+    sum(path, from, to)
 }
 
 // Whether a record's sizes are within the limits: what the components' places rest on.
@@ -115,35 +129,47 @@ pub fn sized(path: &[u8]) -> bool
     if Path::MAX_COMPONENT_COUNT < n {
         return false;
     }
-    span(path, 0, n) <= Path::MAX_PATH_LENGTH
+    sum(path, 0, n) <= Path::MAX_PATH_LENGTH
 }
 
-// Whether none of the first n components is too long.
-fn all_short(path: &[u8], n: usize) -> bool
+// How many bytes the first n components have, and whether none of them is too long, in one pass.
+fn measure(path: &[u8], n: usize) -> Lengths
     requires { ⌜ (pathSize ≤ length (now path)) × (n ≤ maxComponentCount) ⌝ }
-    ensures { λ r. ⌜ r ≡ allAtMost maxComponentLength (take n (pathIn (now (path .entry)) .lengths)) ⌝ }
+    ensures { λ r. ⌜ (r .total ≡ sumOf (take n (pathIn (now (path .entry)) .lengths))) × (r .short ≡ allAtMost maxComponentLength (take n (pathIn (now (path .entry)) .lengths))) ⌝ }
 {
+    let mut total: usize = 0;
+    let mut short = true;
     let mut i: usize = 0;
     while i < n {
-        if Path::MAX_COMPONENT_LENGTH < length_in(path, i) {
-            return false;
+        let len = length_in(path, i);
+        total += len;
+        if Path::MAX_COMPONENT_LENGTH < len {
+            short = false;
         }
         i += 1;
     }
-    true
+    Lengths {
+        total: total,
+        short: short,
+    }
 }
 
 // Whether a record is well formed: for where it comes in.
 pub fn well_formed(path: &[u8]) -> bool
     ensures { λ r. ⌜ r ≡ wellFormed (pathIn (now (path .entry))) ⌝ }
 {
-    let fits = sized(path);
-    if !fits {
+    if path.len() < SIZE {
         return false;
     }
     let n = wide(path[0]);
-    let short = all_short(path, n);
-    if !short {
+    if Path::MAX_COMPONENT_COUNT < n {
+        return false;
+    }
+    let lengths = measure(path, n);
+    if !lengths.short {
+        return false;
+    }
+    if Path::MAX_PATH_LENGTH < lengths.total {
         return false;
     }
     let unused = LENGTHS + 2 * n;
@@ -151,7 +177,7 @@ pub fn well_formed(path: &[u8]) -> bool
     if !rest {
         return false;
     }
-    let end = BYTES + span(path, 0, n);
+    let end = BYTES + lengths.total;
     crate::all_zero(&path[end..SIZE])
 }
 

@@ -1,29 +1,24 @@
-// The path record of docs/FORMAT.md, "Paths", and what the codecs ask of it. A port of path/mod.rs.
+// Paths: docs/FORMAT.md, "Paths", and what the codecs ask of them. A port of path/mod.rs.
 ghost use mathlib.Core.Path.{_≡_};
 ghost use mathlib.Core.List.{[]};
-ghost use Prim.Native.Nat.{_<_, _^_};
-ghost use lib.ListN.{length};
-ghost use Rattle.path.specs.Limits.{maxComponentCount, maxPathLength};
-ghost use Rattle.path.specs.Record.{sumOf, allAtMost, pathFrom, pathOf, wellFormed, lengthAt};
-ghost use Rattle.path.specs.Answers.{componentAt, commonPrefix, prefixOf, equalTo};
+ghost use mathlib.Core.Bool.{_&&_};
+ghost use Rattle.path.specs.Record.{componentsOf, pathFrom, allAtMost, wellFormed};
+ghost use Rattle.path.specs.Flat.{pathIn, pathFlat};
+ghost use Rattle.path.specs.Prefix.{shared, isPrefix, samePath};
+ghost use Rattle.path.specs.Answers.{saidIf, countAnswer, comparedAnswer, componentAnswer, componentAt};
 
-mod flat;
 pub mod lent;
-mod lent_builder;
-pub mod parts;
 mod path_builder;
 
-// The bytes of the components one after the other, their lengths, and how many there are; unused parts are zero.
+// A path: its record of bytes, as callers in other languages hold it too. Functions are lent the bytes.
 pub struct Path {
-    pub bytes: [u8; 600],
-    pub lengths: [usize; 20],
-    pub count: usize,
+    pub flat: [u8; 641],
 }
 
-// A path that grows by components, and the sum of their lengths.
+// A path that grows by components in a lent record: the sum of their lengths, and their number.
 pub struct PathBuilder {
-    pub path: Path,
     pub total: usize,
+    pub count: usize,
 }
 
 // Whether a builder grew, or why it did not.
@@ -39,24 +34,13 @@ pub struct Growth {
     pub builder: PathBuilder,
 }
 
-// The same for a path that grows in a lent record: the sum of its components' lengths, and their number.
-pub struct LentBuilder {
-    pub total: usize,
-    pub count: usize,
-}
-
-pub struct LentGrowth {
-    pub answer: Appended,
-    pub builder: LentBuilder,
-}
-
 // A number of components.
 pub enum ComponentCount {
     Components(usize),
     Malformed,
 }
 
-// Where a component's bytes start in the record, and how many they are.
+// Where a component's bytes start among those of all components, and how many they are.
 pub enum ComponentBytes {
     At(usize, usize),
     Outside,
@@ -70,21 +54,23 @@ pub enum Compared {
     Malformed,
 }
 
-// Whether every number of the slice is at most `m`.
-fn all_at_most(s: &[usize], m: usize) -> bool
-    ensures { λ r. ⌜ r ≡ allAtMost m (now (s .entry)) ⌝ }
-{
-    let mut i: usize = 0;
-    while i < s.len() {
-        if m < s[i] {
-            return false;
+impl Path {
+    pub const MAX_COMPONENT_LENGTH: usize = 300;
+
+    pub const MAX_COMPONENT_COUNT: usize = 20;
+
+    pub const MAX_PATH_LENGTH: usize = 600;
+
+    pub fn new_empty() -> Path
+        ensures { λ r. ⌜ r .flat ≡ pathFlat (pathFrom []) ⌝ }
+    {
+        Path {
+            flat: [0u8; lent::SIZE],
         }
-        i += 1;
     }
-    true
 }
 
-// The same with no way out of the loop, so that many bytes are tested at a time.
+// Whether every byte is zero, with no way out of the loop, so that many bytes are tested at a time.
 fn all_zero(s: &[u8]) -> bool
     ensures { λ r. ⌜ r ≡ allAtMost 0 (now (s .entry)) ⌝ }
 {
@@ -99,131 +85,55 @@ fn all_zero(s: &[u8]) -> bool
     clear
 }
 
-fn sum(s: &[usize]) -> usize
-    requires { ⌜ sumOf (now s) < 2 ^ 64 ⌝ }
-    ensures { λ r. ⌜ r ≡ sumOf (now (s .entry)) ⌝ }
+// Where the i-th component stands among the bytes of all.
+pub fn component(path: &[u8], i: usize) -> ComponentBytes
+    ensures { λ r. ⌜ componentAnswer r ≡ componentAt (pathIn (now (path .entry))) i ⌝ }
 {
-    let mut t: usize = 0;
-    let mut i: usize = 0;
-    while i < s.len() {
-        t += s[i];
-        i += 1;
+    let well = lent::well_formed(path);
+    if !well {
+        return ComponentBytes::Malformed;
     }
-    t
+    if lent::count(path) <= i {
+        return ComponentBytes::Outside;
+    }
+    ComponentBytes::At(lent::span(path, 0, i), lent::component_len(path, i))
 }
 
-// Whether a path of these parts is well formed.
-fn parts_formed<'a>(bytes: &'a [u8], lengths: &'a [usize], n: usize) -> bool
-    requires { ⌜ (length (now bytes) ≡ maxPathLength) × (length (now lengths) ≡ maxComponentCount) ⌝ }
-    ensures { λ r. ⌜ r ≡ wellFormed (pathOf (now (bytes .entry)) (now (lengths .entry)) n) ⌝ }
+// How many components the longest common prefix of two paths has.
+pub fn longest_common_prefix<'a>(path: &'a [u8], other: &'a [u8]) -> ComponentCount
+    ensures { λ r. ⌜ countAnswer r ≡ saidIf (wellFormed (pathIn (now (path .entry))) && wellFormed (pathIn (now (other .entry)))) (shared (componentsOf (pathIn (now (path .entry)))) (componentsOf (pathIn (now (other .entry))))) ⌝ }
 {
-    if Path::MAX_COMPONENT_COUNT < n {
-        return false;
+    let well = lent::both_formed(path, other);
+    if !well {
+        return ComponentCount::Malformed;
     }
-    let within = all_at_most(&lengths[..n], Path::MAX_COMPONENT_LENGTH);
-    if !within {
-        return false;
-    }
-    let t = sum(&lengths[..n]);
-    if Path::MAX_PATH_LENGTH < t {
-        return false;
-    }
-    let rest = all_at_most(&lengths[n..], 0);
-    if !rest {
-        return false;
-    }
-    all_zero(&bytes[t..])
+    lent::longest_common_prefix(path, other)
 }
 
-impl Path {
-    pub const MAX_COMPONENT_LENGTH: usize = 300;
-
-    pub const MAX_COMPONENT_COUNT: usize = 20;
-
-    pub const MAX_PATH_LENGTH: usize = 600;
-
-    pub fn new_empty() -> Path
-        ensures { λ r. ⌜ r ≡ pathFrom [] ⌝ }
-    {
-        Path {
-            bytes: [0u8; Path::MAX_PATH_LENGTH],
-            lengths: [0usize; Path::MAX_COMPONENT_COUNT],
-            count: 0,
-        }
+// Whether the first path is a prefix of the second.
+pub fn is_prefix_of<'a>(path: &'a [u8], other: &'a [u8]) -> Compared
+    ensures { λ r. ⌜ comparedAnswer r ≡ saidIf (wellFormed (pathIn (now (path .entry))) && wellFormed (pathIn (now (other .entry)))) (isPrefix (componentsOf (pathIn (now (path .entry)))) (componentsOf (pathIn (now (other .entry))))) ⌝ }
+{
+    let well = lent::both_formed(path, other);
+    if !well {
+        return Compared::Malformed;
     }
+    lent::is_prefix_of(path, other)
+}
 
-    pub fn well_formed(self) -> bool
-        ensures { λ r. ⌜ r ≡ wellFormed self ⌝ }
-    {
-        parts_formed(&self.bytes, &self.lengths, self.count)
+// Whether two paths have the same components.
+pub fn equals<'a>(path: &'a [u8], other: &'a [u8]) -> Compared
+    ensures { λ r. ⌜ comparedAnswer r ≡ saidIf (wellFormed (pathIn (now (path .entry))) && wellFormed (pathIn (now (other .entry)))) (samePath (componentsOf (pathIn (now (path .entry)))) (componentsOf (pathIn (now (other .entry))))) ⌝ }
+{
+    let common = longest_common_prefix(path, other);
+    let ComponentCount::Components(k) = common else {
+        return Compared::Malformed;
+    };
+    if k != lent::count(path) {
+        return Compared::No;
     }
-
-    // The length of the i-th component, of a record of any content; 0 where the record has no such length.
-    pub fn component_len(self, i: usize) -> usize
-        ensures { λ r. ⌜ r ≡ lengthAt self i ⌝ }
-    {
-        if Path::MAX_COMPONENT_COUNT <= i {
-            return 0;
-        }
-        self.lengths[i]
+    if k != lent::count(other) {
+        return Compared::No;
     }
-
-    // Where the i-th component stands in the record's bytes.
-    pub fn component(self, i: usize) -> ComponentBytes
-        ensures { λ r. ⌜ r ≡ componentAt self i ⌝ }
-    {
-        let well = self.well_formed();
-        if !well {
-            return ComponentBytes::Malformed;
-        }
-        let n = self.count;
-        if n <= i {
-            return ComponentBytes::Outside;
-        }
-        let lengths = self.lengths;
-        ComponentBytes::At(sum(&lengths[..i]), self.lengths[i])
-    }
-
-    // How many components the longest common prefix of two paths has.
-    pub fn longest_common_prefix(self, other: Path) -> ComponentCount
-        ensures { λ r. ⌜ r ≡ commonPrefix self other ⌝ }
-    {
-        parts::longest_common_prefix(
-            &self.bytes,
-            &self.lengths,
-            self.count,
-            &other.bytes,
-            &other.lengths,
-            other.count,
-        )
-    }
-
-    pub fn is_prefix_of(self, other: Path) -> Compared
-        ensures { λ r. ⌜ r ≡ prefixOf self other ⌝ }
-    {
-        parts::is_prefix_of(
-            &self.bytes,
-            &self.lengths,
-            self.count,
-            &other.bytes,
-            &other.lengths,
-            other.count,
-        )
-    }
-
-    pub fn equals(self, other: Path) -> Compared
-        ensures { λ r. ⌜ r ≡ equalTo self other ⌝ }
-    {
-        let common = self.longest_common_prefix(other);
-        let ComponentCount::Components(k) = common else {
-            return Compared::Malformed;
-        };
-        if k != self.count {
-            return Compared::No;
-        }
-        if k != other.count {
-            return Compared::No;
-        }
-        Compared::Yes
-    }
+    Compared::Yes
 }

@@ -1,18 +1,19 @@
-// Paths that grow by components: a port of path/builder.rs.
+// Paths that grow by components in a lent record: a port of path/builder.rs.
 ghost use mathlib.Core.Path.{_≡_};
-ghost use mathlib.Core.List.{[], _++_};
-ghost use Prim.Native.Nat.{_≤_};
+ghost use mathlib.Core.List.{[], _∷_};
+ghost use mathlib.Core.Bool.{true};
 ghost use lib.ListN.{length, take};
-ghost use Rattle.codec.specs.Format.{over};
-ghost use Rattle.path.specs.Record.{componentsOf};
-ghost use Rattle.path.specs.Builder.{builderFrom, isBuilder, fitsAfter, Extendable, appendComponent, pushComponent, prefixBuilder, joinedBuilder};
+ghost use Rattle.path.specs.Record.{componentsOf, startAt, Leads};
+ghost use Rattle.path.specs.Flat.{pathSize, pathIn};
+ghost use Rattle.path.specs.Builder.{builderOf, fitsAfter, recordMore, Appends, Prefixes};
 use crate::Appended;
 use crate::Growth;
 use crate::Path;
 use crate::PathBuilder;
+use crate::lent;
 
 // Whether a component of `n` bytes fits after `count` others of `total` bytes.
-pub(crate) fn fits_after(total: usize, count: usize, n: usize) -> bool
+fn fits_after(total: usize, count: usize, n: usize) -> bool
     ensures { λ r. ⌜ r ≡ fitsAfter total count n ⌝ }
 {
     if Path::MAX_COMPONENT_LENGTH < n {
@@ -27,65 +28,44 @@ pub(crate) fn fits_after(total: usize, count: usize, n: usize) -> bool
     n <= Path::MAX_PATH_LENGTH - total
 }
 
-// Copies lengths to the start of others.
-fn put_lengths(lengths: &mut [usize], s: &[usize])
-    requires { ⌜ length (now s) ≤ length (now lengths) ⌝ }
-    ensures { λ r. ⌜ now (lengths .exit) ≡ over (now (s .entry)) (now (lengths .entry)) ⌝ }
+// A component after `count` others of `total` bytes.
+fn put_component(out: &mut [u8], component: &[u8], total: usize, count: usize)
+    requires { ⌜ (length (now out) ≡ pathSize) × (fitsAfter total count (length (now component)) ≡ true) ⌝ }
+    ensures { λ _. ⌜ now (out .exit) ≡ recordMore total count (now (component .entry) ∷ []) (now (out .entry)) ⌝ }
 {
-    let mut i: usize = 0;
-    while i < s.len() {
-        lengths[i] = s[i];
-        i += 1;
-    }
+    let at = lent::BYTES + total;
+    byte_codec::put_bytes(&mut out[at..], component);
+    let length_at = lent::LENGTHS + 2 * count;
+    compact_u64::put_big_endian(&mut out[length_at..], 2, component.len() as u64);
+    out[0] = (count + 1) as u8;
+}
+
+// The first `k` components of a path, of `total` bytes, as they stand in its record.
+fn put_prefix(out: &mut [u8], path: &[u8], k: usize, total: usize)
+    requires { ⌜ (length (now out) ≡ pathSize) × Leads (pathIn (now path)) k × (total ≡ startAt (pathIn (now path)) k) ⌝ }
+    ensures { λ _. ⌜ now (out .exit) ≡ recordMore 0 0 (take k (componentsOf (pathIn (now (path .entry))))) (now (out .entry)) ⌝ }
+{
+    let end = lent::BYTES + total;
+    byte_codec::put_bytes(&mut out[lent::BYTES..], &path[lent::BYTES..end]);
+    let lengths_end = lent::LENGTHS + 2 * k;
+    byte_codec::put_bytes(&mut out[lent::LENGTHS..], &path[lent::LENGTHS..lengths_end]);
+    out[0] = k as u8;
 }
 
 impl PathBuilder {
     pub fn new() -> PathBuilder
-        ensures { λ r. ⌜ r ≡ builderFrom [] ⌝ }
+        ensures { λ r. ⌜ r ≡ builderOf 0 0 ⌝ }
     {
-        let path = Path::new_empty();
-        PathBuilder {
-            path: path,
-            total: 0,
-        }
+        PathBuilder { total: 0, count: 0 }
     }
 
-    // Whether some sequence of appends makes it.
-    pub fn is_made(self) -> bool
-        ensures { λ r. ⌜ r ≡ isBuilder self ⌝ }
-    {
-        let path = self.path;
-        let well = path.well_formed();
-        if !well {
-            return false;
-        }
-        let n = path.count;
-        let lengths = path.lengths;
-        self.total == crate::sum(&lengths[..n])
-    }
-
-    // One component more; the running total says where its bytes go.
-    pub fn append_component(mut self, component: &[u8]) -> Growth
-        ensures { λ r. ⌜ r ≡ appendComponent self (now (component .entry)) ⌝ }
-    {
-        let made = self.is_made();
-        if !made {
-            return Growth {
-                answer: Appended::Malformed,
-                builder: self,
-            };
-        }
-        self.push_component(component)
-    }
-
-    // The same, with no test but that for room: for readers, which start from a builder that appends make.
-    pub fn push_component(mut self, component: &[u8]) -> Growth
-        ensures { λ r. ⌜ r ≡ pushComponent self (now (component .entry)) ⌝ }
+    // One component more; its bytes and its length go after those that are there.
+    pub fn append_component(self, out: &mut [u8; 641], component: &[u8]) -> Growth
+        ensures { λ r. ⌜ Appends self (now (component .entry)) (now (out .entry)) r (now (out .exit)) ⌝ }
     {
         let n = component.len();
-        let mut path = self.path;
         let total = self.total;
-        let count = path.count;
+        let count = self.count;
         let fits = fits_after(total, count, n);
         if !fits {
             return Growth {
@@ -93,111 +73,42 @@ impl PathBuilder {
                 builder: self,
             };
         }
-        let mut i: usize = 0;
-        while i < n {
-            let k = total + i;
-            path.bytes[k] = component[i];
-            i += 1;
-        }
-        path.lengths[count] = n;
-        path.count = count + 1;
-        self.path = path;
-        self.total = total + n;
-        Growth {
-            answer: Appended::Grown,
-            builder: self,
-        }
-    }
-
-    // The first `k` components of a path after those of the builder: their bytes and their lengths, each copied at once.
-    fn extended(self, path: Path, k: usize) -> PathBuilder
-        requires { ⌜ Extendable self path k ⌝ }
-        ensures { λ r. ⌜ r ≡ builderFrom (componentsOf (self .path) ++ take k (componentsOf path)) ⌝ }
-    {
-        let first = self.path;
-        let total = self.total;
-        let n = first.count;
-        let source = path.bytes;
-        let sizes = path.lengths;
-        let more = crate::sum(&sizes[..k]);
-        let mut bytes = first.bytes;
-        byte_codec::put_bytes(&mut bytes[total..], &source[..more]);
-        let mut lengths = first.lengths;
-        put_lengths(&mut lengths[n..], &sizes[..k]);
-        let joined = Path {
-            bytes: bytes,
-            lengths: lengths,
-            count: n + k,
+        put_component(out, component, total, count);
+        let builder = PathBuilder {
+            total: total + n,
+            count: count + 1,
         };
-        PathBuilder {
-            path: joined,
-            total: total + more,
-        }
-    }
-
-    // The builder of a path's first `k` components.
-    pub fn new_from_prefix(path: Path, k: usize) -> Growth
-        ensures { λ r. ⌜ r ≡ prefixBuilder path k ⌝ }
-    {
-        let empty = PathBuilder::new();
-        let well = path.well_formed();
-        if !well {
-            return Growth {
-                answer: Appended::Malformed,
-                builder: empty,
-            };
-        }
-        let n = path.count;
-        if n < k {
-            return Growth {
-                answer: Appended::Outside,
-                builder: empty,
-            };
-        }
-        let builder = empty.extended(path, k);
         Growth {
             answer: Appended::Grown,
             builder: builder,
         }
     }
 
-    // The builder of two paths joined.
-    pub fn new_from_joined(prefix: Path, suffix: Path) -> Growth
-        ensures { λ r. ⌜ r ≡ joinedBuilder prefix suffix ⌝ }
+    // The builder of a path's first `k` components, their bytes and their lengths each copied at once; the empty one beside a refusal.
+    pub fn new_from_prefix(path: &[u8], k: usize, out: &mut [u8; 641]) -> Growth
+        ensures { λ r. ⌜ Prefixes (pathIn (now (path .entry))) k r (now (out .exit)) ⌝ }
     {
+        lent::clear(out);
         let empty = PathBuilder::new();
-        let well = prefix.well_formed();
-        if !well {
+        let fits = lent::sized(path);
+        if !fits {
             return Growth {
                 answer: Appended::Malformed,
                 builder: empty,
             };
         }
-        let suffix_well = suffix.well_formed();
-        if !suffix_well {
-            return Growth {
-                answer: Appended::Malformed,
-                builder: empty,
-            };
-        }
-        let n = prefix.count;
-        let m = suffix.count;
-        let first = empty.extended(prefix, n);
-        let lengths = suffix.lengths;
-        let more = crate::sum(&lengths[..m]);
-        if Path::MAX_PATH_LENGTH - first.total < more {
+        if lent::count(path) < k {
             return Growth {
                 answer: Appended::Outside,
                 builder: empty,
             };
         }
-        if Path::MAX_COMPONENT_COUNT - n < m {
-            return Growth {
-                answer: Appended::Outside,
-                builder: empty,
-            };
-        }
-        let builder = first.extended(suffix, m);
+        let total = lent::span(path, 0, k);
+        put_prefix(out, path, k, total);
+        let builder = PathBuilder {
+            total: total,
+            count: k,
+        };
         Growth {
             answer: Appended::Grown,
             builder: builder,

@@ -1,134 +1,27 @@
--- What the readers' definitions answer at each exit of the code, at plain values.
-use Rattle.codec.proofs.Prelude.{_≡_, refl, List, [], _∷_, Bool, true, false, ⊎-elim, ℕ, _+_, _-_, _≤_, _<_, add-one, arith, OneOf, leb, le-leb, lt-leb, leb-true, leb-false, length, drop, getD, drop-of-length-le, length-drop, drop-cons, drop-drop}
-use denote.Enum.Declared as declared
-use Rattle.codec.specs.Answers.{Answer, accepted, refused, answerOf}
-use Rattle.codec.specs.Reader.{shift, named, guard}
-use Rattle.compact_u64.specs.declared.DecodedU64.{DecodedU64}
-use Rattle.compact_u64.specs.declared.DecodedU64.the-variants as number
-use Rattle.compact_u64.specs.Number.{readNumber, readStandalone}
-use Rattle.compact_u64.specs.Answers.{numberAnswer}
-use Rattle.compact_u64.proofs.Standalone.{standalone-bounded}
-use Rattle.path.specs.Limits.{limits}
+-- What a plain path is read as, by its sizes: refused with them, else its components after none.
+use Rattle.codec.proofs.Prelude.{_≡_, refl, List, [], Bool, true, false, ℕ, _+_, zero-add, drop, drop-drop}
+use Rattle.codec.specs.Answers.{Answer, accepted, refused}
+use Rattle.codec.specs.Reader.{shift, named, guard, mapped}
 use Rattle.path.specs.Record.{pathFrom}
-use Rattle.path_suffix.specs.Header.{unpackTags}
-use Rattle.path_suffix.specs.Suffix.{Sizes, sizesFrom, readSizes, readSized, readComponents, readSuffix}
-use Rattle.path_suffix.proofs.Header.{sizes-bounded}
-use Rattle.path_codec.specs.declared.DecodedSizes.{DecodedSizes}
-use Rattle.path_codec.specs.declared.DecodedSizes.the-variants as sizes
-use Rattle.path_codec.specs.declared.DecodedComponent.{DecodedComponent}
-use Rattle.path_codec.specs.declared.DecodedComponent.the-variants as component
-use Rattle.path_codec.specs.Plain.{readPath, readAfter}
-use Rattle.path_codec.specs.Answers.{sizesAnswer, sizedAnswer, ReadsSized, numberRefusal, lengthRefusal, sizesRefusal, componentRefusal}
-use Rattle.path_codec.proofs.After.{after-none}
+use Rattle.path.specs.Limits.{limits}
+use Rattle.path_suffix.specs.Suffix.{sizesFrom, readSizes, readComponents, readSuffix}
+use Rattle.path_suffix_decode.specs.After.{readMore}
+use Rattle.path_codec.specs.Plain.{readPath}
 
--- ---- refusals handed on: the same number before and after
-pub record NoNumber (x : DecodedU64) : Type 0 where
-  pub why : ℕ
-  pub number : numberAnswer x ≡ refused why
-  pub sizes : sizesAnswer (numberRefusal x) ≡ refused why
-
-pub no-number : (x : DecodedU64) → OneOf (1 ∷ 2 ∷ []) (declared.tagOf Rattle.compact_u64.proofs.DecodedU64.the-type x) → NoNumber x
-no-number (number.Value v n) h = absurd (⊎-elim (λ e. omega arith) (λ e. omega arith) h)
-no-number number.EndOfInput h = record { why = 1; number = refl; sizes = refl }
-no-number number.TheirFault h = record { why = 2; number = refl; sizes = refl }
-
-pub record NoSizes (x : DecodedSizes) : Type 0 where
-  pub why : ℕ
-  pub sizes : sizesAnswer x ≡ refused why
-  pub path : answerOf (sizesRefusal x) (pathFrom []) ≡ refused why
-
-pub no-sizes : (x : DecodedSizes) → OneOf (1 ∷ 2 ∷ []) (declared.tagOf Rattle.path_codec.proofs.DecodedSizes.the-type x) → NoSizes x
-no-sizes (sizes.Sizes total count n) h = absurd (⊎-elim (λ e. omega arith) (λ e. omega arith) h)
-no-sizes sizes.EndOfInput h = record { why = 1; sizes = refl; path = refl }
-no-sizes sizes.TheirFault h = record { why = 2; sizes = refl; path = refl }
-
-pub record NoComponent (x : DecodedComponent) : Type 1 where
-  pub why : ℕ
-  pub component : (at : ℕ) (m : List ℕ) → sizedAnswer at m x ≡ refused why
-  pub beside : {A : Type 0} (a : A) → answerOf (componentRefusal x) a ≡ refused why
-
-pub no-component : (x : DecodedComponent) → OneOf (1 ∷ 2 ∷ []) (declared.tagOf Rattle.path_codec.proofs.DecodedComponent.the-type x) → NoComponent x
-no-component (component.Bytes b e) h = absurd (⊎-elim (λ e. omega arith) (λ e. omega arith) h)
-no-component component.EndOfInput h = record { why = 1; component = λ at m. refl; beside = λ a. refl }
-no-component component.TheirFault h = record { why = 2; component = λ at m. refl; beside = λ a. refl }
-
--- ---- the header byte and both numbers
-module _ (canonic : Bool) (s : List ℕ) (i : ℕ) where
-  pub sizes-none : length s ≤ i → readSizes canonic (drop i s) ≡ refused 1
-  unfolding readSizes
-  sizes-none h = rw (drop-of-length-le s h)
-
-  module _ (h : i < length s) where
-    pub sizes-first : (k : ℕ) → readNumber canonic 4 (unpackTags (getD s i 0) .total) (drop (i + 1) s) ≡ refused k → readSizes canonic (drop i s) ≡ refused k
-    unfolding readSizes
-    sizes-first k e = rw (drop-cons s i 0 h, ← add-one i, e)
-
-    module _ (total a : ℕ) (e : readNumber canonic 4 (unpackTags (getD s i 0) .total) (drop (i + 1) s) ≡ accepted total a) where
-      pub sizes-second : (k : ℕ) → readNumber canonic 4 (unpackTags (getD s i 0) .count) (drop (i + 1 + a) s) ≡ refused k → readSizes canonic (drop i s) ≡ refused k
-      unfolding readSizes
-      sizes-second k f = rw (drop-cons s i 0 h, ← add-one i, e, drop-drop, f)
-
-      pub sizes-both : (count b : ℕ) → readNumber canonic 4 (unpackTags (getD s i 0) .count) (drop (i + 1 + a) s) ≡ accepted count b
-          → readSizes canonic (drop i s) ≡ accepted (sizesFrom total count) (1 + (a + b))
-      unfolding readSizes
-      sizes-both count b f = rw (drop-cons s i 0 h, ← add-one i, e, drop-drop, f)
-
-  -- sizes that were read lie within the bytes, also where i does not
-  pub sizes-inside : (h : Sizes) (n : ℕ) → readSizes canonic (drop i s) ≡ accepted h n → i + n ≤ length s
-  sizes-inside h n e = go (leb (length s) i) refl
-    where
-      go : (b : Bool) → leb (length s) i ≡ b → i + n ≤ length s
-      go true f = let g = sizes-none (leb-true (length s) i f) in let z : _≡_ {A = ℕ} 0 1 = cc in absurd (omega arith)
-      go false f = omega (arith, leb-false (length s) i f, sizes-bounded canonic .bound (drop i s) h n e, length-drop i s)
-
--- ---- a component after its length
-module _ (canonic : Bool) (m : List ℕ) (at : ℕ) where
-  pub sized-refused : (x : DecodedU64) → OneOf (1 ∷ 2 ∷ []) (declared.tagOf Rattle.compact_u64.proofs.DecodedU64.the-type x) → numberAnswer x ≡ readStandalone canonic (drop at m)
-      → ReadsSized canonic m at (lengthRefusal x)
-  unfolding readSized
-  sized-refused (number.Value v n) h e = absurd (⊎-elim (λ e. omega arith) (λ e. omega arith) h)
-  sized-refused number.EndOfInput h e = record { answer = rw (← e); inside = tt }
-  sized-refused number.TheirFault h e = record { answer = rw (← e); inside = tt }
-
-  module _ (n u : ℕ) (e : readStandalone canonic (drop at m) ≡ accepted n u) where
-    pub sized-long : 300 < n → ReadsSized canonic m at component.TheirFault
-    unfolding readSized
-    sized-long h = record { answer = rw (e, lt-leb n 300 h); inside = tt }
-
-    module _ (here : at ≤ length m) where
-      pub length-inside : at + u ≤ length m
-      length-inside = omega (arith, standalone-bounded canonic .bound (drop at m) n u e, length-drop at m)
-
-      rest : length (drop u (drop at m)) ≡ length m - (at + u)
-      rest = rw (drop-drop u at m) (length-drop (at + u) m)
-
-      pub sized-short : n ≤ 300 → length m - (at + u) < n → ReadsSized canonic m at component.EndOfInput
-      unfolding readSized
-      sized-short h l = record { answer = rw (e, le-leb n 300 h, lt-leb n (length (drop u (drop at m))) (rw rest l)); inside = tt }
-
-      pub sized-there : n ≤ 300 → n ≤ length m - (at + u) → ReadsSized canonic m at (component.Bytes (at + u) (at + u + n))
-      unfolding readSized
-      sized-there h l =
-          let bytes : at + u + n - (at + u) ≡ n = omega arith in
-          let consumed : at + u + n - at ≡ u + n = omega arith in
-          let inside = length-inside in
-          record {
-            answer = rw (e, le-leb n 300 h, le-leb n (length (drop u (drop at m))) (rw rest l), drop-drop u at m, bytes, consumed);
-            inside = (omega arith, omega arith, omega arith, omega arith);
-          }
-
--- ---- a plain path, by its sizes
 module _ (canonic : Bool) (s : List ℕ) (i : ℕ) where
   pub path-refused : (k : ℕ) → readSizes canonic (drop i s) ≡ refused k → readPath canonic (drop i s) ≡ refused k
   unfolding readPath readSuffix
   path-refused k e = rw e
 
-  -- the components come after none
-  pub path-after : (total count n : ℕ) → readSizes canonic (drop i s) ≡ accepted (sizesFrom total count) n
-      → readPath canonic (drop i s) ≡ shift n (readAfter canonic [] [] total count (drop (i + n) s))
-  unfolding readPath readSuffix
-  path-after total count n e = rw (e, drop-drop, after-none canonic total count (drop (i + n) s)) (go (guard (limits total count) (readComponents canonic count 0 total) (drop (i + n) s)))
+  pub path-more : (total count n : ℕ) → readSizes canonic (drop i s) ≡ accepted (sizesFrom total count) n
+      → readPath canonic (drop i s) ≡ shift n (readMore canonic [] total count (drop (i + n) s))
+  unfolding readPath readSuffix readMore
+  path-more total count n e = rw (e, drop-drop, zero-add total, zero-add count) (go (limits total count))
     where
-      go : (x : Answer (List (List ℕ))) → named pathFrom (shift n x) ≡ shift n (named pathFrom x)
-      go (accepted cs j) = refl
-      go (refused k) = refl
+      parts : (x : Answer (List (List ℕ))) → named pathFrom (shift n x) ≡ shift n (named pathFrom x)
+      parts (accepted cs j) = refl
+      parts (refused k) = refl
+
+      go : (t : Bool) → named pathFrom (shift n (guard t (readComponents canonic count 0 total) (drop (i + n) s))) ≡ shift n (guard t (mapped pathFrom (readComponents canonic count 0 total)) (drop (i + n) s))
+      go true = parts (readComponents canonic count 0 total (drop (i + n) s))
+      go false = refl

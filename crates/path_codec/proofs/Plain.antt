@@ -1,6 +1,6 @@
 -- The plain path is a lawful format, and reads back leniently too.
 use Rattle.codec.proofs.Prelude.{_≡_, List, Bool, true, false, ℕ, arith, le-leb, length}
-use Rattle.codec.specs.Format.{Valid, Writes, verdictBy, barred}
+use Rattle.codec.specs.Format.{Valid, Writes, barred}
 use Rattle.codec.specs.Reader.{Reader, mapped}
 use Rattle.codec.specs.Reads.{ReadsBack}
 use Rattle.codec.specs.Lawful.{Lawful}
@@ -8,9 +8,8 @@ use Rattle.codec.specs.Demand3.{Demand3}
 use Rattle.codec.proofs.Readers.{reads-as, back-as, mapped-back}
 use Rattle.codec.proofs.Lawful.{verdict-allowed, lawful-of, reshaped-lawful, reshaped-back}
 use Rattle.codec.proofs.Demand3.{demand3}
-use Rattle.path.specs.declared.Path.{Path}
+use Rattle.path.specs.Record.{Path, componentsOf, pathFrom, sized, wellFormed, TypedPath}
 use Rattle.path.specs.Limits.{totalOf, limits, pathOk, PathOk, TypedComponents}
-use Rattle.path.specs.Record.{componentsOf, pathFrom, sized, wellFormed, TypedPath}
 use Rattle.path.proofs.Limits.{limits-total, limits-count, limits-of, path-ok, ok-path, typed-of}
 use Rattle.path.proofs.Record.{well-formed, formed-well, apart, made, components-of}
 use Rattle.path.proofs.Components.{well-sized}

@@ -6,22 +6,20 @@ use Rattle.codec.specs.Answers.{Answer, AllBytes, accepted, refused}
 use Rattle.codec.specs.Reader.{bind, shift, named, passed, guard, checked, mapped}
 use Rattle.codec.proofs.Bytes.{AllBytes·drop}
 use Rattle.compact_u64.specs.Number.{readStandalone}
-use Rattle.path.specs.declared.Path.{Path}
+use Rattle.path.specs.Record.{Path, componentsOf, pathFrom, Leads}
 use Rattle.path.specs.Limits.{totalOf, limits}
-use Rattle.path.specs.Record.{sumOf, used, componentsOf, pathFrom, wellFormed, Leads}
 use Rattle.path.specs.Prefix.{shared}
 use Rattle.path.proofs.Record.{components-of}
 use Rattle.path.proofs.Limits.{limits-of, total-append}
-use Rattle.path.proofs.Components.{Formed, parts-formed, sized-formed, count-is, prefix-count}
-use Rattle.path.proofs.Components as Components
+use Rattle.path.proofs.Components.{Formed, sized-formed, count-is, prefix-count}
 use Rattle.path_suffix.specs.Suffix.{sizesFrom, readSizes, readComponents, readSuffix}
 use Rattle.path_suffix.proofs.Components.{components-bounded}
 use Rattle.path_suffix.proofs.Yields.{components-yields}
-use Rattle.path_codec.specs.Plain.{readPath, readAfter, readMore, readOn}
+use Rattle.path_suffix_decode.specs.After.{readMore, readOn}
+use Rattle.path_codec.specs.Plain.{readPath}
 use Rattle.path_relative.specs.Against.{joinOk, readAgainst}
 use Rattle.path_relative.specs.Extension.{readExtension}
 use Rattle.path_relative.specs.Records.{readAgainstBy, readExtendsBy, readJoined}
-use Rattle.path_relative.proofs.Leading.{lead-after}
 
 -- ---- against a path
 pub against-malformed : (formed : Path → Bool) (canonic : Bool) (r : Path) (s : List ℕ) → formed r ≡ false → readAgainstBy formed canonic r s ≡ refused 5
@@ -62,25 +60,6 @@ module _ (formed : Path → Bool) (canonic : Bool) (r : Path) (w : formed r ≡ 
               (judged (cond canonic (eqb (shared (componentsOf r) (take k (componentsOf r) ++ cs)) k) true) (take k (componentsOf r) ++ cs) n)
           go true (refused k') e = rw e
           go false x e = refl
-
--- what follows the sizes, by the reader after the shared components
-module _ (canonic : Bool) (r : Path) (w : wellFormed r ≡ true) (k : ℕ) (there : k ≤ r .count) (total count : ℕ) (s : List ℕ) where
-  pub joined-after : readJoined canonic r k total count s
-      ≡ bind (readAfter canonic (take k (r .lengths)) (take (sumOf (take k (r .lengths))) (r .bytes)) total count s)
-      (λ p n. passed (cond canonic (eqb (shared (componentsOf r) (componentsOf p)) k) true) (accepted p n))
-  unfolding readJoined joinOk
-  joined-after = rw (lead-after r w k there canonic total count s, le-leb k (length (componentsOf r)) (omega (arith, count-is r (parts-formed w))))
-
-  pub joined-lenient : canonic ≡ false → readJoined canonic r k total count s ≡ readAfter canonic (take k (r .lengths)) (take (sumOf (take k (r .lengths))) (r .bytes)) total count s
-  joined-lenient e = joined-after ∙ rw e (go (readAfter false (take k (r .lengths)) (take (sumOf (take k (r .lengths))) (r .bytes)) total count s))
-    where
-      go : (x : Answer Path) → bind x (λ p n. passed true (accepted p n)) ≡ x
-      go (accepted p n) = refl
-      go (refused j) = refl
-
-  pub joined-strict : (p : Path) (n : ℕ) → canonic ≡ true → readAfter canonic (take k (r .lengths)) (take (sumOf (take k (r .lengths))) (r .bytes)) total count s ≡ accepted p n
-      → readJoined canonic r k total count s ≡ passed (eqb (shared (componentsOf r) (componentsOf p)) k) (accepted p n)
-  joined-strict p n e f = joined-after ∙ rw (f, e)
 
 -- by the reader after the first components of a path
 module _ (canonic : Bool) (r : Path) (k : ℕ) (here : Leads r k) (total count : ℕ) (s : List ℕ) where
@@ -159,9 +138,3 @@ module _ (formed : Path → Bool) (canonic : Bool) (r : Path) (w : formed r ≡ 
             ≡ shift n (named (λ cs. pathFrom (componentsOf r ++ cs)) (readComponents canonic count 0 total (drop (i + n) s)))
         go fits (accepted cs m) e = rw (e, whole cs m e, fits)
         go fits (refused k) e = rw e
-
-    -- by the reader after parts
-    pub extends-after : wellFormed r ≡ true → totalOf (componentsOf r) + total ≤ 600 → r .count + count ≤ 20
-        → readExtendsBy formed canonic r (drop i s) ≡ shift n (readAfter canonic (used r) (take (sumOf (used r)) (r .bytes)) total count (drop (i + n) s))
-    unfolding readMore
-    extends-after v h l = extends-more h l ∙ rw (lead-after r v (r .count) (omega arith) canonic total count (drop (i + n) s), Components.whole r f, count-is r f)

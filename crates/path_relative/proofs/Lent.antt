@@ -1,13 +1,12 @@
 -- What comparing a lent path with its reference tells the writers, and what a test of the whole records leaves of one of their sizes.
-use Rattle.codec.proofs.Prelude.{_≡_, refl, sym, ap, _∙_, true, false, _&&_, ℕ, _≤_, arith, eqb-true, le-leb, length, drop}
-use Rattle.codec.specs.Format.{Format, allowed, barred}
-use Rattle.path.specs.declared.Path.{Path}
-use Rattle.path.specs.Record.{componentsOf, sized, wellFormed}
+use Rattle.codec.proofs.Prelude.{_≡_, sym, ap, _∙_, true, false, _&&_, ℕ, _≤_, arith, eqb-true, le-leb, length, drop}
+use Rattle.codec.specs.Format.{allowed, barred}
+use Rattle.path.specs.Record.{Path, componentsOf, sized, wellFormed}
 use Rattle.path.specs.Prefix.{shared, isPrefix}
 use Rattle.path.specs.Answers.{said, unsaid, saidIf}
 use Rattle.codec.proofs.Tests.{and-left, and-right}
 use Rattle.path.proofs.Components.{Formed, sized-formed, well-sized, count-is, rest-count, rest-small}
-use Rattle.path.proofs.Prefix.{shares, prefix-takes}
+use Rattle.path.proofs.Prefix.{shares}
 use Rattle.path.proofs.Verdicts.{said-known, unsaid-known}
 use Rattle.codec.proofs.Lawful.{verdict-allowed}
 use Rattle.path_suffix.proofs.Suffix.{suffix-short}

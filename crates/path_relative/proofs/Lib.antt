@@ -3,7 +3,9 @@ pub mod Extension
 pub mod Records
 pub mod Yields
 pub mod Leading
+pub mod Alike
 pub mod Exits
+pub mod Within
 pub mod Writing
 pub mod Lent
 pub mod Orders

@@ -7,9 +7,8 @@ use Rattle.codec.specs.Demand3.{Demand3}
 use Rattle.codec.proofs.Readers.{reads-as, back-as}
 use Rattle.codec.proofs.Lawful.{verdict-allowed, lawful-of}
 use Rattle.codec.proofs.Demand3.{demand3}
-use Rattle.path.specs.declared.Path.{Path}
+use Rattle.path.specs.Record.{Path, componentsOf, wellFormed, TypedPath}
 use Rattle.path.specs.Limits.{pathOk, PathOk, TypedComponents}
-use Rattle.path.specs.Record.{componentsOf, wellFormed, TypedPath}
 use Rattle.path.specs.Prefix.{isPrefix}
 use Rattle.path.proofs.Limits.{path-ok, ok-path, typed-of}
 use Rattle.path.proofs.Record.{well-formed, apart}

@@ -5,8 +5,7 @@ use Rattle.codec.specs.Format.{Verdict, allowed, barred, over, putAnswer, putBu
 use Rattle.codec.proofs.Lawful.{verdict-allowed}
 use Rattle.codec.proofs.Lending.{put-barred, put-full, put-fits, put-denied, put-wrote, put-over, wrote-not-denied}
 use Rattle.compact_u64.specs.Number.{standaloneBytes}
-use Rattle.path.specs.declared.Path.{Path}
-use Rattle.path.specs.Record.{componentsOf}
+use Rattle.path.specs.Record.{Path, componentsOf}
 use Rattle.path.proofs.Components.{Formed, rest-count, rest-small}
 use Rattle.path_suffix.specs.Suffix.{suffixBy}
 use Rattle.path_suffix.proofs.Suffix.{suffix-short}

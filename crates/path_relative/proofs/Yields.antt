@@ -3,9 +3,8 @@ use Rattle.codec.proofs.Prelude.{_≡_, List, _++_, Bool, true, cond, ℕ, arit
 use Rattle.codec.specs.Reads.{Yields}
 use Rattle.codec.proofs.Yields.{yields-as, then-yields, checked-yields, mapped-yields}
 use Rattle.compact_u64.specs.Number.{readStandalone}
-use Rattle.path.specs.declared.Path.{Path}
+use Rattle.path.specs.Record.{Path, componentsOf, pathFrom, wellFormed, TypedPath}
 use Rattle.path.specs.Limits.{totalOf, Component, PathOk}
-use Rattle.path.specs.Record.{componentsOf, pathFrom, wellFormed, TypedPath}
 use Rattle.path.specs.Prefix.{shared}
 use Rattle.path.proofs.Limits.{total-append, all-append, all-take}
 use Rattle.path.proofs.Record.{well-formed, formed-well, apart, made}

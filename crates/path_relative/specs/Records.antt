@@ -1,15 +1,13 @@
--- docs/FORMAT.md, "Paths": both encodings, as the code holds paths. 5 is tested on the reference and on the path.
+-- docs/FORMAT.md, "Paths": both encodings, on records. 5 is tested on the reference and on the path.
 use mathlib.Core.Path.{_≡_}
 use mathlib.Core.List.{List, _++_}
 use mathlib.Core.Bool.{Bool, true, cond, _&&_}
-use Prim.Native.Nat.{ℕ, _+_, _≤_, _<_}
+use Prim.Native.Nat.{ℕ, _+_}
 use lib.Dec.{eqb}
-use lib.ListN.{length, take, drop, getD}
+use lib.ListN.{take}
 use Rattle.codec.specs.Format.{Format, verdictBy}
 use Rattle.codec.specs.Reader.{Reader, guard, checked, mapped, onFormed}
-use Rattle.path.specs.declared.Path.{Path}
-use Rattle.path.specs.Limits.{maxComponentCount, maxPathLength}
-use Rattle.path.specs.Record.{componentsOf, pathFrom, wellFormed}
+use Rattle.path.specs.Record.{Path, componentsOf, pathFrom, wellFormed, Leads}
 use Rattle.path.specs.Prefix.{shared, isPrefix}
 use Rattle.compact_u64.specs.Number.{standaloneBytes}
 use Rattle.path_suffix.specs.Suffix.{suffixBy, readComponents}
@@ -50,6 +48,10 @@ readAgainstBy formed canonic r = onFormed (formed r) (mapped pathFrom (readAgain
 unfoldable pub readAgainstPath : Bool → Path → Reader Path
 readAgainstPath = readAgainstBy wellFormed
 
+-- and 2 unless it is a prefix of the path
+abbrev pub readWithinBy : (Path → Bool) → Bool → Path → Reader Path
+readWithinBy formed canonic r = onFormed (formed r) (mapped pathFrom (checked (isPrefix (componentsOf r)) (readAgainst canonic (componentsOf r))))
+
 abbrev pub readExtendsBy : (Path → Bool) → Bool → Path → Reader Path
 readExtendsBy formed canonic r = onFormed (formed r) (mapped pathFrom (readExtension canonic (componentsOf r)))
 
@@ -58,20 +60,23 @@ readExtendsPath = readExtendsBy wellFormed
 
 -- ---- inside the reader against a path
 
--- a well-formed reference that has k components
-pub record Reference (r : Path) (k : ℕ) : Type 0 where
-  pub formed : wellFormed r ≡ true
-  pub there : k ≤ r .count
+-- records whose sizes are within the limits and whose first k components are the same
+pub record Alike (p q : Path) (k : ℕ) : Type 0 where
+  pub left : Leads p k
+  pub right : Leads q k
+  pub same : take k (componentsOf p) ≡ take k (componentsOf q)
 
--- a component after k others of at bytes, where there is one
-abbrev pub partAt : ℕ → ℕ → List ℕ → List ℕ → List ℕ
-partAt k at bytes lengths = take (getD lengths k 0) (drop at bytes)
+-- a path that was read against a reference, k components told to be shared: strictly, no further one is the same
+pub record Told (canonic : Bool) (r p : Path) (k : ℕ) : Type 0 where
+  pub alike : Alike r p k
+  pub most : canonic ≡ true → shared (componentsOf r) (componentsOf p) ≡ k
 
-pub record Stands (k at : ℕ) (bytes lengths : List ℕ) : Type 0 where
-  pub there : k < length lengths
-  pub ends : at + getD lengths k 0 ≤ length bytes
-  pub few : length lengths ≤ maxComponentCount
-  pub fits : length bytes ≤ maxPathLength
+-- one reader for both, against a path and within it
+abbrev pub prefixIf : Bool → List (List ℕ) → List (List ℕ) → Bool
+prefixIf within r p = cond within (isPrefix r p) true
+
+abbrev pub readTestedBy : (Path → Bool) → Bool → Bool → Path → Reader Path
+readTestedBy formed within canonic r = onFormed (formed r) (mapped pathFrom (checked (prefixIf within (componentsOf r)) (readAgainst canonic (componentsOf r))))
 
 -- what follows the shared count k and the sizes
 unfoldable pub readJoined : Bool → Path → ℕ → ℕ → ℕ → Reader Path
@@ -80,3 +85,6 @@ readJoined canonic r k total count =
     guard (joinOk (componentsOf r) k total count) (
     mapped (λ cs. pathFrom (take k (componentsOf r) ++ cs)) (
     readComponents canonic count 0 total)))
+
+unfoldable pub readTested : Bool → Bool → Path → ℕ → ℕ → ℕ → Reader Path
+readTested within canonic r k total count = checked (λ p. prefixIf within (componentsOf r) (componentsOf p)) (readJoined canonic r k total count)

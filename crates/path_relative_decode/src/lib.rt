@@ -1,26 +1,30 @@
 // Reading paths against a path, and extensions of a path: docs/FORMAT.md, "Paths". A port of path/codec.rs.
+ghost use mathlib.Core.List.{[]};
 ghost use lib.ListN.{drop};
-ghost use Rattle.path_codec.specs.Answers.{GivesPath};
+ghost use Rattle.codec.specs.Answers.{Gives};
+ghost use Rattle.path.specs.Record.{pathFrom};
+ghost use Rattle.path.specs.Flat.{pathIn};
 ghost use Rattle.path_relative.specs.Records.{readAgainstPath, readExtendsPath};
-use path::Path;
-use path_codec::DecodedPath;
+use codec::Decoded;
 
-pub mod lent;
-pub mod path_decode;
 pub mod sized;
 
 // Reads a path against a reference.
-pub fn relative_decode(message: &[u8], start: usize, canonic: bool, reference: Path) -> DecodedPath
-    ensures { λ r. ⌜ GivesPath r (readAgainstPath canonic reference (drop start (now (message .entry)))) ⌝ }
+pub fn relative_decode(
+    message: &[u8],
+    start: usize,
+    canonic: bool,
+    reference: &[u8],
+    out: &mut [u8; 641],
+) -> Decoded
+    ensures { λ r. ⌜ Gives (pathFrom []) r (pathIn (now (out .exit))) (readAgainstPath canonic (pathIn (now (reference .entry))) (drop start (now (message .entry)))) ⌝ }
 {
-    path_decode::relative_decode(
-        message,
-        start,
-        canonic,
-        &reference.bytes,
-        &reference.lengths,
-        reference.count,
-    )
+    let well = path::lent::well_formed(reference);
+    if !well {
+        path::lent::clear(out);
+        return Decoded::Malformed;
+    }
+    sized::relative_decode(message, start, canonic, reference, out)
 }
 
 // Reads an extension of a path.
@@ -28,16 +32,15 @@ pub fn decode_path_extends_path(
     message: &[u8],
     start: usize,
     canonic: bool,
-    prefix: Path,
-) -> DecodedPath
-    ensures { λ r. ⌜ GivesPath r (readExtendsPath canonic prefix (drop start (now (message .entry)))) ⌝ }
+    extends: &[u8],
+    out: &mut [u8; 641],
+) -> Decoded
+    ensures { λ r. ⌜ Gives (pathFrom []) r (pathIn (now (out .exit))) (readExtendsPath canonic (pathIn (now (extends .entry))) (drop start (now (message .entry)))) ⌝ }
 {
-    path_decode::decode_path_extends_path(
-        message,
-        start,
-        canonic,
-        &prefix.bytes,
-        &prefix.lengths,
-        prefix.count,
-    )
+    let well = path::lent::well_formed(extends);
+    if !well {
+        path::lent::clear(out);
+        return Decoded::Malformed;
+    }
+    sized::decode_path_extends_path(message, start, canonic, extends, out)
 }

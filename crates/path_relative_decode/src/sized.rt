@@ -1,31 +1,42 @@
 // Reading into a lent record against a path and as its extension, both lent as their records; the reference's sizes are tested: for the records above.
 ghost use mathlib.Core.Path.{_≡_};
 ghost use mathlib.Core.List.{[]};
-ghost use mathlib.Core.Bool.{false, _&&_};
+ghost use mathlib.Core.Bool.{false};
 ghost use lib.Dec.{eqb};
 ghost use lib.ListN.{drop};
 ghost use Rattle.codec.specs.Answers.{Gives};
 ghost use Rattle.codec.specs.Reader.{checked};
 ghost use Rattle.path.specs.Record.{componentsOf, pathFrom, sized, Leads};
 ghost use Rattle.path.specs.Flat.{pathIn};
-ghost use Rattle.path.specs.Prefix.{shared};
+ghost use Rattle.path.specs.Prefix.{shared, isPrefix};
 ghost use Rattle.path_codec.specs.Plain.{readPath};
-ghost use Rattle.path_relative.specs.Records.{readAgainstBy, readExtendsBy, readJoined};
+ghost use Rattle.path_relative.specs.Records.{readAgainstBy, readWithinBy, readExtendsBy, readTestedBy, readTested, readJoined, Alike, Told};
 use codec::Decoded;
 use compact_u64::DecodedU64;
-use path::ComponentCount;
+use path::Compared;
 use path::Path;
-use path_codec::DecodedSizes;
+use path_suffix_decode::DecodedSizes;
 
-// Whether two paths share `k` leading components and no more.
+// Whether two paths share no more than their first `k` components, which are the same: the one after them decides.
 fn share_only<'a>(path: &'a [u8], other: &'a [u8], k: usize) -> bool
-    ensures { λ r. ⌜ r ≡ (sized (pathIn (now (path .entry))) && sized (pathIn (now (other .entry))) && eqb (shared (componentsOf (pathIn (now (path .entry)))) (componentsOf (pathIn (now (other .entry))))) k) ⌝ }
+    requires { ⌜ Alike (pathIn (now path)) (pathIn (now other)) k ⌝ }
+    ensures { λ r. ⌜ r ≡ eqb (shared (componentsOf (pathIn (now (path .entry)))) (componentsOf (pathIn (now (other .entry))))) k ⌝ }
 {
-    let common = path::lent::longest_common_prefix(path, other);
-    let ComponentCount::Components(n) = common else {
-        return false;
-    };
-    n == k
+    if path::lent::count(path) <= k {
+        return true;
+    }
+    if path::lent::count(other) <= k {
+        return true;
+    }
+    let len = path::lent::component_len(path, k);
+    if len != path::lent::component_len(other, k) {
+        return true;
+    }
+    let at = path::lent::span(path, 0, k);
+    let end = at + len;
+    let bytes = path::lent::bytes(path);
+    let other_bytes = path::lent::bytes(other);
+    !byte_codec::same_bytes(&bytes[at..end], &other_bytes[at..end])
 }
 
 // Reads what follows the shared count and the sizes: the components after the reference's first `k`, from the message's first byte on.
@@ -42,7 +53,7 @@ fn decode_joined(
     requires { ⌜ Leads (pathIn (now reference)) k ⌝ }
     ensures { λ r. ⌜ Gives (pathFrom []) r (pathIn (now (out .exit))) (readJoined canonic (pathIn (now (reference .entry))) k total count (now (message .entry))) ⌝ }
 {
-    let answer = path_codec::lent_decode::decode_after(
+    let answer = path_suffix_decode::decode_after(
         message,
         canonic,
         total,
@@ -65,15 +76,64 @@ fn decode_joined(
     Decoded::TheirFault
 }
 
-// Reads a path against a reference.
-pub fn relative_decode(
+// Whether a reference is a prefix of a path that was read against it, `k` components told to be shared. The paths are looked at only where these are
+// not all, and leniently.
+fn reaches<'a>(reference: &'a [u8], path: &'a [u8], canonic: bool, k: usize) -> bool
+    requires { ⌜ Told canonic (pathIn (now reference)) (pathIn (now path)) k ⌝ }
+    ensures { λ r. ⌜ r ≡ isPrefix (componentsOf (pathIn (now (reference .entry)))) (componentsOf (pathIn (now (path .entry)))) ⌝ }
+{
+    if path::lent::count(reference) == k {
+        return true;
+    }
+    if canonic {
+        return false;
+    }
+    let prefix = path::lent::is_prefix_of(reference, path);
+    let Compared::Yes = prefix else {
+        return false;
+    };
+    true
+}
+
+// Reads as `decode_joined` does; where asked, only a path `within` the reference, which is a prefix of it then.
+fn decode_tested(
+    message: &[u8],
+    within: bool,
+    canonic: bool,
+    k: usize,
+    total: u64,
+    count: u64,
+    reference: &[u8],
+    out: &mut [u8; 641],
+) -> Decoded
+    requires { ⌜ Leads (pathIn (now reference)) k ⌝ }
+    ensures { λ r. ⌜ Gives (pathFrom []) r (pathIn (now (out .exit))) (readTested within canonic (pathIn (now (reference .entry))) k total count (now (message .entry))) ⌝ }
+{
+    let answer = decode_joined(message, canonic, k, total, count, reference, out);
+    if !within {
+        return answer;
+    }
+    let Decoded::Consumed(_) = answer else {
+        return answer;
+    };
+    let prefixed = reaches(reference, out, canonic, k);
+    if prefixed {
+        return answer;
+    }
+    path::lent::clear(out);
+    Decoded::TheirFault
+}
+
+// Reads a path against a reference, or within it.
+fn decode_by(
     message: &[u8],
     start: usize,
+    within: bool,
     canonic: bool,
     reference: &[u8],
     out: &mut [u8; 641],
 ) -> Decoded
-    ensures { λ r. ⌜ Gives (pathFrom []) r (pathIn (now (out .exit))) (readAgainstBy sized canonic (pathIn (now (reference .entry))) (drop start (now (message .entry)))) ⌝ }
+    ensures { λ r. ⌜ Gives (pathFrom []) r (pathIn (now (out .exit))) (readTestedBy sized within canonic (pathIn (now (reference .entry))) (drop start (now (message .entry)))) ⌝ }
 {
     path::lent::clear(out);
     let fits = path::lent::sized(reference);
@@ -85,27 +145,54 @@ pub fn relative_decode(
         return compact_u64::refusal(number);
     };
     let first = start + a;
-    let sizes = path_codec::suffix_decode::decode_sizes(message, first, canonic);
+    let sizes = path_suffix_decode::decode_sizes(message, first, canonic);
     let DecodedSizes::Sizes(total, n, b) = sizes else {
-        return path_codec::suffix_decode::sizes_refusal(sizes);
+        return path_suffix_decode::sizes_refusal(sizes);
     };
     if (path::lent::count(reference) as u64) < shared {
         return Decoded::TheirFault;
     }
     let at = first + b;
     let k = shared as usize;
-    let answer = decode_joined(&message[at..], canonic, k, total, n, reference, out);
+    let rest = &message[at..];
+    let answer = decode_tested(rest, within, canonic, k, total, n, reference, out);
     let Decoded::Consumed(m) = answer else {
         return answer;
     };
     Decoded::Consumed(a + (b + m))
 }
 
+// Reads a path against a reference.
+pub fn relative_decode(
+    message: &[u8],
+    start: usize,
+    canonic: bool,
+    reference: &[u8],
+    out: &mut [u8; 641],
+) -> Decoded
+    ensures { λ r. ⌜ Gives (pathFrom []) r (pathIn (now (out .exit))) (readAgainstBy sized canonic (pathIn (now (reference .entry))) (drop start (now (message .entry)))) ⌝ }
+{
+    decode_by(message, start, false, canonic, reference, out)
+}
+
+// Reads a path against a reference that is a prefix of it.
+pub fn decode_path_within(
+    message: &[u8],
+    start: usize,
+    canonic: bool,
+    reference: &[u8],
+    out: &mut [u8; 641],
+) -> Decoded
+    ensures { λ r. ⌜ Gives (pathFrom []) r (pathIn (now (out .exit))) (readWithinBy sized canonic (pathIn (now (reference .entry))) (drop start (now (message .entry)))) ⌝ }
+{
+    decode_by(message, start, true, canonic, reference, out)
+}
+
 // A suffix that does not fit after its prefix: refused as a plain path is, else since the whole passes the limits.
 fn decode_outside(message: &[u8], start: usize, canonic: bool, out: &mut [u8; 641]) -> Decoded
     ensures { λ r. ⌜ Gives (pathFrom []) r (pathIn (now (out .exit))) (checked (λ p. false) (readPath canonic) (drop start (now (message .entry)))) ⌝ }
 {
-    let answer = path_codec::lent_decode::decode(message, start, canonic, out);
+    let answer = path_codec::decode(message, start, canonic, out);
     let Decoded::Consumed(_) = answer else {
         return answer;
     };
@@ -128,9 +215,9 @@ pub fn decode_path_extends_path(
     if !fits {
         return Decoded::Malformed;
     }
-    let sizes = path_codec::suffix_decode::decode_sizes(message, start, canonic);
+    let sizes = path_suffix_decode::decode_sizes(message, start, canonic);
     let DecodedSizes::Sizes(total, more, n) = sizes else {
-        return path_codec::suffix_decode::sizes_refusal(sizes);
+        return path_suffix_decode::sizes_refusal(sizes);
     };
     let count = path::lent::count(extends);
     let used = path::lent::span(extends, 0, count);
@@ -142,15 +229,7 @@ pub fn decode_path_extends_path(
     }
     let at = start + n;
     let rest = &message[at..];
-    let answer = path_codec::lent_decode::decode_after(
-        rest,
-        canonic,
-        total,
-        more,
-        extends,
-        count,
-        out,
-    );
+    let answer = path_suffix_decode::decode_after(rest, canonic, total, more, extends, count, out);
     let Decoded::Consumed(m) = answer else {
         return answer;
     };

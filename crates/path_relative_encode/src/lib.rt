@@ -1,76 +1,53 @@
 // Writing paths against a path, and extensions of a path: docs/FORMAT.md, "Paths". A port of path/codec.rs.
 ghost use mathlib.Core.Path.{_≡_};
-ghost use mathlib.Core.Bool.{_&&_};
-ghost use lib.ListN.{length};
 ghost use Rattle.codec.specs.Answers.{outcomeOf};
-ghost use Rattle.codec.specs.Format.{writeAnswer, writeBuffer, lengthAnswer};
-ghost use Rattle.path.specs.Record.{wellFormed};
+ghost use Rattle.codec.specs.Format.{lengthAnswer, WritesInto};
+ghost use Rattle.path.specs.Flat.{pathIn};
 ghost use Rattle.path_relative.specs.Records.{againstPath, extendsPath};
 use codec::Encoded;
-use path::Path;
 
-pub mod lent;
 pub mod sized;
 
-// Whether a reference and a path are well formed.
-fn both_formed(reference: Path, path: Path) -> bool
-    ensures { λ r. ⌜ r ≡ (wellFormed reference && wellFormed path) ⌝ }
-{
-    let well = reference.well_formed();
-    if !well {
-        return false;
-    }
-    path.well_formed()
-}
-
 // How many bytes a path against a reference takes.
-pub fn relative_len_of_encoding(path: Path, reference: Path) -> Encoded
-    ensures { λ r. ⌜ outcomeOf r ≡ lengthAnswer (againstPath reference) path ⌝ }
+pub fn relative_len_of_encoding<'a>(path: &'a [u8], reference: &'a [u8]) -> Encoded
+    ensures { λ r. ⌜ outcomeOf r ≡ lengthAnswer (againstPath (pathIn (now (reference .entry)))) (pathIn (now (path .entry))) ⌝ }
 {
-    let formed = both_formed(reference, path);
+    let formed = path::lent::both_formed(reference, path);
     if !formed {
         return Encoded::Malformed;
     }
-    let flat = path.flat();
-    let of = reference.flat();
-    sized::relative_len_of_encoding(&flat, &of)
+    sized::relative_len_of_encoding(path, reference)
 }
 
 // Writes a path against a reference.
-pub fn relative_encode(buffer: &mut [u8], path: Path, reference: Path) -> Encoded
-    ensures { λ r. ⌜ (outcomeOf r ≡ writeAnswer (againstPath reference) path (length (now (buffer .entry)))) × (now (buffer .exit) ≡ writeBuffer (againstPath reference) path (now (buffer .entry))) ⌝ }
+pub fn relative_encode<'a>(buffer: &mut [u8], path: &'a [u8], reference: &'a [u8]) -> Encoded
+    ensures { λ r. ⌜ WritesInto (againstPath (pathIn (now (reference .entry)))) (pathIn (now (path .entry))) r (now (buffer .entry)) (now (buffer .exit)) ⌝ }
 {
-    let formed = both_formed(reference, path);
+    let formed = path::lent::both_formed(reference, path);
     if !formed {
         return Encoded::Malformed;
     }
-    let flat = path.flat();
-    let of = reference.flat();
-    sized::relative_encode(buffer, &flat, &of)
+    sized::relative_encode(buffer, path, reference)
 }
 
 // How many bytes a path as an extension takes.
-pub fn path_extends_path_encoding_len(path: Path, extends: Path) -> Encoded
-    ensures { λ r. ⌜ outcomeOf r ≡ lengthAnswer (extendsPath extends) path ⌝ }
+pub fn path_extends_path_encoding_len<'a>(path: &'a [u8], extends: &'a [u8]) -> Encoded
+    ensures { λ r. ⌜ outcomeOf r ≡ lengthAnswer (extendsPath (pathIn (now (extends .entry)))) (pathIn (now (path .entry))) ⌝ }
 {
-    let formed = both_formed(extends, path);
+    let formed = path::lent::both_formed(extends, path);
     if !formed {
         return Encoded::Malformed;
     }
-    let flat = path.flat();
-    let of = extends.flat();
-    sized::path_extends_path_encoding_len(&flat, &of)
+    sized::path_extends_path_encoding_len(path, extends)
 }
 
 // Writes a path as an extension.
-pub fn encode_path_extends_path(buffer: &mut [u8], path: Path, extends: Path) -> Encoded
-    ensures { λ r. ⌜ (outcomeOf r ≡ writeAnswer (extendsPath extends) path (length (now (buffer .entry)))) × (now (buffer .exit) ≡ writeBuffer (extendsPath extends) path (now (buffer .entry))) ⌝ }
+pub fn encode_path_extends_path<'a>(buffer: &mut [u8], path: &'a [u8], extends: &'a [u8]) -> Encoded
+    ensures { λ r. ⌜ WritesInto (extendsPath (pathIn (now (extends .entry)))) (pathIn (now (path .entry))) r (now (buffer .entry)) (now (buffer .exit)) ⌝ }
 {
-    let formed = both_formed(extends, path);
+    let formed = path::lent::both_formed(extends, path);
     if !formed {
         return Encoded::Malformed;
     }
-    let flat = path.flat();
-    let of = extends.flat();
-    sized::encode_path_extends_path(buffer, &flat, &of)
+    sized::encode_path_extends_path(buffer, path, extends)
 }

@@ -8,9 +8,8 @@ use Rattle.codec.specs.Format.{Format, verdictBy}
 use Rattle.codec.specs.Reader.{Reader, give, someBytes, andThen, guard, mapped}
 use Rattle.codec.specs.Header.{readHeader}
 use Rattle.compact_u64.specs.Number.{minTag, numberBytes, readNumber, standaloneBytes, readStandalone}
-use Rattle.path.specs.declared.Path.{Path}
+use Rattle.path.specs.Record.{Path, componentsOf}
 use Rattle.path.specs.Limits.{maxComponentLength, totalOf}
-use Rattle.path.specs.Record.{componentsOf}
 use Rattle.path_suffix.specs.declared.Tags.{Tags}
 use Rattle.path_suffix.specs.Header.{unpackTags, packTags}
 
@@ -79,7 +78,7 @@ readSuffix canonic within =
     guard (within (h .total) (h .count)) (
     readComponents canonic (h .count) 0 (h .total)))
 
--- ---- as the code holds paths
+-- ---- on records
 
 -- the suffix of a path from its k-th component on: 5 unless the record passes the test, then 3 where the path has fewer components
 abbrev pub suffixBy : (Path → Bool) → ℕ → Format Path

@@ -1,9 +1,8 @@
 -- The components of a record from the i-th on, as they are written.
 use Rattle.codec.proofs.Prelude.{_≡_, refl, sym, ap, _∙_, List, [], _++_, ℕ, suc, _+_, _-_, _≤_, _<_, arith, length, take, drop, length-append, drop-of-length-le}
 use Rattle.compact_u64.specs.Number.{standaloneBytes}
-use Rattle.path.specs.declared.Path.{Path}
+use Rattle.path.specs.Record.{Path, sumOf, componentsOf, lengthAt}
 use Rattle.path.specs.Limits.{totalOf}
-use Rattle.path.specs.Record.{sumOf, componentsOf, lengthAt}
 use Rattle.path.specs.Flat.{pathIn, lent}
 use Rattle.path.proofs.Components.{Formed, bytesAt, bytes-at-long, count-is, rest-count, rest-small, component}
 use Rattle.path.proofs.Records.{lent-known, span-rest}

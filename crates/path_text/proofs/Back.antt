@@ -6,11 +6,11 @@ use Rattle.codec.specs.Bytes.{sameBytes}
 use Rattle.text.specs.Parts.{parts}
 use Rattle.text.specs.Hex.{unhex, hexText}
 use Rattle.text.proofs.Back.{hex-back}
-use Rattle.path.specs.declared.Path.{Path}
+use Rattle.path.specs.Record.{Path, componentsOf, pathFrom, wellFormed, TypedPath}
 use Rattle.path.specs.Limits.{Component, PathOk}
-use Rattle.path.specs.Record.{componentsOf, pathFrom, wellFormed, TypedPath}
 use Rattle.path.proofs.Limits.{ok-path}
 use Rattle.path.proofs.Record.{apart, well-formed}
+use Rattle.path.proofs.Components.{parts-formed, count-is, total-small}
 use Rattle.path_text.specs.PathText.{tailText, componentsText, pathText, componentsTextOf, pathTextOf, readField, allHex, readTexts, readComponentsText, readPathText}
 use Rattle.path_text.specs.Laws.{PathTextLaws}
 use Rattle.path_text.proofs.Reading.{field-ok}
@@ -77,20 +77,20 @@ record-back p t e =
     let a = apart p t (well-formed p e) in
     rw e (path-back (componentsOf p) (a .ok) ∙ ap readField (a .made))
 
-components-few : (p : Path) → TypedPath p → length (componentsTextOf p) ≤ 1219
+components-few : (p : Path) → length (componentsTextOf p) ≤ 1219
 unfolding componentsTextOf
-components-few p t = by-cases (wellFormed p) refl
+components-few p = by-cases (wellFormed p) refl
   where
     by-cases : (b : Bool) → wellFormed p ≡ b → length (cond b (componentsText (componentsOf p)) []) ≤ 1219
-    by-cases true e = let ok = apart p t (well-formed p e) .ok in printing.components-few (componentsOf p) (ok .count) (ok .total)
+    by-cases true e = let f = parts-formed e in printing.components-few (componentsOf p) (omega (arith, count-is p f, f .well .count)) (total-small p f)
     by-cases false e = omega arith
 
-path-few : (p : Path) → TypedPath p → length (pathTextOf p) ≤ 1219
+path-few : (p : Path) → length (pathTextOf p) ≤ 1219
 unfolding pathTextOf
-path-few p t = by-cases (wellFormed p) refl
+path-few p = by-cases (wellFormed p) refl
   where
     by-cases : (b : Bool) → wellFormed p ≡ b → length (cond b (pathText (componentsOf p)) []) ≤ 1219
-    by-cases true e = let ok = apart p t (well-formed p e) .ok in printing.path-few (componentsOf p) (ok .count) (ok .total)
+    by-cases true e = let f = parts-formed e in printing.path-few (componentsOf p) (omega (arith, count-is p f, f .well .count)) (total-small p f)
     by-cases false e = omega arith
 
 pub path-text-laws : PathTextLaws

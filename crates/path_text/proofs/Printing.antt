@@ -1,14 +1,15 @@
 -- Laws of printing components one after another, and how long the text is.
-use Rattle.codec.proofs.Prelude.{_≡_, refl, sym, List, [], _∷_, _++_, Bool, true, false, cond, ℕ, suc, _+_, _-_, _*_, _≤_, _<_, arith, leb, length, take, drop, length-append, drop-of-length-le, take-at}
+use Rattle.codec.proofs.Prelude.{_≡_, refl, sym, _∙_, List, [], _∷_, _++_, Bool, true, false, cond, ℕ, suc, _+_, _-_, _*_, _≤_, _<_, arith, leb, length, take, drop, length-append, drop-of-length-le, take-at}
 use Rattle.codec.specs.Format.{over}
 use Rattle.text.specs.Hex.{hexText}
 use Rattle.text.specs.Buffer.{overAt, putAt, placeAfter, Wrote}
 use Rattle.text.proofs.HexSteps.{hexText-long}
 use Rattle.text.proofs.Buffer.{overAt-none, wrote-first, wrote-next, wrote-long, wrote-rest}
-use Rattle.path.specs.declared.Path.{Path}
+use Rattle.path.specs.Record.{Path, componentsOf, wellFormed}
 use Rattle.path.specs.Limits.{totalOf}
-use Rattle.path.specs.Record.{componentsOf, wellFormed, TypedPath}
-use Rattle.path.proofs.Components.{Formed, formed, bytesAt, count-is, component}
+use Rattle.path.proofs.Components.{Formed, parts-formed, bytesAt, count-is, component}
+use Rattle.path.specs.Flat.{pathIn, lent}
+use Rattle.path.proofs.Records.{lent-known}
 use Rattle.path_text.specs.PathText.{tailText, componentsText, pathText, componentsTextOf, pathTextOf}
 
 -- ---- how long
@@ -75,7 +76,7 @@ part-text (b ∷ t) l =
     let e : suc (length t) - 1 ≡ length t = omega arith in
     rw e (take-at t _ (length t) refl)
 
-pub no-length : (t : List ℕ) → length t ≡ 0 → t ≡ []
+pub no-length : {A : Type 0} (t : List A) → length t ≡ 0 → t ≡ []
 no-length [] h = refl
 no-length (b ∷ t) h = absurd (omega arith)
 
@@ -105,18 +106,23 @@ module _ (p : Path) where
   unfolding componentsTextOf
   well-components e = rw e (after-first (componentsOf p))
 
-  pub no-components : wellFormed p ≡ true → p .count ≡ 0 → 45 ∷ [] ≡ pathTextOf p
-  unfolding pathTextOf pathText
-  no-components e n = rw (e, n)
+-- by the count of a lent record
+module _ (s : List ℕ) (n : ℕ) (count : n ≡ lent 0 (λ p. p .count) s) where
+  counted : wellFormed (pathIn s) ≡ true → n ≡ length (componentsOf (pathIn s))
+  counted e = let f = parts-formed e in count ∙ lent-known s f 0 (λ p. p .count) ∙ sym (count-is (pathIn s) f)
 
-  pub some-components : TypedPath p → (p .count ≡ 0 → ⊥) → componentsTextOf p ≡ pathTextOf p
+  pub no-components : wellFormed (pathIn s) ≡ true → n ≡ 0 → 45 ∷ [] ≡ pathTextOf (pathIn s)
+  unfolding pathTextOf pathText
+  no-components e z = rw (e, no-length (componentsOf (pathIn s)) (sym (counted e) ∙ z))
+
+  pub some-components : (n ≡ 0 → ⊥) → componentsTextOf (pathIn s) ≡ pathTextOf (pathIn s)
   unfolding componentsTextOf pathTextOf pathText
-  some-components t n = by-cases (wellFormed p) refl
+  some-components z = by-cases (wellFormed (pathIn s)) refl
     where
-      some : (cs : List (List ℕ)) → length cs ≡ p .count → componentsText cs ≡ pathText cs
-      some [] e = absurd (n (sym e))
+      some : (cs : List (List ℕ)) → n ≡ length cs → componentsText cs ≡ pathText cs
+      some [] e = absurd (z e)
       some (c ∷ cs) e = refl
 
-      by-cases : (b : Bool) → wellFormed p ≡ b → cond b (componentsText (componentsOf p)) [] ≡ cond b (pathText (componentsOf p)) []
-      by-cases true e = some (componentsOf p) (count-is p (formed t e))
+      by-cases : (b : Bool) → wellFormed (pathIn s) ≡ b → cond b (componentsText (componentsOf (pathIn s))) [] ≡ cond b (pathText (componentsOf (pathIn s))) []
+      by-cases true e = some (componentsOf (pathIn s)) (counted e)
       by-cases false e = refl

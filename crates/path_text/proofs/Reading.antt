@@ -1,5 +1,5 @@
 -- Laws of reading components one after another.
-use Rattle.codec.proofs.Prelude.{_≡_, refl, sym, ap, _∙_, List, [], _∷_, _++_, map, append-assoc, Bool, true, false, cond, ⊎-elim, ℕ, _≤_, OneOf, tagOf, arith, leb, ltb, leb-true, le-leb, lt-leb, ltb-true, ltb-false, length, take, length-append, take-all}
+use Rattle.codec.proofs.Prelude.{_≡_, refl, sym, ap, _∙_, List, [], _∷_, _++_, map, append-assoc, Bool, true, false, cond, ⊎-elim, ℕ, _≤_, _&&_, OneOf, tagOf, arith, leb, ltb, leb-true, le-leb, lt-leb, ltb-true, ltb-false, length, take, drop, length-append, take-all}
 use Rattle.text.specs.Parts.{before, parts}
 use Rattle.text.specs.Hex.{isHex, unhex}
 use Rattle.text.proofs.Parts.{parts-last, parts-more}
@@ -9,11 +9,14 @@ use Rattle.path.specs.declared.Appended.the-variants as appended
 use Rattle.path.specs.declared.Growth.{Growth}
 use Rattle.path.specs.Limits.{totalOf, limits, allShort, pathOk}
 use Rattle.path.specs.Record.{pathFrom}
-use Rattle.path.specs.Builder.{builderFrom, fitsAfter, growth, grown, pushComponent}
+use Rattle.path.specs.Builder.{built, builtFrom, fitsAfter, appendedVerdict, Appends}
 use Rattle.codec.proofs.Tests.{and-left, and-right}
 use Rattle.path.proofs.Limits.{total-append, total-snoc, limits-total, limits-count, limits-of}
-use Rattle.path.proofs.Builder.{Fitting, fitting, pushed, built-count, built-total}
-use Rattle.path_text.specs.PathText.{readField, refusedField, allHex, fieldOf, readTexts, pushText}
+use Rattle.codec.specs.Format.{allowed}
+use Rattle.codec.proofs.Lawful.{verdict-allowed}
+use Rattle.path.proofs.Builder.{Fitting, fitting, fits-after}
+use Rattle.path.proofs.Growing.{built-count, built-total, appends-built}
+use Rattle.path_text.specs.PathText.{readField, refusedField, allHex, fieldOf, readTexts, readComponentsText, AppendsText}
 
 -- ---- the limits, one component more
 short-snoc : (cs : List (List ℕ)) (c : List ℕ) → allShort cs ≡ true → length c ≤ 300 → allShort (cs ++ (c ∷ [])) ≡ true
@@ -96,57 +99,45 @@ module _ (cs : List (List ℕ)) (t : List ℕ) where
             let q : r ≡ t = sym (e ∙ take-all (length (before 47 r)) r l) in
             rw (parts-last 47 r l, q) (texts-stop [])
 
--- ---- a builder that is to grow by a text
-push-by : (b : PathBuilder) (c : List ℕ)
-    → pushComponent b c ≡ cond (fitsAfter (b .total) (b .path .count) (length c)) (growth appended.Grown (grown b c)) (growth appended.Outside b)
-unfolding pushComponent
-push-by b c = refl
-
-module _ (b : PathBuilder) (t : List ℕ) where
-  -- no hex, or too long
-  pub push-refused : cond (isHex t) (ltb 300 (length (unhex t))) true ≡ true → growth appended.Outside b ≡ pushText b t
-  unfolding pushText pushComponent fitsAfter
-  push-refused h = by-cases (isHex t) h
-    where
-      by-cases : (d : Bool) → cond d (ltb 300 (length (unhex t))) true ≡ true → growth appended.Outside b ≡ cond d (pushComponent b (unhex t)) (growth appended.Outside b)
-      by-cases true h = rw (lt-leb (length (unhex t)) 300 (ltb-true 300 (length (unhex t)) h))
-      by-cases false h = refl
-
-  pub push-hex : isHex t ≡ true → pushComponent b (unhex t) ≡ pushText b t
-  unfolding pushText
-  push-hex h = rw h
-
--- ---- and what the answer says
-pub record Took (cs : List (List ℕ)) (t : List ℕ) (g : Growth) : Type 0 where
+-- ---- a builder that is to grow by a text: what the answer says
+pub record Took (cs : List (List ℕ)) (t : List ℕ) (g : Growth) (left : List ℕ) : Type 0 where
   pub hex : isHex t ≡ true
   pub fits : Fitting (totalOf cs) (length cs) (length (unhex t))
-  pub builder : g .builder ≡ builderFrom (cs ++ (unhex t ∷ []))
+  pub made : built (g .builder) left ≡ builtFrom (cs ++ (unhex t ∷ []))
 
-module _ (b : PathBuilder) (cs : List (List ℕ)) (e : b ≡ builderFrom cs) (t : List ℕ) (g : Growth) (made : g ≡ pushText b t) where
-  pub took : g .answer ≡ appended.Grown → Took cs t g
-  unfolding pushText
-  took k = outer (isHex t) refl made
-    where
-      no : {A : Type 0} → g .answer ≡ appended.Outside → A
-      no o = absurd (let z : _≡_ {A = ℕ} 0 1 = cc in omega arith)
+-- no hex, or too long
+pub push-refused : (b : PathBuilder) (t s : List ℕ) → cond (isHex t) (ltb 300 (length (unhex t))) true ≡ true → AppendsText b t s (record { answer = appended.Outside; builder = b }) s
+unfolding fitsAfter
+push-refused b t s h = rw (barred-so (isHex t) h) (record { answer = refl; is = refl })
+  where
+    barred-so : (d : Bool) → cond d (ltb 300 (length (unhex t))) true ≡ true → (d && fitsAfter (b .total) (b .count) (length (unhex t))) ≡ false
+    barred-so true h = rw (lt-leb (length (unhex t)) 300 (ltb-true 300 (length (unhex t)) h))
+    barred-so false h = refl
 
-      inner : (d : Bool) → fitsAfter (b .total) (b .path .count) (length (unhex t)) ≡ d → isHex t ≡ true → g ≡ pushComponent b (unhex t)
-          → g ≡ cond d (growth appended.Grown (grown b (unhex t))) (growth appended.Outside b) → Took cs t g
-      inner true f h q p =
-          let r = fitting (b .total) (b .path .count) (length (unhex t)) f in
-          let fit : Fitting (totalOf cs) (length cs)
-          (length (unhex t)) = record { short = r .short; few = omega (arith, built-count b cs e, r .few); fits = omega (arith, built-total b cs e, r .fits) } in
-          record { hex = h; fits = fit; builder = ap (λ (x : Growth). x .builder) (q ∙ pushed b cs e (unhex t) fit) }
-      inner false f h q p = no (ap (λ (x : Growth). x .answer) p)
+not-grown : (x : Appended) → OneOf (1 ∷ 2 ∷ []) (tagOf Rattle.path.proofs.Appended.the-type x) → appendedVerdict x ≡ allowed → ⊥
+not-grown appended.Grown k e = ⊎-elim (λ z. omega arith) (λ z. omega arith) k
+not-grown appended.Outside k e = let z : _≡_ {A = ℕ} 0 1 = cc in omega arith
+not-grown appended.Malformed k e = let z : _≡_ {A = ℕ} 0 1 = cc in omega arith
 
-      outer : (d : Bool) → isHex t ≡ d → g ≡ cond d (pushComponent b (unhex t)) (growth appended.Outside b) → Took cs t g
-      outer true h q = inner (fitsAfter (b .total) (b .path .count) (length (unhex t))) refl h q (q ∙ push-by b (unhex t))
-      outer false h q = no (ap (λ (x : Growth). x .answer) q)
+module _ {b : PathBuilder} {s : List ℕ} (cs : List (List ℕ)) (e : built b s ≡ builtFrom cs) (t : List ℕ) {g : Growth} {left : List ℕ} (a : AppendsText b t s g left) where
+  pub took : g .answer ≡ appended.Grown → Took cs t g left
+  took k =
+      let v = verdict-allowed true (isHex t && fitsAfter (b .total) (b .count) (length (unhex t))) (sym (sym (ap appendedVerdict k) ∙ a .answer)) in
+      let h = and-left (isHex t) (fitsAfter (b .total) (b .count) (length (unhex t))) (v .1) in
+      let r = fitting (b .total) (b .count) (length (unhex t)) (and-right (isHex t) _ (v .1)) in
+      let fit : Fitting (totalOf cs) (length cs) (length (unhex t)) = record { short = r .short; few = omega (arith, built-count cs e, r .few); fits = omega (arith, built-total cs e, r .fits) } in
+      let grows : Appends b (unhex t) s g left = rw h at a in
+      record { hex = h; fits = fit; made = appends-built cs e (unhex t) grows (fit .short) (fit .few) (fit .fits) }
 
   pub not-took : OneOf (1 ∷ 2 ∷ []) (tagOf Rattle.path.proofs.Appended.the-type (g .answer)) → isHex t ≡ true → Fitting (totalOf cs) (length cs) (length (unhex t)) → ⊥
-  unfolding pushText
-  not-took k h fit =
-      let q : g ≡ growth appended.Grown (builderFrom (cs ++ (unhex t ∷ []))) = made ∙ rw h (pushed b cs e (unhex t) fit) in
-      let a : g .answer ≡ appended.Grown = ap (λ (x : Growth). x .answer) q in
-      let n = rw a at k in
-      ⊎-elim (λ z. omega arith) (λ z. omega arith) n
+  not-took k h f =
+      let fits = fits-after (b .total) (b .count) (length (unhex t)) (f .short) (omega (arith, built-count cs e, f .few)) (omega (arith, built-total cs e, f .fits)) in
+      not-grown (g .answer) k (rw (h, fits) at (a .answer))
+
+-- ---- the invariant: the builder has the components before `at`, and reading the others into it reads all
+pub record Held (s : List ℕ) (flat : List ℕ) (b : PathBuilder) (at : ℕ) : Type 0 where
+  pub done : List (List ℕ)
+  pub inside : at ≤ length s
+  pub made : built b flat ≡ builtFrom done
+  pub ok : pathOk done ≡ true
+  pub still : readComponentsText s ≡ readTexts done (parts 47 (drop at s))

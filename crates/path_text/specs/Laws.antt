@@ -4,9 +4,8 @@ use mathlib.Core.List.{List, _∷_}
 use mathlib.Core.Bool.{true}
 use Prim.Native.Nat.{ℕ, _≤_}
 use lib.ListN.{length}
-use Rattle.path.specs.declared.Path.{Path}
+use Rattle.path.specs.Record.{Path, pathFrom, wellFormed, TypedPath}
 use Rattle.path.specs.Limits.{PathOk}
-use Rattle.path.specs.Record.{pathFrom, wellFormed, TypedPath}
 use Rattle.path_text.specs.PathText.{componentsText, pathText, pathTextOf, componentsTextOf, readField, readComponentsText, readPathText}
 
 pub record PathTextLaws : Type 0 where
@@ -15,5 +14,5 @@ pub record PathTextLaws : Type 0 where
   pub path : (cs : List (List ℕ)) → PathOk cs → readPathText (pathText cs) ≡ readField (pathFrom cs)
   pub record-back : (p : Path) → TypedPath p → wellFormed p ≡ true → readPathText (pathTextOf p) ≡ readField p
   -- how long the text of a record is at most
-  pub components-few : (p : Path) → TypedPath p → length (componentsTextOf p) ≤ 1219
-  pub path-few : (p : Path) → TypedPath p → length (pathTextOf p) ≤ 1219
+  pub components-few : (p : Path) → length (componentsTextOf p) ≤ 1219
+  pub path-few : (p : Path) → length (pathTextOf p) ≤ 1219

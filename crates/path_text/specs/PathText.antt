@@ -1,17 +1,18 @@
 -- A path as text: its components in hex, parted by `/` (47); `-` (45) is the path of no components.
 use mathlib.Core.List.{List, [], _∷_, _++_, map}
-use mathlib.Core.Bool.{Bool, true, false, cond}
+use mathlib.Core.Bool.{Bool, true, false, cond, _&&_}
 use Prim.Native.Nat.{ℕ}
+use lib.ListN.{length}
+use Rattle.codec.specs.Format.{verdictBy}
 use Rattle.codec.specs.Bytes.{sameBytes}
 use Rattle.text.specs.Parts.{parts}
 use Rattle.text.specs.Hex.{isHex, unhex, hexText}
-use Rattle.path.specs.declared.Path.{Path}
+use Rattle.path.specs.Record.{Path, componentsOf, pathFrom, wellFormed}
 use Rattle.path.specs.declared.PathBuilder.{PathBuilder}
-use Rattle.path.specs.declared.Appended.the-variants as appended
 use Rattle.path.specs.declared.Growth.{Growth}
 use Rattle.path.specs.Limits.{pathOk}
-use Rattle.path.specs.Record.{componentsOf, pathFrom, wellFormed}
-use Rattle.path.specs.Builder.{growth, pushComponent}
+use Rattle.path.specs.Flat.{pathFlat}
+use Rattle.path.specs.Builder.{built, fitsAfter, builtMore, Grows}
 use Rattle.path_text.specs.declared.Found.the-variants as found
 use Rattle.path_text.specs.declared.PathField.{PathField}
 
@@ -42,10 +43,10 @@ pathTextOf p = cond (wellFormed p) (pathText (componentsOf p)) []
 -- ---- reading
 
 abbrev pub readField : Path → PathField
-readField p = record { found = found.Read; path = p }
+readField p = record { found = found.Read; path = record { flat = pathFlat p } }
 
 abbrev pub refusedField : PathField
-refusedField = record { found = found.Refused; path = pathFrom [] }
+refusedField = record { found = found.Refused; path = record { flat = pathFlat (pathFrom []) } }
 
 abbrev pub allHex : List (List ℕ) → Bool
 allHex [] = true
@@ -68,5 +69,6 @@ unfoldable pub readPathText : List ℕ → PathField
 readPathText s = cond (sameBytes s (45 ∷ [])) (readField (pathFrom [])) (readComponentsText s)
 
 -- a builder grown by a component's text: what is no hex does not fit
-unfoldable pub pushText : PathBuilder → List ℕ → Growth
-pushText b t = cond (isHex t) (pushComponent b (unhex t)) (growth appended.Outside b)
+abbrev pub AppendsText : PathBuilder → List ℕ → List ℕ → Growth → List ℕ → Type 0
+AppendsText b t s g left =
+    Grows (verdictBy true (isHex t && fitsAfter (b .total) (b .count) (length (unhex t)))) (builtMore b (unhex t) s) (built b s) g left

@@ -6,7 +6,8 @@ ghost use lib.ListN.{length};
 ghost use Rattle.codec.specs.Format.{over};
 ghost use Rattle.text.specs.Buffer.{putAt, placeAfter};
 ghost use Rattle.path.specs.Record.{componentsOf, wellFormed};
-ghost use Rattle.path_text.specs.PathText.{tailText, componentsTextOf, pathTextOf, refusedField, pushText, readComponentsText, readPathText};
+ghost use Rattle.path.specs.Flat.{pathIn};
+ghost use Rattle.path_text.specs.PathText.{tailText, componentsTextOf, pathTextOf, refusedField, AppendsText, readComponentsText, readPathText};
 use path::Appended;
 use path::Growth;
 use path::Path;
@@ -36,8 +37,8 @@ fn refuse() -> PathField
 }
 
 // One component more, from its text; what is no hex does not fit.
-fn push_text(builder: PathBuilder, t: &[u8]) -> Growth
-    ensures { λ r. ⌜ r ≡ pushText builder (now (t .entry)) ⌝ }
+fn push_text(builder: PathBuilder, t: &[u8], out: &mut [u8; 641]) -> Growth
+    ensures { λ r. ⌜ AppendsText builder (now (t .entry)) (now (out .entry)) r (now (out .exit)) ⌝ }
 {
     let mut bytes = [0u8; Path::MAX_COMPONENT_LENGTH];
     let got = text::read_hex(t, &mut bytes);
@@ -47,32 +48,31 @@ fn push_text(builder: PathBuilder, t: &[u8]) -> Growth
             builder: builder,
         };
     };
-    builder.push_component(&bytes[..n])
+    builder.append_component(out, &bytes[..n])
 }
 
 // Reads one or more components; no bytes are one component of no bytes.
 pub fn read_components(s: &[u8]) -> PathField
     ensures { λ r. ⌜ r ≡ readComponentsText (now (s .entry)) ⌝ }
 {
+    let mut flat = [0u8; path::lent::SIZE];
     let mut builder = PathBuilder::new();
     let mut at: usize = 0;
     loop {
         let rest = &s[at..];
         let k = text::find(rest, b'/');
-        let grown = push_text(builder, &rest[..k]);
+        let grown = push_text(builder, &rest[..k], &mut flat);
         let answer = grown.answer;
         let Appended::Grown = answer else {
             return refuse();
         };
-        let next = grown.builder;
         if k == rest.len() {
-            let path = next.path;
             return PathField {
                 found: Found::Read,
-                path: path,
+                path: Path { flat: flat },
             };
         }
-        builder = next;
+        builder = grown.builder;
         at += k + 1;
     }
 }
@@ -92,18 +92,18 @@ pub fn read_path(s: &[u8]) -> PathField
 }
 
 // Each component after a `/`, at the start of a buffer that has room for any; answers how many bytes that is.
-fn fill(path: Path, out: &mut [u8]) -> usize
-    requires { ⌜ (wellFormed path ≡ true) × (1220 ≤ length (now out)) ⌝ }
-    ensures { λ r. ⌜ (r ≡ length (tailText (componentsOf path))) × (now (out .exit) ≡ over (tailText (componentsOf path)) (now (out .entry))) × (r ≤ 1220) ⌝ }
+fn fill(path: &[u8], out: &mut [u8]) -> usize
+    requires { ⌜ (wellFormed (pathIn (now path)) ≡ true) × (1220 ≤ length (now out)) ⌝ }
+    ensures { λ r. ⌜ (r ≡ length (tailText (componentsOf (pathIn (now (path .entry)))))) × (now (out .exit) ≡ over (tailText (componentsOf (pathIn (now (path .entry))))) (now (out .entry))) × (r ≤ 1220) ⌝ }
 {
-    let n = path.count;
-    let bytes = path.bytes;
+    let n = path::lent::count(path);
+    let bytes = path::lent::bytes(path);
     let mut place: usize = 0;
     let mut from: usize = 0;
     let mut i: usize = 0;
     while i < n {
         let slash = text::put_bytes(out, place, b"/");
-        let to = from + path.component_len(i);
+        let to = from + path::lent::component_len(path, i);
         place = text::put_hex(out, slash, &bytes[from..to]);
         from = to;
         i += 1;
@@ -112,10 +112,10 @@ fn fill(path: Path, out: &mut [u8]) -> usize
 }
 
 // Puts the components of a path, as `text::put_bytes` does; nothing where there are none or the record is not well formed.
-pub fn put_components(out: &mut [u8], at: usize, path: Path) -> usize
-    ensures { λ r. ⌜ (r ≡ placeAfter at (componentsTextOf path) (now (out .entry))) × (now (out .exit) ≡ putAt at (componentsTextOf path) (now (out .entry))) ⌝ }
+pub fn put_components(out: &mut [u8], at: usize, path: &[u8]) -> usize
+    ensures { λ r. ⌜ (r ≡ placeAfter at (componentsTextOf (pathIn (now (path .entry)))) (now (out .entry))) × (now (out .exit) ≡ putAt at (componentsTextOf (pathIn (now (path .entry)))) (now (out .entry))) ⌝ }
 {
-    if !path.well_formed() {
+    if !path::lent::well_formed(path) {
         return at;
     }
     let mut texts = [0u8; 1220];
@@ -127,14 +127,13 @@ pub fn put_components(out: &mut [u8], at: usize, path: Path) -> usize
 }
 
 // Puts a path, as `text::put_bytes` does; nothing where the record is not well formed.
-pub fn put_path(out: &mut [u8], at: usize, path: Path) -> usize
-    ensures { λ r. ⌜ (r ≡ placeAfter at (pathTextOf path) (now (out .entry))) × (now (out .exit) ≡ putAt at (pathTextOf path) (now (out .entry))) ⌝ }
+pub fn put_path(out: &mut [u8], at: usize, path: &[u8]) -> usize
+    ensures { λ r. ⌜ (r ≡ placeAfter at (pathTextOf (pathIn (now (path .entry)))) (now (out .entry))) × (now (out .exit) ≡ putAt at (pathTextOf (pathIn (now (path .entry)))) (now (out .entry))) ⌝ }
 {
-    let n = path.count;
-    if n != 0 {
+    if path::lent::count(path) != 0 {
         return put_components(out, at, path);
     }
-    if !path.well_formed() {
+    if !path::lent::well_formed(path) {
         return at;
     }
     text::put_bytes(out, at, b"-")

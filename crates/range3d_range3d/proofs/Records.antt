@@ -5,8 +5,7 @@ use Rattle.codec.specs.Reads.{ReadsAs, ReadsBack}
 use Rattle.codec.proofs.Tests.{and-right}
 use Rattle.codec.proofs.Lawful.{verdict-allowed}
 use Rattle.codec.proofs.ReadsAs.{all-of, mapped-as}
-use Rattle.range_3d.specs.declared.Range3d.{Range3d}
-use Rattle.range_3d.specs.Record.{rangeOf, rangeFrom, wellFormedSubspaces, wellFormedPaths, wellFormedRange3d, TypedRange3d}
+use Rattle.range_3d.specs.Record.{Range3d, rangeOf, rangeFrom, wellFormedSubspaces, wellFormedPaths, wellFormedRange3d, TypedRange3d}
 use Rattle.range_3d.proofs.Record.{typed-ids, paths-ok, made-range}
 use Rattle.range3d_range3d.specs.Range.{rangeBytes}
 use Rattle.range3d_range3d.specs.Records.{againstRange, readAgainstRange}

@@ -5,11 +5,9 @@ use Rattle.codec.proofs.Lending.{put-over, over-then, to-end, put-end}
 use Rattle.path.specs.Record.{componentsOf, sized}
 use Rattle.path.specs.Answers.{said, unsaid}
 use Rattle.path_relative.specs.Records.{sharedBy}
-use Rattle.range_3d.specs.declared.PathRange.{PathRange}
-use Rattle.range_3d.specs.declared.Range3d.{Range3d}
+use Rattle.range_3d.specs.Record.{PathRange, Range3d, subspacesOf, pathsOf, headOf, wellFormedRange3d, sizedRange3d}
 use Rattle.range_3d.specs.declared.Range3dHead.{Range3dHead}
 use Rattle.range_3d.specs.Range3d.{openEnd}
-use Rattle.range_3d.specs.Record.{subspacesOf, pathsOf, headOf, wellFormedRange3d, sizedRange3d}
 use Rattle.range_3d.proofs.Record.{well-sized-range}
 use Rattle.range_subspaces.specs.Subspaces.{subspacesBytes}
 use Rattle.range_paths.specs.declared.MeasuredPaths.{MeasuredPaths}

@@ -1,3 +1,2 @@
 pub mod Range
 pub mod Records
-pub mod Answers

@@ -13,13 +13,13 @@ use Rattle.range_paths.specs.declared.Sides.{Sides}
 use Rattle.range_paths.specs.Paths.{sidesOf, pathsBytes, readPaths}
 use Rattle.range_times.specs.Header.{unpackHeader as unpackTimes, packHeader as packTimes}
 use Rattle.range_times.specs.Times.{headerOf as timesHeader, timesBytes, readTimes}
-use Rattle.range_header.specs.declared.Header.{Header}
+use Rattle.range_header.specs.declared.Range3dHeader.{Range3dHeader}
 use Rattle.range_header.specs.Header.{unpackHeader, packHeader}
 
 -- ---- writing: two header bytes, subspaces, paths, times
 
 -- by the sides of the paths, and whether their end is open
-abbrev pub headerWith : Range (List ℕ) → Range (List ℕ) → Bool → Bool → Bool → TimeRange → Header
+abbrev pub headerWith : Range (List ℕ) → Range (List ℕ) → Bool → Bool → Bool → TimeRange → Range3dHeader
 headerWith r subspaces startFromStart endOpen endFromStart times = record {
   «subspace_start» = sourcesOf r subspaces .start;
   «subspace_end» = sourcesOf r subspaces .end;
@@ -29,12 +29,12 @@ headerWith r subspaces startFromStart endOpen endFromStart times = record {
   «times_end_open» = isOpen (times .end);
 }
 
-unfoldable pub headerOf : Range3dValue → Range3dValue → Header
+unfoldable pub headerOf : Range3dValue → Range3dValue → Range3dHeader
 headerOf r v =
     let sides = sidesOf (r .paths) (v .paths) in
     headerWith (r .subspaces) (v .subspaces) (sides .«start_from_start») (openEnd (v .paths .end)) (sides .«end_from_start») (v .times)
 
-abbrev pub headBytes : Header → TimeRange → TimeRange → List ℕ
+abbrev pub headBytes : Range3dHeader → TimeRange → TimeRange → List ℕ
 headBytes h r times = packHeader h ∷ packTimes (timesHeader r times) ∷ []
 
 abbrev pub restBytes : Range3dValue → Range3dValue → List ℕ
@@ -47,17 +47,17 @@ unfoldable pub rangeBytes : Range3dValue → Range3dValue → List ℕ
 rangeBytes r v = headBytes (headerOf r v) (r .times) (v .times) ++ partsBytes r v
 
 -- ---- reading
-abbrev pub sourcesIn : Header → Sources
+abbrev pub sourcesIn : Range3dHeader → Sources
 sourcesIn h = record { start = h .«subspace_start»; end = h .«subspace_end» }
 
-abbrev pub sidesIn : Header → Sides
+abbrev pub sidesIn : Range3dHeader → Sides
 sidesIn h = record { «start_from_start» = h .«path_start_from_start»; «end_from_start» = h .«path_end_from_start» }
 
 abbrev pub valueFrom : Range (List ℕ) → Range (List (List ℕ)) → TimeRange → Range3dValue
 valueFrom subspaces paths times = record { subspaces = subspaces; paths = paths; times = times }
 
 -- b is the second header byte
-unfoldable pub readParts : Range3dValue → Header → ℕ → Reader Range3dValue
+unfoldable pub readParts : Range3dValue → Range3dHeader → ℕ → Reader Range3dValue
 readParts r h b =
     andThen (readSubspaces (r .subspaces) (sourcesIn h)) (λ subspaces.
     andThen (readPaths (r .paths) (h .«path_end_open») (sidesIn h)) (λ paths.

@@ -1,65 +1,65 @@
 // Writing 3d ranges against a 3d range: docs/FORMAT.md, "3d ranges". A port of relative_encodings/range3d_range3d.rs.
 ghost use mathlib.Core.Path.{_≡_};
-ghost use lib.ListN.{length};
 ghost use Rattle.codec.specs.Answers.{outcomeOf};
-ghost use Rattle.codec.specs.Format.{writeAnswer, writeBuffer, lengthAnswer};
+ghost use Rattle.codec.specs.Format.{lengthAnswer, WritesInto};
+ghost use Rattle.path.specs.Flat.{pathIn};
+ghost use Rattle.range_3d.specs.Record.{rangeWith};
 ghost use Rattle.range3d_range3d.specs.Records.{againstRange};
 use codec::Encoded;
-use range_3d::Range3d;
+use range_3d::Range3dHead;
 
-pub mod lent;
 mod range_encode;
 pub mod sized;
 
 // How many bytes a 3d range against a reference takes.
-pub fn relative_len_of_encoding(range: Range3d, reference: Range3d) -> Encoded
-    ensures { λ r. ⌜ outcomeOf r ≡ lengthAnswer (againstRange reference) range ⌝ }
+pub fn relative_len_of_encoding<'a>(
+    range: Range3dHead,
+    start: &'a [u8],
+    end: &'a [u8],
+    reference: Range3dHead,
+    reference_start: &'a [u8],
+    reference_end: &'a [u8],
+) -> Encoded
+    ensures { λ r. ⌜ outcomeOf r ≡ lengthAnswer (againstRange (rangeWith reference (pathIn (now («reference_start» .entry))) (pathIn (now («reference_end» .entry))))) (rangeWith range (pathIn (now (start .entry))) (pathIn (now (end .entry)))) ⌝ }
 {
-    let known = reference.well_formed();
+    let known = range_3d::lent::well_formed(reference, reference_start, reference_end);
     if !known {
         return Encoded::Malformed;
     }
-    let well = range.well_formed();
+    let well = range_3d::lent::well_formed(range, start, end);
     if !well {
         return Encoded::Malformed;
     }
-    let start = range.paths.start.flat();
-    let end = range.paths.end.flat();
-    let of_start = reference.paths.start.flat();
-    let of_end = reference.paths.end.flat();
-    sized::relative_len_of_encoding(
-        range.head(),
-        &start,
-        &end,
-        reference.head(),
-        &of_start,
-        &of_end,
-    )
+    sized::relative_len_of_encoding(range, start, end, reference, reference_start, reference_end)
 }
 
 // Writes a 3d range against a reference.
-pub fn relative_encode(buffer: &mut [u8], range: Range3d, reference: Range3d) -> Encoded
-    ensures { λ r. ⌜ (outcomeOf r ≡ writeAnswer (againstRange reference) range (length (now (buffer .entry)))) × (now (buffer .exit) ≡ writeBuffer (againstRange reference) range (now (buffer .entry))) ⌝ }
+pub fn relative_encode<'a>(
+    buffer: &mut [u8],
+    range: Range3dHead,
+    start: &'a [u8],
+    end: &'a [u8],
+    reference: Range3dHead,
+    reference_start: &'a [u8],
+    reference_end: &'a [u8],
+) -> Encoded
+    ensures { λ r. ⌜ WritesInto (againstRange (rangeWith reference (pathIn (now («reference_start» .entry))) (pathIn (now («reference_end» .entry))))) (rangeWith range (pathIn (now (start .entry))) (pathIn (now (end .entry)))) r (now (buffer .entry)) (now (buffer .exit)) ⌝ }
 {
-    let known = reference.well_formed();
+    let known = range_3d::lent::well_formed(reference, reference_start, reference_end);
     if !known {
         return Encoded::Malformed;
     }
-    let well = range.well_formed();
+    let well = range_3d::lent::well_formed(range, start, end);
     if !well {
         return Encoded::Malformed;
     }
-    let start = range.paths.start.flat();
-    let end = range.paths.end.flat();
-    let of_start = reference.paths.start.flat();
-    let of_end = reference.paths.end.flat();
     sized::relative_encode(
         buffer,
-        range.head(),
-        &start,
-        &end,
-        reference.head(),
-        &of_start,
-        &of_end,
+        range,
+        start,
+        end,
+        reference,
+        reference_start,
+        reference_end,
     )
 }

@@ -4,25 +4,25 @@ ghost use Prim.Native.Nat.{_≤_};
 ghost use lib.ListN.{length};
 ghost use Rattle.codec.specs.Format.{over, WritesInto};
 ghost use Rattle.path.specs.Flat.{pathIn};
-ghost use Rattle.range_3d.specs.Record.{headed};
+ghost use Rattle.range_3d.specs.Record.{rangeWith};
 ghost use Rattle.range_paths.specs.Records.{pathsWith, bothBytes, Shares};
 ghost use Rattle.range3d_range3d.specs.Records.{headWith, measuredRange};
 use codec::Encoded;
 use range_3d::Range3dHead;
-use range_header::Header;
+use range_header::Range3dHeader;
 use range_paths::MeasuredPaths;
 
 // The two header bytes.
-fn put_head(buffer: &mut [u8], range: Range3dHead, of: Range3dHead, paths: MeasuredPaths)
+fn put_head(buffer: &mut [u8], range: Range3dHead, reference: Range3dHead, paths: MeasuredPaths)
     requires { ⌜ 2 ≤ length (now buffer) ⌝ }
-    ensures { λ _. ⌜ now (buffer .exit) ≡ over (headWith of range paths) (now (buffer .entry)) ⌝ }
+    ensures { λ _. ⌜ now (buffer .exit) ≡ over (headWith reference range paths) (now (buffer .entry)) ⌝ }
 {
-    let sources = range_subspaces::sources_of(range.subspaces, of.subspaces);
+    let sources = range_subspaces::sources_of(range.subspaces, reference.subspaces);
     let times = range.times;
     let end = times.end;
     let subspace_start = sources.start;
     let subspace_end = sources.end;
-    let header = Header {
+    let header = Range3dHeader {
         subspace_start: subspace_start,
         subspace_end: subspace_end,
         path_start_from_start: paths.start.from_start,
@@ -31,7 +31,7 @@ fn put_head(buffer: &mut [u8], range: Range3dHead, of: Range3dHead, paths: Measu
         times_end_open: end.is_open(),
     };
     buffer[0] = range_header::pack(header);
-    buffer[1] = range_times::header_byte(times, of.times);
+    buffer[1] = range_times::header_byte(times, reference.times);
 }
 
 // Both paths after what they share.
@@ -61,21 +61,21 @@ pub(crate) fn put_range<'a>(
     range: Range3dHead,
     start: &'a [u8],
     end: &'a [u8],
-    of: Range3dHead,
+    reference: Range3dHead,
     paths: MeasuredPaths,
 ) -> Encoded
-    requires { ⌜ Shares (headed range (pathIn (now start)) (pathIn (now end)) .paths) paths × (paths .len ≡ length (bothBytes (headed range (pathIn (now start)) (pathIn (now end)) .paths) paths)) × (paths .len ≤ 1800) ⌝ }
-    ensures { λ r. ⌜ WritesInto (measuredRange of paths) (headed range (pathIn (now (start .entry))) (pathIn (now (end .entry)))) r (now (buffer .entry)) (now (buffer .exit)) ⌝ }
+    requires { ⌜ Shares (rangeWith range (pathIn (now start)) (pathIn (now end)) .paths) paths × (paths .len ≡ length (bothBytes (rangeWith range (pathIn (now start)) (pathIn (now end)) .paths) paths)) × (paths .len ≤ 1800) ⌝ }
+    ensures { λ r. ⌜ WritesInto (measuredRange reference paths) (rangeWith range (pathIn (now (start .entry))) (pathIn (now (end .entry)))) r (now (buffer .entry)) (now (buffer .exit)) ⌝ }
 {
-    let s = 2 + range_subspaces::relative_len_of_encoding(range.subspaces, of.subspaces);
+    let s = 2 + range_subspaces::relative_len_of_encoding(range.subspaces, reference.subspaces);
     let t = s + paths.len;
-    let whole = t + range_times::relative_len_of_encoding(range.times, of.times);
+    let whole = t + range_times::relative_len_of_encoding(range.times, reference.times);
     if buffer.len() < whole {
         return Encoded::NoRoom;
     }
-    put_head(buffer, range, of, paths);
-    range_subspaces::relative_encode(&mut buffer[2..], range.subspaces, of.subspaces);
+    put_head(buffer, range, reference, paths);
+    range_subspaces::relative_encode(&mut buffer[2..], range.subspaces, reference.subspaces);
     put_paths(&mut buffer[s..], start, range.end_open, end, paths);
-    range_times::relative_encode(&mut buffer[t..], range.times, of.times);
+    range_times::relative_encode(&mut buffer[t..], range.times, reference.times);
     Encoded::Length(whole)
 }

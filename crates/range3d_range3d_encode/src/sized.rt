@@ -3,7 +3,7 @@ ghost use mathlib.Core.Path.{_≡_};
 ghost use Rattle.codec.specs.Answers.{outcomeOf};
 ghost use Rattle.codec.specs.Format.{lengthAnswer, WritesInto};
 ghost use Rattle.path.specs.Flat.{pathIn};
-ghost use Rattle.range_3d.specs.Record.{headed, sizedRange3d};
+ghost use Rattle.range_3d.specs.Record.{rangeWith, sizedRange3d};
 ghost use Rattle.range3d_range3d.specs.Records.{againstRangeBy};
 use crate::range_encode;
 use codec::Encoded;
@@ -15,25 +15,25 @@ pub fn relative_len_of_encoding<'a>(
     range: Range3dHead,
     start: &'a [u8],
     end: &'a [u8],
-    of: Range3dHead,
-    of_start: &'a [u8],
-    of_end: &'a [u8],
+    reference: Range3dHead,
+    reference_start: &'a [u8],
+    reference_end: &'a [u8],
 ) -> Encoded
-    ensures { λ r. ⌜ outcomeOf r ≡ lengthAnswer (againstRangeBy sizedRange3d (headed of (pathIn (now («of_start» .entry))) (pathIn (now («of_end» .entry))))) (headed range (pathIn (now (start .entry))) (pathIn (now (end .entry)))) ⌝ }
+    ensures { λ r. ⌜ outcomeOf r ≡ lengthAnswer (againstRangeBy sizedRange3d (rangeWith reference (pathIn (now («reference_start» .entry))) (pathIn (now («reference_end» .entry))))) (rangeWith range (pathIn (now (start .entry))) (pathIn (now (end .entry)))) ⌝ }
 {
     let measured = range_paths::sized::measure(
         start,
         range.end_open,
         end,
-        of_start,
-        of.end_open,
-        of_end,
+        reference_start,
+        reference.end_open,
+        reference_end,
     );
     let Measured::Paths(paths) = measured else {
         return Encoded::Malformed;
     };
-    let a = range_subspaces::relative_len_of_encoding(range.subspaces, of.subspaces);
-    let c = range_times::relative_len_of_encoding(range.times, of.times);
+    let a = range_subspaces::relative_len_of_encoding(range.subspaces, reference.subspaces);
+    let c = range_times::relative_len_of_encoding(range.times, reference.times);
     Encoded::Length(2 + (a + (paths.len + c)))
 }
 
@@ -43,22 +43,22 @@ pub fn relative_encode<'a>(
     range: Range3dHead,
     start: &'a [u8],
     end: &'a [u8],
-    of: Range3dHead,
-    of_start: &'a [u8],
-    of_end: &'a [u8],
+    reference: Range3dHead,
+    reference_start: &'a [u8],
+    reference_end: &'a [u8],
 ) -> Encoded
-    ensures { λ r. ⌜ WritesInto (againstRangeBy sizedRange3d (headed of (pathIn (now («of_start» .entry))) (pathIn (now («of_end» .entry))))) (headed range (pathIn (now (start .entry))) (pathIn (now (end .entry)))) r (now (buffer .entry)) (now (buffer .exit)) ⌝ }
+    ensures { λ r. ⌜ WritesInto (againstRangeBy sizedRange3d (rangeWith reference (pathIn (now («reference_start» .entry))) (pathIn (now («reference_end» .entry))))) (rangeWith range (pathIn (now (start .entry))) (pathIn (now (end .entry)))) r (now (buffer .entry)) (now (buffer .exit)) ⌝ }
 {
     let measured = range_paths::sized::measure(
         start,
         range.end_open,
         end,
-        of_start,
-        of.end_open,
-        of_end,
+        reference_start,
+        reference.end_open,
+        reference_end,
     );
     let Measured::Paths(paths) = measured else {
         return Encoded::Malformed;
     };
-    range_encode::put_range(buffer, range, start, end, of, paths)
+    range_encode::put_range(buffer, range, start, end, reference, paths)
 }

@@ -1,24 +1,20 @@
 -- 3d ranges whose paths are lent: the test, part by part, and a record that is lent.
 use Rattle.codec.proofs.Prelude.{_≡_, refl, List, Bool, true, false, cond, _&&_, ℕ, eqb}
 use Rattle.codec.proofs.Tests.{and-left, and-right}
-use Rattle.path.specs.declared.Path.{Path}
-use Rattle.path.specs.Record.{wellFormed}
-use Rattle.path.specs.Flat.{pathFlat, pathIn, lent}
+use Rattle.path.specs.Record.{Path, wellFormed}
+use Rattle.path.specs.Flat.{pathIn, lent}
 use Rattle.path.proofs.Components.{parts-formed}
 use Rattle.path.proofs.Records.{lent-known}
-use Rattle.path.proofs.Loads.{flat-back}
-use Rattle.range_3d.specs.declared.Range3d.{Range3d}
+use Rattle.range_3d.specs.Record.{rangeWith, wellFormedSubspaces, wellFormedPaths, wellFormedRange3d}
 use Rattle.range_3d.specs.declared.Range3dHead.{Range3dHead}
-use Rattle.range_3d.specs.Record.{headOf, headed, wellFormedSubspaces, wellFormedPaths, wellFormedRange3d, TypedRange3d}
-use Rattle.range_3d.proofs.Record.{formed-range}
 
 module _ (h : Range3dHead) (p q : Path) where
-  pub no-subspaces : wellFormedSubspaces (h .subspaces) ≡ false → false ≡ wellFormedRange3d (headed h p q)
+  pub no-subspaces : wellFormedSubspaces (h .subspaces) ≡ false → false ≡ wellFormedRange3d (rangeWith h p q)
   unfolding wellFormedRange3d
   no-subspaces e = rw e
 
   module _ (e : wellFormedSubspaces (h .subspaces) ≡ true) where
-    pub no-paths : (wellFormed p && wellFormed q) ≡ false → false ≡ wellFormedRange3d (headed h p q)
+    pub no-paths : (wellFormed p && wellFormed q) ≡ false → false ≡ wellFormedRange3d (rangeWith h p q)
     unfolding wellFormedRange3d wellFormedPaths
     no-paths f = rw e (go (wellFormed p) (wellFormed q) f)
       where
@@ -26,15 +22,9 @@ module _ (h : Range3dHead) (p q : Path) where
         go true b f = rw f
         go false b f = refl
 
-    pub with-paths : (wellFormed p && wellFormed q) ≡ true → wellFormedRange3d (headed h p q) ≡ cond (h .«end_open») (eqb (q .count) 0) true
+    pub with-paths : (wellFormed p && wellFormed q) ≡ true → wellFormedRange3d (rangeWith h p q) ≡ cond (h .«end_open») (eqb (q .count) 0) true
     unfolding wellFormedRange3d wellFormedPaths
     with-paths f = rw (e, and-left (wellFormed p) (wellFormed q) f, and-right (wellFormed p) (wellFormed q) f)
 
 pub count-lent : (p : Path) (s : List ℕ) → (wellFormed p && wellFormed (pathIn s)) ≡ true → lent 0 (λ q. q .count) s ≡ pathIn s .count
 count-lent p s f = lent-known s (parts-formed (and-right (wellFormed p) (wellFormed (pathIn s)) f)) 0 (λ q. q .count)
-
--- a record that was tested whole, its paths lent
-pub flat-range : (r : Range3d) → TypedRange3d r → wellFormedRange3d r ≡ true → headed (headOf r) (pathIn (pathFlat (r .paths .start))) (pathIn (pathFlat (r .paths .end))) ≡ r
-flat-range r t w =
-    let f = formed-range r w in
-    rw (flat-back (r .paths .start) (t .paths .start) (f .start), flat-back (r .paths .end) (t .paths .end) (f .end))

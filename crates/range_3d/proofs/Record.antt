@@ -3,16 +3,13 @@ use Rattle.codec.proofs.Prelude.{_≡_, refl, sym, ap, _∙_, [], Bool, true, f
 use Rattle.codec.specs.Bytes.{sameBytes, zeroId, TypedId}
 use Rattle.codec.proofs.SameBytes.{same-eq}
 use Rattle.codec.proofs.Tests.{and-left, and-right}
-use Rattle.path.specs.declared.Path.{Path}
+use Rattle.path.specs.Record.{Path, componentsOf, pathFrom, wellFormed, TypedPath}
 use Rattle.path.specs.Limits.{PathOk}
-use Rattle.path.specs.Record.{componentsOf, pathFrom, wellFormed, TypedPath}
 use Rattle.path.proofs.Record.{well-formed, apart}
 use Rattle.path.proofs.Components.{well-sized}
 use Rattle.range_3d.specs.declared.SubspaceRange.{SubspaceRange}
-use Rattle.range_3d.specs.declared.PathRange.{PathRange}
-use Rattle.range_3d.specs.declared.Range3d.{Range3d}
+use Rattle.range_3d.specs.Record.{PathRange, Range3d, subspacesOf, subspacesFor, subspacesFrom, pathsOf, pathsFor, pathsFrom, rangeOf, rangeFrom, wellFormedSubspaces, wellFormedPaths, wellFormedRange3d, sizedPaths, sizedRange3d, TypedSubspaces, TypedPaths, TypedRange3d}
 use Rattle.range_3d.specs.Range3d.{OnEnd, Both}
-use Rattle.range_3d.specs.Record.{subspacesOf, subspacesFor, subspacesFrom, pathsOf, pathsFor, pathsFrom, rangeOf, rangeFrom, wellFormedSubspaces, wellFormedPaths, wellFormedRange3d, sizedPaths, sizedRange3d, TypedSubspaces, TypedPaths, TypedRange3d}
 
 -- ---- subspaces
 pub typed-ids : (s : SubspaceRange) → TypedSubspaces s → Both TypedId (subspacesOf s)
@@ -76,10 +73,6 @@ module _ (p : PathRange) (t : TypedPaths p) (w : wellFormedPaths p ≡ true) whe
       go false f q = rw (path-made (p .end) (t .end) (formed-paths p w .end), ← f)
 
 -- ---- 3d ranges
-pub formed-range : (r : Range3d) → wellFormedRange3d r ≡ true → FormedPaths (r .paths)
-unfolding wellFormedRange3d
-formed-range r w = formed-paths (r .paths) (and-right (wellFormedSubspaces (r .subspaces)) _ w)
-
 pub well-sized-range : (r : Range3d) → wellFormedRange3d r ≡ true → sizedRange3d r ≡ true
 unfolding wellFormedRange3d sizedRange3d
 well-sized-range r w = well-sized-paths (r .paths) (and-right (wellFormedSubspaces (r .subspaces)) _ w)

@@ -1,2 +1,3 @@
 pub mod Range3d
 pub mod Record
+pub mod Answers

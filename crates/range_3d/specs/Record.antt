@@ -1,20 +1,28 @@
--- docs/FORMAT.md, "3d ranges": ranges as the code holds them, an end beside a mark of open.
+-- docs/FORMAT.md, "3d ranges": the records of ranges, an end beside a mark of open. The code holds the records of the paths apart from the rest.
 use mathlib.Core.List.{List, []}
 use mathlib.Core.Bool.{Bool, true, false, cond, _&&_}
 use mathlib.Core.Option.{Option, none, some}
 use Prim.Native.Nat.{ℕ}
 use lib.Dec.{eqb}
 use Rattle.codec.specs.Bytes.{sameBytes, zeroId, TypedId}
-use Rattle.path.specs.declared.Path.{Path}
-use Rattle.path.specs.Record.{componentsOf, pathFrom, sized, wellFormed, TypedPath}
+use Rattle.path.specs.Record.{Path, componentsOf, pathFrom, sized, wellFormed, TypedPath}
 use Rattle.grouping.specs.declared.RangeEnd.the-variants.{Closed}
 use Rattle.grouping.specs.declared.TimeRange.{TimeRange}
 use Rattle.grouping.specs.Range.{TypedRange}
 use Rattle.range_3d.specs.declared.SubspaceRange.{SubspaceRange}
-use Rattle.range_3d.specs.declared.PathRange.{PathRange}
-use Rattle.range_3d.specs.declared.Range3d.{Range3d}
 use Rattle.range_3d.specs.declared.Range3dHead.{Range3dHead}
 use Rattle.range_3d.specs.Range3d.{Range, Range3dValue}
+
+-- the paths from a start on, before an end; beside an open end the path is empty
+pub record PathRange : Type 0 where
+  pub start : Path
+  pub «end_open» : Bool
+  pub end : Path
+
+pub record Range3d : Type 0 where
+  pub subspaces : SubspaceRange
+  pub paths : PathRange
+  pub times : TimeRange
 
 -- ---- the values of a record, and the record of values
 abbrev pub subspacesOf : SubspaceRange → Range (List ℕ)
@@ -47,8 +55,8 @@ rangeFrom v = record { subspaces = subspacesFrom (v .subspaces); paths = pathsFr
 abbrev pub headOf : Range3d → Range3dHead
 headOf r = record { subspaces = r .subspaces; «end_open» = r .paths .«end_open»; times = r .times }
 
-abbrev pub headed : Range3dHead → Path → Path → Range3d
-headed h start end = record { subspaces = h .subspaces; paths = record { start = start; «end_open» = h .«end_open»; end = end }; times = h .times }
+abbrev pub rangeWith : Range3dHead → Path → Path → Range3d
+rangeWith h start end = record { subspaces = h .subspaces; paths = record { start = start; «end_open» = h .«end_open»; end = end }; times = h .times }
 
 -- ---- well formed: what 5 tests. Beside the mark of open an id is zero and a path has no components
 unfoldable pub wellFormedSubspaces : SubspaceRange → Bool

@@ -1,8 +1,10 @@
 // Ranges of subspaces and of paths, and 3d ranges: docs/FORMAT.md, "3d ranges". A port of grouping/range_3d.rs, as far as the codecs use it.
 ghost use mathlib.Core.Path.{_≡_};
-ghost use Rattle.range_3d.specs.Record.{headOf, wellFormedSubspaces, wellFormedPaths, wellFormedRange3d};
+ghost use Rattle.range_3d.specs.Record.{wellFormedSubspaces};
+ghost use Rattle.range_3d.specs.Answers.{headRefusal};
+use codec::Decoded;
+use grouping::RangeEnd;
 use grouping::TimeRange;
-use path::Path;
 
 pub mod lent;
 
@@ -13,24 +15,38 @@ pub struct SubspaceRange {
     pub end: [u8; 32],
 }
 
-// The paths from a start on, before an end; beside an open end the path is empty.
-pub struct PathRange {
-    pub start: Path,
-    pub end_open: bool,
-    pub end: Path,
-}
-
-pub struct Range3d {
-    pub subspaces: SubspaceRange,
-    pub paths: PathRange,
-    pub times: TimeRange,
-}
-
-// What a 3d range has beside its two paths.
+// What a 3d range has beside its two paths, whose records are lent; beside the mark of an open end the second is empty.
 pub struct Range3dHead {
     pub subspaces: SubspaceRange,
     pub end_open: bool,
     pub times: TimeRange,
+}
+
+// That beside the answer; the paths are read into lent records. Beside a refusal nothing lies in the range.
+pub struct DecodedRange3dHead {
+    pub answer: Decoded,
+    pub head: Range3dHead,
+}
+
+// A refusal beside the head of a 3d range in which nothing lies.
+pub fn refuse_head(answer: Decoded) -> DecodedRange3dHead
+    ensures { λ r. ⌜ r ≡ headRefusal answer ⌝ }
+{
+    DecodedRange3dHead {
+        answer: answer,
+        head: Range3dHead {
+            subspaces: SubspaceRange {
+                start: [0u8; 32],
+                end_open: false,
+                end: [0u8; 32],
+            },
+            end_open: false,
+            times: TimeRange {
+                start: 0,
+                end: RangeEnd::Closed(0),
+            },
+        },
+    }
 }
 
 impl SubspaceRange {
@@ -43,49 +59,5 @@ impl SubspaceRange {
             return byte_codec::same_bytes(&end, &zero);
         }
         true
-    }
-}
-
-impl PathRange {
-    pub fn well_formed(self) -> bool
-        ensures { λ r. ⌜ r ≡ wellFormedPaths self ⌝ }
-    {
-        let start = self.start.well_formed();
-        if !start {
-            return false;
-        }
-        let end = self.end.well_formed();
-        if !end {
-            return false;
-        }
-        if self.end_open {
-            return self.end.count == 0;
-        }
-        true
-    }
-}
-
-impl Range3d {
-    pub fn well_formed(self) -> bool
-        ensures { λ r. ⌜ r ≡ wellFormedRange3d self ⌝ }
-    {
-        let subspaces = self.subspaces.well_formed();
-        if !subspaces {
-            return false;
-        }
-        self.paths.well_formed()
-    }
-
-    pub fn head(self) -> Range3dHead
-        ensures { λ r. ⌜ r ≡ headOf self ⌝ }
-    {
-        let subspaces = self.subspaces;
-        let end_open = self.paths.end_open;
-        let times = self.times;
-        Range3dHead {
-            subspaces: subspaces,
-            end_open: end_open,
-            times: times,
-        }
     }
 }

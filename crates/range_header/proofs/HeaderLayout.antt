@@ -4,7 +4,7 @@ use Rattle.codec.specs.Header.{field, placed, bit, Layout}
 use Rattle.codec.proofs.Header.{bit-small, flag-of, same-bytes}
 use Rattle.range_subspaces.specs.declared.IdSource.{IdSource}
 use Rattle.range_subspaces.specs.declared.IdSource.the-variants.{Nowhere, Start, End, Written}
-use Rattle.range_header.specs.declared.Header.{Header}
+use Rattle.range_header.specs.declared.Range3dHeader.{Range3dHeader}
 use Rattle.range_header.specs.Header.{subspaceStartAt, subspaceEndAt, pathStartFromStartAt, pathEndOpenAt, pathEndFromStartAt, timesEndOpenAt, sourceBits, sourceFrom, unpackHeader, packHeader}
 
 -- ---- where an id is taken from
@@ -38,7 +38,7 @@ parts : (s t a b d e : ℕ) → s < 4 → t < 4 → a ≤ 1 → b ≤ 1 → d �
 parts s t a b d e i j k l m n =
     record { byte = omega arith; s-is = omega arith; t-is = omega arith; a-is = omega arith; b-is = omega arith; d-is = omega arith; e-is = omega arith }
 
-header-apart : (h : Header) → (packHeader h < 256) × (unpackHeader (packHeader h) ≡ h)
+header-apart : (h : Range3dHeader) → (packHeader h < 256) × (unpackHeader (packHeader h) ≡ h)
 header-apart h =
     let p = packHeader h in
     let x = parts (sourceBits (h .«subspace_start»)) (sourceBits (h .«subspace_end»)) (bit (h .«path_start_from_start»)) (bit (h .«path_end_open»))
@@ -57,7 +57,7 @@ header-apart h =
     )
 
 -- every header fits its byte
-abbrev pub HeaderFits : Header → Type 0
+abbrev pub HeaderFits : Range3dHeader → Type 0
 HeaderFits h = Unit {0}
 
 pub header-layout : Layout HeaderFits unpackHeader packHeader

@@ -5,7 +5,7 @@ use lib.Dec.{eqb}
 use Rattle.codec.specs.Header.{field, flag, placed, bit}
 use Rattle.range_subspaces.specs.declared.IdSource.{IdSource}
 use Rattle.range_subspaces.specs.declared.IdSource.the-variants.{Nowhere, Start, End, Written}
-use Rattle.range_header.specs.declared.Header.{Header}
+use Rattle.range_header.specs.declared.Range3dHeader.{Range3dHeader}
 
 -- where each part stands
 abbrev pub subspaceStartAt : ℕ
@@ -36,7 +36,7 @@ sourceBits Written = 3
 abbrev pub sourceFrom : ℕ → IdSource
 sourceFrom n = cond (eqb n 0) Nowhere (cond (eqb n 1) Start (cond (eqb n 2) End Written))
 
-abbrev pub unpackHeader : ℕ → Header
+abbrev pub unpackHeader : ℕ → Range3dHeader
 unpackHeader b = record {
   «subspace_start» = sourceFrom (field subspaceStartAt 2 b);
   «subspace_end» = sourceFrom (field subspaceEndAt 2 b);
@@ -46,7 +46,7 @@ unpackHeader b = record {
   «times_end_open» = flag timesEndOpenAt b;
 }
 
-abbrev pub packHeader : Header → ℕ
+abbrev pub packHeader : Range3dHeader → ℕ
 packHeader h =
     placed subspaceStartAt 2 (sourceBits (h .«subspace_start»))
     + placed subspaceEndAt 2 (sourceBits (h .«subspace_end»))

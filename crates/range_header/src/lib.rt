@@ -5,7 +5,7 @@ ghost use Rattle.range_header.specs.Header.{sourceFrom, sourceBits, unpa
 use range_subspaces::IdSource;
 
 // What the first header byte says; the second is that of the times.
-pub struct Header {
+pub struct Range3dHeader {
     pub subspace_start: IdSource,
     pub subspace_end: IdSource,
     pub path_start_from_start: bool,
@@ -50,12 +50,12 @@ fn source_bits(source: IdSource) -> u8
 }
 
 // What a header byte says.
-pub fn unpack(b: u8) -> Header
+pub fn unpack(b: u8) -> Range3dHeader
     ensures { λ r. ⌜ r ≡ unpackHeader b ⌝ }
 {
     let start = source_from(b / SUBSPACE_START % 4);
     let end = source_from(b / SUBSPACE_END % 4);
-    Header {
+    Range3dHeader {
         subspace_start: start,
         subspace_end: end,
         path_start_from_start: b / PATH_START_FROM_START % 2 == 1,
@@ -66,7 +66,7 @@ pub fn unpack(b: u8) -> Header
 }
 
 // The byte that says a header.
-pub fn pack(header: Header) -> u8
+pub fn pack(header: Range3dHeader) -> u8
     ensures { λ r. ⌜ r ≡ packHeader header ⌝ }
 {
     let start = header.subspace_start;

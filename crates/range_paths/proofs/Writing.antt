@@ -4,9 +4,8 @@ use Rattle.codec.specs.Format.{allowed}
 use Rattle.codec.proofs.Tests.{and-left, and-right}
 use Rattle.compact_u64.specs.Number.{standaloneBytes}
 use Rattle.compact_u64.proofs.Standalone.{standalone-short}
-use Rattle.path.specs.declared.Path.{Path}
+use Rattle.path.specs.Record.{Path, componentsOf, sized}
 use Rattle.path.specs.Prefix.{shared}
-use Rattle.path.specs.Record.{componentsOf, sized}
 use Rattle.path.specs.Answers.{Said, said, unsaid, saidIf}
 use Rattle.path.proofs.Components.{sized-formed, count-is, rest-count, rest-small}
 use Rattle.path.proofs.Prefix.{shares}
@@ -14,8 +13,7 @@ use Rattle.path.proofs.Verdicts.{said-known, unsaid-known}
 use Rattle.path_suffix.specs.Suffix.{suffixBy}
 use Rattle.path_suffix.proofs.Suffix.{suffix-short}
 use Rattle.path_relative.specs.Records.{sharedBy}
-use Rattle.range_3d.specs.declared.PathRange.{PathRange}
-use Rattle.range_3d.specs.Record.{pathsOf, sizedPaths}
+use Rattle.range_3d.specs.Record.{PathRange, pathsOf, sizedPaths}
 use Rattle.range_paths.specs.declared.NearPath.{NearPath}
 use Rattle.range_paths.specs.declared.MeasuredPaths.{MeasuredPaths}
 use Rattle.range_paths.specs.Paths.{nearer, endShared, pathBytes, endBytes, pathsBytes}

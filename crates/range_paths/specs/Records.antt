@@ -1,19 +1,16 @@
--- docs/FORMAT.md, "3d ranges": the same, as the code holds paths. 5 is tested on the reference and on the paths.
+-- docs/FORMAT.md, "3d ranges": the same, on records. 5 is tested on the reference and on the paths.
 use mathlib.Core.Path.{_≡_}
 use mathlib.Core.List.{List, [], _++_}
-use mathlib.Core.Bool.{Bool, true, false, cond, _&&_}
+use mathlib.Core.Bool.{Bool, false, cond, _&&_}
 use Prim.Native.Nat.{ℕ}
-use lib.Dec.{eqb}
 use lib.ListN.{length}
 use Rattle.codec.specs.Format.{allowed}
 use Rattle.codec.specs.Reader.{Reader, give, guard, mapped, choose, onFormed}
-use Rattle.path.specs.declared.Path.{Path}
-use Rattle.path.specs.Record.{componentsOf, pathFrom, sized, wellFormed}
+use Rattle.path.specs.Record.{Path, componentsOf, pathFrom, sized}
 use Rattle.path.specs.Answers.{Said, said, unsaid, saidIf}
-use Rattle.path_relative.specs.Records.{sharedBy, readAgainstPath}
-use Rattle.range_3d.specs.declared.PathRange.{PathRange}
+use Rattle.path_relative.specs.Records.{sharedBy, readAgainstBy}
+use Rattle.range_3d.specs.Record.{PathRange, pathsOf, pathsFrom, sizedPaths}
 use Rattle.range_3d.specs.Range3d.{Range}
-use Rattle.range_3d.specs.Record.{pathsOf, pathsFrom, wellFormedPaths, sizedPaths}
 use Rattle.range_paths.specs.declared.Sides.{Sides}
 use Rattle.range_paths.specs.declared.NearPath.{NearPath}
 use Rattle.range_paths.specs.declared.MeasuredPaths.{MeasuredPaths}
@@ -23,12 +20,17 @@ use Rattle.range_paths.specs.declared.Measured.{Measured}
 use Rattle.range_paths.specs.declared.Measured.the-variants as measured
 use Rattle.range_paths.specs.Paths.{fromStart, endFromStart, sharedWith, endShared, pathsBytes, readPaths}
 
-unfoldable pub readAgainstPaths : Bool → Sides → PathRange → Reader PathRange
-readAgainstPaths endOpen s r = onFormed (wellFormedPaths r) (mapped pathsFrom (readPaths (pathsOf r) endOpen s))
+-- 5 unless the reference passes the test
+abbrev pub readPathsBy : (PathRange → Bool) → Bool → Sides → PathRange → Reader PathRange
+readPathsBy formed endOpen s r = onFormed (formed r) (mapped pathsFrom (readPaths (pathsOf r) endOpen s))
 
 -- a record of these parts
 abbrev pub pathsWith : Path → Bool → Path → PathRange
 pathsWith start endOpen end = record { start = start; «end_open» = endOpen; end = end }
+
+-- beside a refusal, where it was told whether the end is open: both paths are empty
+abbrev pub emptyPaths : Bool → PathRange
+emptyPaths endOpen = pathsWith (pathFrom []) endOpen (pathFrom [])
 
 -- ---- writing: what is answered of records, with the numbers of docs/FORMAT.md, "Refusals". The sizes of the paths are tested
 
@@ -67,12 +69,6 @@ pub record Shares (v : PathRange) (m : MeasuredPaths) : Type 0 where
   pub start : sharedBy sized (m .start .shared) .check (v .start) ≡ allowed
   pub end : v .«end_open» ≡ false → sharedBy sized (m .end .shared) .check (v .end) ≡ allowed
 
--- ---- inside the reader: 5 is tested on a path where it is read against, and before that on what is left of the reference
-abbrev pub readSideOf : PathRange → Bool → Reader Path
-readSideOf r fromStart = choose fromStart (readAgainstPath false (r .start)) (choose (r .«end_open») (guard false (give (pathFrom []))) (readAgainstPath false (r .end)))
-
-abbrev pub endFormed : Bool → Path → Bool
-endFormed endOpen p = wellFormed p && cond endOpen (eqb (p .count) 0) true
-
-abbrev pub otherFormed : PathRange → Bool → Bool
-otherFormed r fromStart = cond fromStart (endFormed (r .«end_open») (r .end)) (wellFormed (r .start) && cond (r .«end_open») (endFormed true (r .end)) true)
+-- ---- inside the reader into lent records: one path, by its side
+abbrev pub readSideIn : PathRange → Bool → Reader Path
+readSideIn r fromStart = choose fromStart (readAgainstBy sized false (r .start)) (choose (r .«end_open») (guard false (give (pathFrom []))) (readAgainstBy sized false (r .end)))

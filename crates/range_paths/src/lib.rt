@@ -1,10 +1,7 @@
 // The paths of a 3d range against those of another: docs/FORMAT.md, "3d ranges". Part of a port of relative_encodings/range3d_range3d.rs.
-use codec::Decoded;
-use range_3d::PathRange;
 
-pub mod parts;
-pub mod paths_decode;
 pub mod sized;
+pub mod sized_decode;
 
 // Whether start and end are written against the reference's start, not its end.
 pub struct Sides {
@@ -33,10 +30,4 @@ pub struct MeasuredPaths {
 pub enum Measured {
     Paths(MeasuredPaths),
     Malformed,
-}
-
-// Paths beside the answer; beside a refusal start and end are both empty.
-pub struct DecodedPaths {
-    pub answer: Decoded,
-    pub paths: PathRange,
 }

@@ -65,13 +65,13 @@ pub fn measure<'a>(
     start: &'a [u8],
     end_open: bool,
     end: &'a [u8],
-    of_start: &'a [u8],
-    of_end_open: bool,
-    of_end: &'a [u8],
+    reference_start: &'a [u8],
+    reference_end_open: bool,
+    reference_end: &'a [u8],
 ) -> Measured
-    ensures { λ r. ⌜ measuredAnswer r ≡ measureIn (pathsWith (pathIn (now («of_start» .entry))) «of_end_open» (pathIn (now («of_end» .entry)))) (pathsWith (pathIn (now (start .entry))) «end_open» (pathIn (now (end .entry)))) ⌝ }
+    ensures { λ r. ⌜ measuredAnswer r ≡ measureIn (pathsWith (pathIn (now («reference_start» .entry))) «reference_end_open» (pathIn (now («reference_end» .entry)))) (pathsWith (pathIn (now (start .entry))) «end_open» (pathIn (now (end .entry)))) ⌝ }
 {
-    let first = nearest(start, of_start, of_end_open, of_end);
+    let first = nearest(start, reference_start, reference_end_open, reference_end);
     let Near::At(start_near) = first else {
         return Measured::Malformed;
     };
@@ -90,7 +90,7 @@ pub fn measure<'a>(
             len: m,
         });
     }
-    let last = nearest(end, of_start, of_end_open, of_end);
+    let last = nearest(end, reference_start, reference_end_open, reference_end);
     let Near::At(end_near) = last else {
         return Measured::Malformed;
     };

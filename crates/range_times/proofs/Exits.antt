@@ -6,11 +6,11 @@ use Rattle.grouping.specs.declared.RangeEnd.{RangeEnd}
 use Rattle.grouping.specs.declared.RangeEnd.the-variants.{Closed, Open}
 use Rattle.grouping.specs.declared.TimeRange.{TimeRange}
 use Rattle.time_distance.specs.Distance.{nearestOf, sideOf, readFrom}
-use Rattle.range_times.specs.declared.Header.{Header}
+use Rattle.range_times.specs.declared.RangeTimesHeader.{RangeTimesHeader}
 use Rattle.range_times.specs.Times.{timesBytes, readEnd, timesFrom, readTimes}
 
 -- ---- reading
-module _ (r : TimeRange) (endOpen : Bool) (h : Header) (s : List ℕ) where
+module _ (r : TimeRange) (endOpen : Bool) (h : RangeTimesHeader) (s : List ℕ) where
   pub end-open : endOpen ≡ true → readEnd r endOpen h s ≡ accepted Open 0
   unfolding readEnd
   end-open o = rw o

@@ -4,7 +4,7 @@ use Rattle.codec.specs.Header.{field, placed, bit, Layout}
 use Rattle.codec.proofs.Header.{field-fits, bit-small, flag-of, same-bytes}
 use Rattle.compact_u64.proofs.Tags.{min-tag-fits}
 use Rattle.grouping.specs.declared.TimeRange.{TimeRange}
-use Rattle.range_times.specs.declared.Header.{Header}
+use Rattle.range_times.specs.declared.RangeTimesHeader.{RangeTimesHeader}
 use Rattle.range_times.specs.Header.{startFromStartAt, startAddedAt, startTagAt, endFromStartAt, endAddedAt, endTagAt, unpackHeader, packHeader, HeaderFits}
 use Rattle.range_times.specs.Times.{headerOf}
 
@@ -26,7 +26,7 @@ parts : (a b s d e t : ℕ) → a ≤ 1 → b ≤ 1 → s < 4 → d ≤ 1 → e 
 parts a b s d e t i j k l m n =
     record { byte = omega arith; a-is = omega arith; b-is = omega arith; s-is = omega arith; d-is = omega arith; e-is = omega arith; t-is = omega arith }
 
-header-apart : (h : Header) → HeaderFits h → (packHeader h < 256) × (unpackHeader (packHeader h) ≡ h)
+header-apart : (h : RangeTimesHeader) → HeaderFits h → (packHeader h < 256) × (unpackHeader (packHeader h) ≡ h)
 header-apart h f =
     let p = packHeader h in
     let x = parts (bit (h .«start_from_start»)) (bit (h .«start_added»)) (h .«start_tag») (bit (h .«end_from_start»)) (bit (h .«end_added»)) (h .«end_tag»)

@@ -10,10 +10,10 @@ use Rattle.grouping.specs.declared.TimeRange.{TimeRange}
 use Rattle.grouping.specs.Range.{top, isOpen, endValue, TypedRange}
 use Rattle.time_distance.specs.Distance.{sideOf, readFrom}
 use Rattle.time_distance.proofs.Distance.{from-bounded, nearest-as}
-use Rattle.range_times.specs.declared.Header.{Header}
+use Rattle.range_times.specs.declared.RangeTimesHeader.{RangeTimesHeader}
 use Rattle.range_times.specs.Times.{headerOf, endBytes, timesBytes, readEnd, timesFrom, readTimes}
 
-module _ (r : TimeRange) (endOpen : Bool) (h : Header) where
+module _ (r : TimeRange) (endOpen : Bool) (h : RangeTimesHeader) where
   end-bounded : Bounded (readEnd r endOpen h)
   unfolding readEnd
   end-bounded = choose-bounded endOpen _ _ (give-bounded Open) (mapped-bounded Closed _ (from-bounded (sideOf r (h .«end_from_start»)) (h .«end_added») (h .«end_tag»)))

@@ -1,7 +1,7 @@
 -- docs/FORMAT.md, "3d ranges": the second header byte, that of the times.
 use Prim.Native.Nat.{ℕ, _+_, _<_}
 use Rattle.codec.specs.Header.{field, flag, placed, bit}
-use Rattle.range_times.specs.declared.Header.{Header}
+use Rattle.range_times.specs.declared.RangeTimesHeader.{RangeTimesHeader}
 
 -- where each part stands
 abbrev pub startFromStartAt : ℕ
@@ -22,7 +22,7 @@ endAddedAt = 5
 abbrev pub endTagAt : ℕ
 endTagAt = 6
 
-abbrev pub unpackHeader : ℕ → Header
+abbrev pub unpackHeader : ℕ → RangeTimesHeader
 unpackHeader b = record {
   «start_from_start» = flag startFromStartAt b;
   «start_added» = flag startAddedAt b;
@@ -32,7 +32,7 @@ unpackHeader b = record {
   «end_tag» = field endTagAt 2 b;
 }
 
-abbrev pub packHeader : Header → ℕ
+abbrev pub packHeader : RangeTimesHeader → ℕ
 packHeader h =
     placed startFromStartAt 1 (bit (h .«start_from_start»))
     + placed startAddedAt 1 (bit (h .«start_added»))
@@ -41,6 +41,6 @@ packHeader h =
     + placed endAddedAt 1 (bit (h .«end_added»))
     + placed endTagAt 2 (h .«end_tag»)
 
-pub record HeaderFits (h : Header) : Type 0 where
+pub record HeaderFits (h : RangeTimesHeader) : Type 0 where
   pub start : h .«start_tag» < 4
   pub end : h .«end_tag» < 4

@@ -8,10 +8,10 @@ use Rattle.grouping.specs.declared.RangeEnd.{RangeEnd}
 use Rattle.grouping.specs.declared.RangeEnd.the-variants.{Closed, Open}
 use Rattle.grouping.specs.declared.TimeRange.{TimeRange}
 use Rattle.time_distance.specs.Distance.{nearestOf, endNearest, sideOf, readFrom}
-use Rattle.range_times.specs.declared.Header.{Header}
+use Rattle.range_times.specs.declared.RangeTimesHeader.{RangeTimesHeader}
 
 -- ---- writing: the start's difference, then the end's. For an open end flags and tag are zero, and no byte is written
-unfoldable pub headerOf : TimeRange → TimeRange → Header
+unfoldable pub headerOf : TimeRange → TimeRange → RangeTimesHeader
 headerOf r t = record {
   «start_from_start» = nearestOf r (t .start) .«from_start»;
   «start_added» = nearestOf r (t .start) .added;
@@ -29,7 +29,7 @@ unfoldable pub timesBytes : TimeRange → TimeRange → List ℕ
 timesBytes r t = numberBytes 2 (nearestOf r (t .start) .difference) ++ endBytes r (t .end)
 
 -- ---- reading: a flag that names an open end is refused once the difference is read. Flags and tag of an open end are not looked at
-unfoldable pub readEnd : TimeRange → Bool → Header → Reader RangeEnd
+unfoldable pub readEnd : TimeRange → Bool → RangeTimesHeader → Reader RangeEnd
 readEnd r endOpen h =
     choose endOpen
     (give Open)
@@ -38,7 +38,7 @@ readEnd r endOpen h =
 abbrev pub timesFrom : ℕ → RangeEnd → TimeRange
 timesFrom start end = record { start = start; end = end }
 
-unfoldable pub readTimes : TimeRange → Bool → Header → Reader TimeRange
+unfoldable pub readTimes : TimeRange → Bool → RangeTimesHeader → Reader TimeRange
 readTimes r endOpen h =
     andThen (readFrom (sideOf r (h .«start_from_start»)) (h .«start_added») (h .«start_tag»)) (λ start.
     mapped (timesFrom start) (

@@ -18,7 +18,7 @@ use grouping::TimeRange;
 mod times_header;
 
 // What the header byte of the times says.
-pub struct Header {
+pub struct RangeTimesHeader {
     pub start_from_start: bool,
     pub start_added: bool,
     pub start_tag: u8,
@@ -38,13 +38,13 @@ pub struct DecodedEnd {
     pub end: RangeEnd,
 }
 
-fn header_of(times: TimeRange, reference: TimeRange) -> Header
+fn header_of(times: TimeRange, reference: TimeRange) -> RangeTimesHeader
     ensures { λ r. ⌜ r ≡ headerOf reference times ⌝ }
 {
     let end = times.end;
     let first = time_distance::nearest(reference, times.start);
     let last = time_distance::end_nearest(reference, end);
-    Header {
+    RangeTimesHeader {
         start_from_start: first.from_start,
         start_added: first.added,
         start_tag: compact_u64::min_tag(TagWidth::Two, first.difference),
@@ -70,7 +70,8 @@ fn side(reference: TimeRange, from_start: bool) -> RangeEnd
     reference.end
 }
 
-fn refuse(answer: Decoded) -> DecodedTimes
+// A refusal beside times in which none lies.
+pub fn refuse(answer: Decoded) -> DecodedTimes
     ensures { λ r. ⌜ (r .answer ≡ answer) × (r .times ≡ noTimes) ⌝ }
 {
     DecodedTimes {
@@ -86,7 +87,7 @@ fn refuse(answer: Decoded) -> DecodedTimes
 fn decode_end(
     message: &[u8],
     start: usize,
-    header: Header,
+    header: RangeTimesHeader,
     end_open: bool,
     reference: TimeRange,
 ) -> DecodedEnd
@@ -153,31 +154,34 @@ pub fn relative_len_of_encoding(times: TimeRange, reference: TimeRange) -> usize
     ensures { λ r. ⌜ (r ≡ length (timesBytes reference times)) × (r ≤ 16) ⌝ }
 {
     let first = time_distance::nearest(reference, times.start);
-    let a = compact_u64::relative_len_of_encoding(TagWidth::Two, first.difference);
     let end = times.end;
     let RangeEnd::Closed(time) = end else {
-        return a;
+        return compact_u64::relative_len_of_encoding(TagWidth::Two, first.difference);
     };
     let last = time_distance::nearest(reference, time);
-    a + compact_u64::relative_len_of_encoding(TagWidth::Two, last.difference)
+    compact_u64::relative_len_of_pair(
+        TagWidth::Two,
+        first.difference,
+        TagWidth::Two,
+        last.difference,
+    )
 }
 
 // Writes times after their header.
 pub fn relative_encode(buffer: &mut [u8], times: TimeRange, reference: TimeRange) -> Encoded
     ensures { λ r. ⌜ (outcomeOf r ≡ putAnswer allowed (timesBytes reference times) (length (now (buffer .entry)))) × (now (buffer .exit) ≡ putBuffer allowed (timesBytes reference times) (now (buffer .entry))) ⌝ }
 {
-    let n = relative_len_of_encoding(times, reference);
-    if buffer.len() < n {
-        return Encoded::NoRoom;
-    }
     let first = time_distance::nearest(reference, times.start);
-    let a = compact_u64::relative_len_of_encoding(TagWidth::Two, first.difference);
-    compact_u64::relative_encode(buffer, TagWidth::Two, first.difference);
     let end = times.end;
     let RangeEnd::Closed(time) = end else {
-        return Encoded::Length(n);
+        return compact_u64::relative_encode(buffer, TagWidth::Two, first.difference);
     };
     let last = time_distance::nearest(reference, time);
-    compact_u64::relative_encode(&mut buffer[a..], TagWidth::Two, last.difference);
-    Encoded::Length(n)
+    compact_u64::relative_encode_pair(
+        buffer,
+        TagWidth::Two,
+        first.difference,
+        TagWidth::Two,
+        last.difference,
+    )
 }

@@ -1,7 +1,7 @@
 // The header byte of the times of a 3d range.
 ghost use mathlib.Core.Path.{_≡_};
 ghost use Rattle.range_times.specs.Header.{unpackHeader, packHeader, HeaderFits};
-use crate::Header;
+use crate::RangeTimesHeader;
 
 // What one of each part adds to the byte.
 const START_FROM_START: u8 = 128;
@@ -16,10 +16,10 @@ const END_ADDED: u8 = 4;
 
 const END_TAG: u8 = 1;
 
-pub(crate) fn unpack(b: u8) -> Header
+pub(crate) fn unpack(b: u8) -> RangeTimesHeader
     ensures { λ r. ⌜ r ≡ unpackHeader b ⌝ }
 {
-    Header {
+    RangeTimesHeader {
         start_from_start: b / START_FROM_START % 2 == 1,
         start_added: b / START_ADDED % 2 == 1,
         start_tag: b / START_TAG % 4,
@@ -29,7 +29,7 @@ pub(crate) fn unpack(b: u8) -> Header
     }
 }
 
-pub(crate) fn pack(header: Header) -> u8
+pub(crate) fn pack(header: RangeTimesHeader) -> u8
     requires { ⌜ HeaderFits header ⌝ }
     ensures { λ r. ⌜ r ≡ packHeader header ⌝ }
 {

@@ -1,64 +1,33 @@
-use Rattle.codec.proofs.Prelude.{_≡_, sym, _∙_, true, _&&_, refl, now, length, not-true, not-false, needs}
-use Rattle.codec.specs.Format.{writeAnswer, writeBuffer}
-use Rattle.codec.proofs.Lending.{put-barred, same-writing}
+use Rattle.codec.proofs.Prelude.{sym, _∙_, refl, now, not-true, not-false, needs}
+use Rattle.codec.proofs.Lending.{put-barred, same-writing, writes-into}
 use Rattle.path.specs.Flat.{pathIn}
-use Rattle.grouping.specs.Record.{headed, sizedArea, wellFormedArea}
-use Rattle.grouping.proofs.Typed.{typed-area}
-use Rattle.grouping.proofs.Heads.{head-back}
+use Rattle.grouping.specs.Record.{Area, areaWith, sizedArea}
 use Rattle.area_area.specs.Records.{againstAreaBy, againstArea}
 use Rattle.area_area.proofs.Writing.{whole}
 use Rattle.area_area_encode.proofs.relative_encode.Statement.{statement}
 use Rattle.area_area_encode.proofs.relative_encode.Tie as tie
 
-abbrev start1 : tie.Else1 → tie.Start
-start1 c = c .before .before .before
+abbrev area : tie.Start → Area
+area c = areaWith (c .args .area) (pathIn (now (c .args .path)))
 
-abbrev start2 : tie.Else2 → tie.Start
-start2 c = start1 (c .before .before)
-
--- past both tests
-reference-well : (c : tie.Else1) → wellFormedArea (start1 c .args .reference) ≡ true
-reference-well c = sym (c .before .well-formed .ensures) ∙ not-false _ (c .if1 .left)
-
-area-well : (c : tie.Else2) → wellFormedArea (start2 c .args .area) ≡ true
-area-well c = sym (c .before .well-formed2 .ensures) ∙ not-false _ (c .if2 .left)
-
-both : (c : tie.Else2) → (wellFormedArea (start2 c .args .reference) && wellFormedArea (start2 c .args .area)) ≡ true
-both c = rw (reference-well (c .before .before), area-well c)
+abbrev reference : tie.Start → Area
+reference c = areaWith (c .args .reference) (pathIn (now (c .args .reference-path)))
 
 returns : tie.Need-returns
 returns c =
     let s : tie.Start = search in
-    put-barred (againstArea (s .args .reference) .check (s .args .area)) _ (now (s .args .buffer)) 5 (rw (← (c .before .well-formed .ensures), not-true (c .before .well-formed .result) (c .if1 .taken)))
+    writes-into (put-barred (againstArea (reference s) .check (area s)) _ (now (s .args .buffer)) 5
+    (rw (← (c .before .both-formed .ensures), not-true (c .before .both-formed .result) (c .if1 .taken))))
 
 returns-2 : tie.Need-returns-2
 returns-2 c =
+    let first : tie.After-both-formed = search in
     let else1 : tie.Else1 = search in
     let s : tie.Start = search in
-    put-barred (againstArea (s .args .reference) .check (s .args .area)) _ (now (s .args .buffer)) 5
-    (rw (reference-well else1, ← (c .before .well-formed2 .ensures), not-true (c .before .well-formed2 .result) (c .if2 .taken)))
-
-returns-3 : tie.Need-returns-3
-returns-3 c =
-    let else2 : tie.Else2 = search in
-    let else1 : tie.Else1 = search in
-    let first : tie.After-flat = search in
-    let second : tie.After-flat2 = search in
-    let head : tie.After-head = search in
-    let head2 : tie.After-head2 = search in
-    let s : tie.Start = search in
-    let a = s .args .area in
-    let r = s .args .reference in
-    let here = (λ i. headed (head .head .ensures i) (pathIn (first .flat .ensures i))) ∙ head-back a (typed-area a (s .good .1 .0)) (area-well else2) in
-    let there = (λ i. headed (head2 .head2 .ensures i) (pathIn (second .flat2 .ensures i))) ∙ head-back r (typed-area r (s .good .1 .1 .0)) (reference-well else1) in
+    let formed = sym (first .both-formed .ensures) ∙ not-false _ (else1 .if1 .left) in
+    let w = same-writing (againstAreaBy sizedArea (reference s)) (area s) (againstArea (reference s)) (whole (reference s) (area s) formed) refl (now (s .args .buffer)) in
     let put = c .before .before .relative-encode .ensures in
-    let l = now (s .args .buffer) in
-    let w = same-writing (againstAreaBy sizedArea r) a (againstArea r) (whole r a (both else2)) refl l in
-    (put .answer ∙ (λ i. writeAnswer (againstAreaBy sizedArea (there i)) (here i) (length l)) ∙ w .0, put .buffer ∙ (λ i. writeBuffer (againstAreaBy sizedArea (there i)) (here i) l) ∙ w .1)
+    writes-into (put .answer ∙ w .0, put .buffer ∙ w .1)
 
 pub relative-encode-spec : {M : Type 1} → statement M
-relative-encode-spec =
-    tie.close
-    (tie.spec
-    (λ c κs. search needs) returns (λ c κs. search needs) returns-2 (λ c κs. search needs) (λ c κs. search needs) (λ c κs. search needs)
-    (λ c. search needs) (λ c κs. search needs) (λ c. search needs) (λ c κs. search needs) (λ c. search needs) returns-3)
+relative-encode-spec = tie.close (tie.spec (λ c κs. search needs) returns (λ c κs. search needs) (λ c. search needs) returns-2)

@@ -1,4 +1,4 @@
-use Rattle.codec.proofs.Prelude.{_≡_, sym, _∙_, ap, List, ℕ, _++_, _≤_, append-nil, arith, now, length, drop, drop-of-length-le, take-all, needs}
+use Rattle.codec.proofs.Prelude.{sym, _∙_, _≤_, append-nil, arith, now, length, drop-of-length-le, take-all, needs}
 use Rattle.codec.proofs.Lending.{put-over}
 use Rattle.path.proofs.Loads.{path-stores}
 use Rattle.calls.proofs.copy_path.Statement.{statement}

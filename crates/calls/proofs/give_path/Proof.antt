@@ -7,7 +7,7 @@ use Rattle.calls.proofs.give_path.Tie as tie
 returns : tie.Need-returns
 returns c =
     let s : tie.Start = search in
-    stores-refused pathFlat (pathIn (now (s .args .path))) (s .args .answer) (c .before .match .keys2) (c .refusal .ensures)
+    rw (c .tell-refusal .ensures .1) (stores-refused pathFlat (pathIn (now (s .args .path))) (s .args .answer) (c .before .before .match .keys2) (c .tell-refusal .ensures .0))
 
 returns-2 : tie.Need-returns-2
 returns-2 c =

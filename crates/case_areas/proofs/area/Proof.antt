@@ -2,15 +2,15 @@ use Rattle.codec.proofs.Prelude.{sym, _∙_, _≡_, now, needs}
 use Rattle.case_text.specs.declared.Op.{Op}
 use Rattle.case_text.specs.declared.Op.the-variants as op
 use Rattle.case_text.proofs.Ways.{puts, against-refused, against-told}
-use Rattle.case_areas.specs.Lines.{againstLine, areaLine}
+use Rattle.case_areas.specs.Lines.{fieldArea, againstLine, areaLine}
 use Rattle.case_areas.proofs.area.Statement.{statement}
 use Rattle.case_areas.proofs.area.Tie as tie
 
 -- the reference was read: what is left of a line whose operation is x
 against : (o : tie.After-op) (x : Op) → o .op .result ≡ x →
-    let r = o .before .before .before .before .before in
+    let r = o .before .before .before .before in
     let line = now (r .before .before .before .args .line) in
-    areaLine line ≡ againstLine (r .read-area .result .area) x line
+    areaLine line ≡ againstLine (fieldArea (r .read-area .result)) x line
 against o x e =
     let q : tie.After-part = search in
     let r : tie.After-read-area = search in

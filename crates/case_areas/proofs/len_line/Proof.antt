@@ -13,5 +13,5 @@ len-line-spec =
     (λ c κs. search needs) (λ c κs. search needs) (λ c. search needs)
     (λ c. let f : tie.After-read-area = search in length-value areaField (againstArea _) 6 10 _ (omega arith) (f .read-area .ensures .0) (search) search)
     (λ c κs. search needs) (λ c κs. search needs) (λ c. search needs)
-    (λ c. let w : tie.After-relative-len-of-encoding = search in let f : tie.After-read-area = search in
-    length-answer areaField (againstArea _) 6 10 _ (omega arith) (f .read-area .ensures .0) (search) (w .relative-len-of-encoding .ensures) search))
+    (λ c. let w : tie.After-relative-len-of-encoding = search in let e : tie.Else2 = search in let f : tie.After-read-area = search in
+    length-answer areaField (againstArea _) 6 10 _ (omega arith) (f .read-area .ensures .0) (e .if2 .left) (w .relative-len-of-encoding .ensures) search))

@@ -1,12 +1,11 @@
-use Rattle.grouping.specs.Record.{areaFrom}
 use Rattle.case_areas.specs.Lines.{noArea}
 use Rattle.codec.proofs.Prelude.{needs}
 use Rattle.case_areas.proofs.no_area.Statement.{statement}
 use Rattle.case_areas.proofs.no_area.Tie as tie
 
 returns : tie.Need-returns
-unfolding noArea areaFrom
-returns c = rw (c .new-empty .ensures)
+unfolding noArea
+returns c = rw (c .before .empty .ensures, c .new-empty .ensures)
 
 pub no-area-spec : {M : Type 1} → statement M
-no-area-spec = tie.close (tie.spec (λ c κs. search needs) returns)
+no-area-spec = tie.close (tie.spec (λ c κs. search needs) (λ c κs. search needs) returns)

@@ -1,10 +1,11 @@
-use Rattle.codec.proofs.Prelude.{arith, length-append, _++_, needs}
+use Rattle.codec.proofs.Prelude.{arith, now, length-append, _++_, needs}
 use Rattle.text.specs.Decimal.{decimalText}
 use Rattle.text.proofs.DecimalPrinted.{decimal-few}
+use Rattle.path.specs.Flat.{pathIn}
 use Rattle.path_text.specs.PathText.{pathTextOf}
 use Rattle.path_text.proofs.Back.{path-text-laws}
 use Rattle.area_text.specs.AreaText.{subspaceText, endText}
-use Rattle.grouping.proofs.Typed.{typed-area}
+use Rattle.grouping.proofs.Typed.{typed-id}
 use Rattle.case_text.specs.Texts.{afterTab}
 use Rattle.case_text.proofs.Puts.{puts-tab, puts-fits, puts-first}
 use Rattle.area_text.proofs.Short.{subspace-few, end-few}
@@ -20,13 +21,12 @@ returns c =
     let after-put-subspace : tie.After-put-subspace = search in
     let start : tie.Start = search in
     let a = start .args .area in
-    let t = typed-area a (start .good .0) in
     let s = subspaceText (a .subspace) in
-    let p = pathTextOf (a .path) in
+    let p = pathTextOf (pathIn (now (start .args .path))) in
     let d = decimalText (a .times .start) in
     let e = endText (a .times .end) in
-    let sf = subspace-few (a .subspace) (t .long) in
-    let pf = path-text-laws .path-few (a .path) (t .path) in
+    let sf = subspace-few (a .subspace) (typed-id (a .subspace) (start .good .0 .1 .1 .0) .0) in
+    let pf = path-text-laws .path-few (pathIn (now (start .args .path))) in
     let df = decimal-few (a .times .start) in
     let ef = end-few (a .times .end) in
     let sp = length-append s (afterTab p) in

@@ -1,5 +1,6 @@
 use Rattle.codec.proofs.Prelude.{_≡_, refl, List, not, true, false, ℕ, _+_, not-true, not-false, needs}
-use Rattle.grouping.specs.declared.Area.{Area}
+use Rattle.path.specs.Flat.{pathIn}
+use Rattle.grouping.specs.Record.{Area}
 use Rattle.area_text.specs.declared.SubspaceField.{SubspaceField}
 use Rattle.area_text.specs.declared.EndField.{EndField}
 use Rattle.area_text.specs.AreaText.{readSubspaceText, readEndText}
@@ -31,7 +32,7 @@ module _ (i : ℕ) (line : List ℕ) {b : List ℕ} {s : SubspaceField} (first :
         no-end : (a : Area) → not (n .ok) ≡ true → Says (areaField i line) false a
         no-end a h = record { said = λ k. rw (← at, ← first, not-false (s .ok) e, ← at2, ← second, f, ← at3, ← third, g, ← at4, ← fourth, not-true (n .ok) h) }
 
-        all-four : not (n .ok) ≡ false → Says (areaField i line) true (record { subspace = s .subspace; path = p .path; times = record { start = v; end = n .end } })
+        all-four : not (n .ok) ≡ false → Says (areaField i line) true (record { subspace = s .subspace; path = pathIn (p .path .flat); times = record { start = v; end = n .end } })
         all-four h = record { said = λ k. rw (← at, ← first, not-false (s .ok) e, ← at2, ← second, f, ← at3, ← third, g, ← at4, ← fourth, not-false (n .ok) h) }
 
 pub read-area-spec : {M : Type 1} → statement M

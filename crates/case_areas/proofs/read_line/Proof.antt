@@ -1,5 +1,7 @@
 use Rattle.codec.proofs.Prelude.{sym, needs}
 use Rattle.case_areas.specs.Lines.{areaText}
+use Rattle.path.specs.Flat.{pathIn}
+use Rattle.grouping.specs.Record.{areaWith}
 use Rattle.area_area.specs.Records.{readAgainstArea}
 use Rattle.case_text.proofs.Steps.{message-inside, message-long}
 use Rattle.case_text.proofs.Ways.{read-refused, read-printed}
@@ -16,5 +18,5 @@ read-line-spec =
     (λ c. let m : tie.After-message = search in sym (message-long (m .message .ensures) (c .before .before .message2 .given .1)))
     (λ c κs. search needs) (λ c κs. search needs) (λ c κs. search needs) (λ c. search needs)
     (λ c. let p : tie.After-print = search in let d : tie.After-relative-decode = search in let n : tie.After-message2 = search in let m : tie.After-message = search in
-    read-printed areaText (readAgainstArea _ _) 6 _ (m .message .ensures) (d .relative-decode .result .answer) (d .relative-decode .result .area) (n .message2 .given .1)
+    read-printed areaText (readAgainstArea _ _) 6 _ (m .message .ensures) (d .relative-decode .result .answer) (areaWith (d .relative-decode .result .head) (pathIn _)) (n .message2 .given .1)
     (d .relative-decode .ensures .answer) (p .print .ensures) search))

@@ -5,6 +5,7 @@ use Rattle.case_text.specs.declared.Op.the-variants as op
 use Rattle.case_text.specs.Fields.{onField}
 use Rattle.case_text.proofs.Steps.{field-says}
 use Rattle.case_text.proofs.Ways.{puts, against-refused, against-told}
+use Rattle.case_areas.specs.Lines.{fieldArea}
 use Rattle.case_entries.specs.Lines.{againstLine, onNamespace, entryLine}
 use Rattle.case_entries.proofs.entry.Statement.{statement}
 use Rattle.case_entries.proofs.entry.Tie as tie
@@ -21,10 +22,10 @@ namespace r b e =
 
 -- the area was read too: what is left of a line whose operation is x
 against : (o : tie.After-op) (x : Op) → o .op .result ≡ x →
-    let a = o .before .before .before .before .before .before in
+    let a = o .before .before .before .before .before in
     let r = a .before .before .before in
     let line = now (r .before .before .before .before .args .line) in
-    entryLine line ≡ againstLine (r .read-id .result .id) (a .read-area .result .area) x line
+    entryLine line ≡ againstLine (r .read-id .result .id) (fieldArea (a .read-area .result)) x line
 against o x e =
     let q : tie.After-part2 = search in
     let a : tie.After-read-area = search in

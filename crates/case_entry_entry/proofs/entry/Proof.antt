@@ -2,15 +2,16 @@ use Rattle.codec.proofs.Prelude.{sym, _∙_, _≡_, now, needs}
 use Rattle.case_text.specs.declared.Op.{Op}
 use Rattle.case_text.specs.declared.Op.the-variants as op
 use Rattle.case_text.proofs.Ways.{puts, against-refused, against-told}
+use Rattle.case_entry_text.specs.Fields.{fieldEntry}
 use Rattle.case_entry_entry.specs.Lines.{againstLine, entryEntryLine}
 use Rattle.case_entry_entry.proofs.entry.Statement.{statement}
 use Rattle.case_entry_entry.proofs.entry.Tie as tie
 
 -- the reference was read: what is left of a line whose operation is x
 against : (o : tie.After-op) (x : Op) → o .op .result ≡ x →
-    let r = o .before .before .before .before .before in
+    let r = o .before .before .before .before in
     let line = now (r .before .before .before .args .line) in
-    entryEntryLine line ≡ againstLine (r .read-entry .result .entry) x line
+    entryEntryLine line ≡ againstLine (fieldEntry (r .read-entry .result)) x line
 against o x e =
     let q : tie.After-part = search in
     let r : tie.After-read-entry = search in

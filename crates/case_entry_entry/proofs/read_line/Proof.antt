@@ -1,4 +1,6 @@
 use Rattle.codec.proofs.Prelude.{sym, needs}
+use Rattle.path.specs.Flat.{pathIn}
+use Rattle.entry.specs.Record.{entryWith}
 use Rattle.case_entry_text.specs.Fields.{entryText}
 use Rattle.entry_entry.specs.Records.{readAgainstEntry}
 use Rattle.case_text.proofs.Puts.{puts-first}
@@ -17,5 +19,5 @@ read-line-spec =
     (λ c. let m : tie.After-message = search in sym (message-long (m .message .ensures) (c .before .before .message2 .given .1)))
     (λ c κs. search needs) (λ c κs. search needs) (λ c κs. search needs) (λ c. search needs)
     (λ c. let p : tie.After-print-entry = search in let d : tie.After-relative-decode = search in let n : tie.After-message2 = search in let m : tie.After-message = search in
-    read-printed entryText (readAgainstEntry _) 8 _ (m .message .ensures) (d .relative-decode .result .answer) (d .relative-decode .result .entry) (n .message2 .given .1)
+    read-printed entryText (readAgainstEntry _) 8 _ (m .message .ensures) (d .relative-decode .result .answer) (entryWith (d .relative-decode .result .fields) (pathIn _)) (n .message2 .given .1)
     (d .relative-decode .ensures .answer) (puts-first (p .print-entry .ensures)) search))

@@ -1,7 +1,9 @@
 use Rattle.codec.proofs.Prelude.{length, length-append, _≡_, now, arith, _++_, needs}
 use Rattle.text.specs.Hex.{hexText}
 use Rattle.text.proofs.HexSteps.{hexText-long}
-use Rattle.entry.proofs.Typed.{typed-entry}
+use Rattle.path.specs.Flat.{pathIn}
+use Rattle.entry.specs.Record.{entryWith}
+use Rattle.entry.proofs.Typed.{namespace-long, subspace-long, digest-long}
 use Rattle.case_text.specs.Texts.{afterTab}
 use Rattle.text.specs.Decimal.{decimalText}
 use Rattle.text.proofs.DecimalPrinted.{decimal-few}
@@ -14,7 +16,7 @@ use Rattle.case_entry_text.proofs.print_entry.Tie as tie
 slice-aggregate-put-hex : tie.Need-slice-aggregate-put-hex
 slice-aggregate-put-hex c =
     let start : tie.Start = search in
-    search (needs, typed-entry (start .args .entry) (start .good .0) .digest .0)
+    search (needs, digest-long (start .args .fields) (start .good .0))
 
 returns : tie.Need-returns
 returns c =
@@ -25,19 +27,19 @@ returns c =
     let after-put-bytes : tie.After-put-bytes = search in
     let after-print-names : tie.After-print-names = search in
     let start : tie.Start = search in
-    let a = start .args .entry in
+    let f = start .args .fields in
+    let a = entryWith f (pathIn (now (start .args .path))) in
     let b = start .args .buffer in
     let g : length (now b) ≡ 8192 = after-print-names .print-names .ensures .1 in
-    let t = typed-entry a (start .good .0) in
     let x = namesText a in
     let d = decimalText (a .timestamp) in
     let z = decimalText (a .«payload_length») in
     let h = hexText (a .«payload_digest») in
-    let xf = names-few a t in
+    let xf = names-few a (namespace-long f (start .good .0)) (subspace-long f (start .good .0)) in
     let df = decimal-few (a .timestamp) in
     let zf = decimal-few (a .«payload_length») in
     let hl = hexText-long (a .«payload_digest») in
-    let ht = t .digest .0 in
+    let ht = digest-long f (start .good .0) in
     let xd = length-append x (afterTab d) in
     let xdz = length-append (x ++ afterTab d) (afterTab z) in
     puts-tab

@@ -1,15 +1,13 @@
 use Rattle.codec.proofs.Prelude.{_≡_, refl, List, Bool, not, true, false, ℕ, _+_, not-true, not-false, needs}
-use Rattle.case_text.specs.Fields.{decimalField, idField}
-use Rattle.case_entry_text.specs.declared.Names.{Names}
+use Rattle.case_text.specs.Fields.{decimalField, idField, field, Says}
 use Rattle.decimal.specs.Decimal.{readDecimal}
 use Rattle.decimal.specs.declared.Decimal.{Decimal}
 use Rattle.decimal.specs.declared.Decimal.the-variants as decimal
 use Rattle.text.specs.declared.IdField.{IdField}
 use Rattle.text.specs.Ids.{readId}
-use Rattle.entry.specs.declared.Entry.{Entry}
-use Rattle.case_text.specs.Fields.{field, Says}
+use Rattle.entry.specs.Record.{Entry}
 use Rattle.case_text.proofs.Steps.{says-then, says-none, says-as}
-use Rattle.case_entry_text.specs.Fields.{namesField, entryField, noEntry}
+use Rattle.case_entry_text.specs.Fields.{Names, namesField, entryField, noEntry}
 use Rattle.case_entry_text.proofs.read_entry.Statement.{statement}
 use Rattle.case_entry_text.proofs.read_entry.Tie as tie
 

@@ -1,12 +1,12 @@
 use Rattle.codec.proofs.Prelude.{_≡_, List, not, true, false, ℕ, _+_, not-true, not-false, needs}
+use Rattle.path.specs.Flat.{pathIn}
 use Rattle.text.specs.declared.IdField.{IdField}
 use Rattle.text.specs.Ids.{readId}
 use Rattle.path_text.specs.declared.PathField.{PathField}
 use Rattle.path_text.specs.declared.Found.the-variants as found
 use Rattle.path_text.specs.PathText.{readPathText}
-use Rattle.case_entry_text.specs.declared.Names.{Names}
 use Rattle.case_text.specs.Fields.{field, Says}
-use Rattle.case_entry_text.specs.Fields.{namesField, noNames}
+use Rattle.case_entry_text.specs.Fields.{Names, namesField, noNames}
 use Rattle.case_entry_text.proofs.read_names.Statement.{statement}
 use Rattle.case_entry_text.proofs.read_names.Tie as tie
 
@@ -23,7 +23,7 @@ module _ (i : ℕ) (line : List ℕ) {s1 : List ℕ} {x1 : IdField} (read1 : x1 
       no-path : (a : Names) → x3 .found ≡ found.Refused → Says (namesField i line) false a
       no-path a e = record { said = λ k. rw (← part1, ← read1, not-false (x1 .ok) ok1, ← part2, ← read2, not-false (x2 .ok) ok2, ← part3, ← read3, e) }
 
-      all-read : (ok3 : x3 .found ≡ found.Read) → Says (namesField i line) true (record { «namespace_id» = x1 .id; «subspace_id» = x2 .id; path = x3 .path })
+      all-read : (ok3 : x3 .found ≡ found.Read) → Says (namesField i line) true (record { «namespace_id» = x1 .id; «subspace_id» = x2 .id; path = pathIn (x3 .path .flat) })
       all-read ok3 = record { said = λ k. rw (← part1, ← read1, not-false (x1 .ok) ok1, ← part2, ← read2, not-false (x2 .ok) ok2, ← part3, ← read3, ok3) }
 
 pub read-names-spec : {M : Type 1} → statement M

@@ -5,6 +5,7 @@ use Rattle.case_text.specs.declared.Op.the-variants as op
 use Rattle.case_text.specs.Fields.{pathField}
 use Rattle.case_text.specs.Records.{recordLine}
 use Rattle.case_text.proofs.Ways.{puts, op-told}
+use Rattle.path.specs.Flat.{pathIn}
 use Rattle.case_paths.specs.Lines.{encodingReader, encodingFormat, encodingLine}
 use Rattle.case_paths.proofs.answer.Statement.{statement}
 use Rattle.case_paths.proofs.answer.Tie as tie
@@ -12,13 +13,13 @@ use Rattle.case_paths.proofs.answer.Tie as tie
 -- what is left of a line whose operation is x
 told : (o : tie.After-op) (x : Op) → o .op .result ≡ x →
     let a = o .before .before .before .before .args in
-    encodingLine (a .encoding) (a .reference) (a .i) (now (a .line))
-    ≡ recordLine pathField pathTextOf (encodingReader (a .encoding) (a .reference)) (encodingFormat (a .encoding) (a .reference)) (a .i) (a .i + 1) x (now (a .line))
+    encodingLine (a .encoding) (pathIn (a .reference .flat)) (a .i) (now (a .line))
+    ≡ recordLine pathField pathTextOf (encodingReader (a .encoding) (pathIn (a .reference .flat))) (encodingFormat (a .encoding) (pathIn (a .reference .flat))) (a .i) (a .i + 1) x (now (a .line))
 told o x e =
     let q : tie.After-part = search in
     let s : tie.Start = search in
     let a = s .args in
-    op-told (recordLine pathField pathTextOf (encodingReader (a .encoding) (a .reference)) (encodingFormat (a .encoding) (a .reference)) (a .i) (a .i + 1)) (now (a .line)) x (sym (rw (q .part .ensures) at (o .op .ensures)) ∙ e)
+    op-told (recordLine pathField pathTextOf (encodingReader (a .encoding) (pathIn (a .reference .flat))) (encodingFormat (a .encoding) (pathIn (a .reference .flat))) (a .i) (a .i + 1)) (now (a .line)) x (sym (rw (q .part .ensures) at (o .op .ensures)) ∙ e)
 
 pub answer-spec : {M : Type 1} → statement M
 answer-spec =

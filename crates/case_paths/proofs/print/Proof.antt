@@ -1,5 +1,5 @@
-use Rattle.codec.proofs.Prelude.{arith, needs}
-use Rattle.path.proofs.Typed.{typed}
+use Rattle.codec.proofs.Prelude.{arith, now, needs}
+use Rattle.path.specs.Flat.{pathIn}
 use Rattle.path_text.specs.PathText.{pathTextOf}
 use Rattle.path_text.proofs.Back.{path-text-laws}
 use Rattle.case_text.proofs.Puts.{puts-fits, puts-first}
@@ -8,8 +8,9 @@ use Rattle.case_paths.proofs.print.Tie as tie
 
 returns : tie.Need-returns
 returns c =
-    let p = c .before .before .args .path in
-    puts-first (puts-fits (pathTextOf p) (omega (arith, path-text-laws .path-few p (typed p (c .before .before .good .0)))) (c .put-path .ensures))
+    let s : tie.Start = search in
+    let p = pathIn (now (s .args .path)) in
+    puts-first (puts-fits (pathTextOf p) (omega (arith, path-text-laws .path-few p)) (c .put-path .ensures))
 
 pub print-spec : {M : Type 1} → statement M
 print-spec = tie.close (tie.spec (λ c κs. search needs) returns)

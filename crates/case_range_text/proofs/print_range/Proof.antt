@@ -1,14 +1,14 @@
-use Rattle.codec.proofs.Prelude.{_≡_, _++_, now, arith, length, length-append, needs}
+use Rattle.codec.proofs.Prelude.{_≡_, _++_, _≤_, now, arith, length, length-append, needs}
 use Rattle.text.specs.Decimal.{decimalText}
 use Rattle.text.proofs.DecimalPrinted.{decimal-few}
 use Rattle.path_text.specs.PathText.{pathTextOf}
 use Rattle.path_text.proofs.Back.{path-text-laws}
 use Rattle.area_text.specs.AreaText.{endText}
 use Rattle.area_text.proofs.Short.{end-few}
-use Rattle.range_3d.proofs.Typed.{typed-range3d}
+use Rattle.path.specs.Flat.{pathIn}
 use Rattle.case_text.specs.Texts.{afterTab}
 use Rattle.case_text.proofs.Puts.{puts-tab}
-use Rattle.case_range_text.proofs.Printed.{subspaces-few, path-end-few}
+use Rattle.case_range_text.proofs.Printed.{path-end-few}
 use Rattle.case_range_text.specs.Fields.{subspacesText, pathEndText}
 use Rattle.case_range_text.proofs.print_range.Statement.{statement}
 use Rattle.case_range_text.proofs.print_range.Tie as tie
@@ -26,15 +26,14 @@ returns c =
     let a = start .args .range in
     let b = start .args .buffer in
     let g : length (now b) ≡ 8192 = after-print-subspaces .print-subspaces .ensures .1 in
-    let t = typed-range3d a (start .good .0) in
     let x = subspacesText (a .subspaces) in
-    let p = pathTextOf (a .paths .start) in
-    let q = pathEndText (a .paths) in
+    let p = pathTextOf (pathIn (now (start .args .start))) in
+    let q = pathEndText (a .«end_open») (pathIn (now (start .args .end))) in
     let d = decimalText (a .times .start) in
     let e = endText (a .times .end) in
-    let xf = subspaces-few (a .subspaces) (t .subspaces) in
-    let pf = path-text-laws .path-few (a .paths .start) (t .paths .start) in
-    let qf = path-end-few (a .paths) (t .paths) in
+    let xf : length x ≤ 129 = omega (arith, after-print-subspaces .print-subspaces .ensures .0 .place, after-print-subspaces .print-subspaces .ensures .2) in
+    let pf = path-text-laws .path-few (pathIn (now (start .args .start))) in
+    let qf = path-end-few (a .«end_open») (pathIn (now (start .args .end))) in
     let df = decimal-few (a .times .start) in
     let ef = end-few (a .times .end) in
     let xp = length-append x (afterTab p) in

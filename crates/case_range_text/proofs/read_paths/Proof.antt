@@ -3,10 +3,9 @@ use Rattle.path_text.specs.declared.PathField.{PathField}
 use Rattle.path_text.specs.declared.Found.the-variants as found
 use Rattle.path_text.specs.PathText.{readPathText}
 use Rattle.case_range_text.specs.declared.PathEndField.{PathEndField}
-use Rattle.case_range_text.specs.Fields.{readPathEnd}
-use Rattle.range_3d.specs.declared.PathRange.{PathRange}
+use Rattle.case_range_text.specs.Fields.{readPathEnd, pathsField, pathsSaid, noPathsField}
+use Rattle.range_3d.specs.Record.{PathRange}
 use Rattle.case_text.specs.Fields.{field, Says}
-use Rattle.case_range_text.specs.Fields.{pathsField, noPathsField}
 use Rattle.case_range_text.proofs.read_paths.Statement.{statement}
 use Rattle.case_range_text.proofs.read_paths.Tie as tie
 
@@ -19,7 +18,7 @@ module _ (i : ℕ) (line : List ℕ) {s1 : List ℕ} {x1 : PathField} (read1 : x
     no-end : (a : PathRange) → not (x2 .ok) ≡ true → Says (pathsField i line) false a
     no-end a e = record { said = λ k. rw (← part1, ← read1, ok1, ← part2, ← read2, not-true (x2 .ok) e) }
 
-    all-read : (ok2 : not (x2 .ok) ≡ false) → Says (pathsField i line) true (record { start = x1 .path; «end_open» = x2 .end .«end_open»; end = x2 .end .path })
+    all-read : (ok2 : not (x2 .ok) ≡ false) → Says (pathsField i line) true (pathsSaid (record { ok = true; start = x1 .path; end = x2 .end }))
     all-read ok2 = record { said = λ k. rw (← part1, ← read1, ok1, ← part2, ← read2, not-false (x2 .ok) ok2) }
 
 pub read-paths-spec : {M : Type 1} → statement M

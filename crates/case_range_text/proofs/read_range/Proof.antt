@@ -1,8 +1,7 @@
 use Rattle.codec.proofs.Prelude.{_≡_, refl, List, Bool, not, true, false, ℕ, _+_, not-true, not-false, needs}
 use Rattle.range_3d.specs.declared.SubspaceRange.{SubspaceRange}
-use Rattle.range_3d.specs.declared.PathRange.{PathRange}
+use Rattle.range_3d.specs.Record.{PathRange, Range3d}
 use Rattle.grouping.specs.declared.TimeRange.{TimeRange}
-use Rattle.range_3d.specs.declared.Range3d.{Range3d}
 use Rattle.case_text.specs.Fields.{Says}
 use Rattle.case_text.proofs.Steps.{says-then, says-none, says-as}
 use Rattle.case_range_text.specs.Fields.{subspacesField, pathsField, timesField, rangeField, noRangeField}
@@ -52,5 +51,5 @@ read-range-spec =
     (λ c. search needs) (λ c κs. search needs) (λ c κs. search needs)
     (λ c. let d : tie.After-read-times = search in let b : tie.After-read-paths = search in let a : tie.After-read-subspaces = search in
     rw (c .no-range3 .ensures) (no-times _ _ (a .read-subspaces .ensures) (search) (b .read-paths .ensures) (search) (d .read-times .ensures) _ (search), refl))
-    (λ c. let d : tie.After-read-times = search in let b : tie.After-read-paths = search in let a : tie.After-read-subspaces = search in
-    (all-read _ _ (a .read-subspaces .ensures) (search) (b .read-paths .ensures) (search) (d .read-times .ensures) (search), refl)))
+    (λ c. let e : tie.Else3 = search in let d : tie.After-read-times = search in let b : tie.After-read-paths = search in let a : tie.After-read-subspaces = search in
+    (all-read _ _ (a .read-subspaces .ensures) (search) (b .read-paths .ensures) (search) (d .read-times .ensures) (e .if3 .left), refl)))

@@ -2,15 +2,16 @@ use Rattle.codec.proofs.Prelude.{sym, _∙_, _≡_, now, needs}
 use Rattle.case_text.specs.declared.Op.{Op}
 use Rattle.case_text.specs.declared.Op.the-variants as op
 use Rattle.case_text.proofs.Ways.{puts, against-refused, against-told}
+use Rattle.case_range_text.specs.Fields.{rangeSaid}
 use Rattle.case_ranges.specs.Lines.{againstLine, rangeLine}
 use Rattle.case_ranges.proofs.range.Statement.{statement}
 use Rattle.case_ranges.proofs.range.Tie as tie
 
 -- the reference was read: what is left of a line whose operation is x
 against : (o : tie.After-op) (x : Op) → o .op .result ≡ x →
-    let r = o .before .before .before .before .before in
+    let r = o .before .before .before .before in
     let line = now (r .before .before .before .args .line) in
-    rangeLine line ≡ againstLine (r .read-range .result .range) x line
+    rangeLine line ≡ againstLine (rangeSaid (r .read-range .result)) x line
 against o x e =
     let q : tie.After-part = search in
     let r : tie.After-read-range = search in

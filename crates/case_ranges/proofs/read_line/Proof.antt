@@ -7,6 +7,10 @@ use Rattle.case_text.proofs.Ways.{read-refused, read-printed}
 use Rattle.case_ranges.proofs.read_line.Statement.{statement}
 use Rattle.case_ranges.proofs.read_line.Tie as tie
 
+-- an earlier place
+abbrev told : tie.After-relative-decode → tie.After-message2
+told c = c .before .before .before .before .before .before .before .before .before .before .before
+
 pub read-line-spec : {M : Type 1} → statement M
 read-line-spec =
     tie.close
@@ -16,6 +20,7 @@ read-line-spec =
     (λ c. let m : tie.After-message = search in message-inside (m .message .ensures) (c .before .message2 .given .1))
     (λ c. let m : tie.After-message = search in sym (message-long (m .message .ensures) (c .before .before .message2 .given .1)))
     (λ c κs. search needs) (λ c κs. search needs) (λ c κs. search needs) (λ c. search needs)
-    (λ c. let p : tie.After-print-range = search in let d : tie.After-relative-decode = search in let n : tie.After-message2 = search in let m : tie.After-message = search in
-    read-printed rangeText (readAgainstRange _) 8 _ (m .message .ensures) (d .relative-decode .result .answer) (d .relative-decode .result .range) (n .message2 .given .1)
+    (λ c. let p : tie.After-print-range = search in let d : tie.After-relative-decode = search in
+    let n = told d in let m = n .before .before .before in
+    read-printed rangeText (readAgainstRange _) 8 _ (m .message .ensures) (d .relative-decode .result .answer) _ (n .message2 .given .1)
     (d .relative-decode .ensures .answer) (puts-first (p .print-range .ensures)) search))

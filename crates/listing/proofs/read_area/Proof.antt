@@ -1,17 +1,16 @@
 use Rattle.codec.proofs.Prelude.{_≡_, List, not, true, false, ℕ, not-true, not-false, needs}
 use Rattle.area_text.specs.declared.SubspaceField.{SubspaceField}
-use Rattle.area_text.specs.AreaText.{readSubspaceText}
+use Rattle.area_text.specs.AreaText.{readSubspaceText, readEndText}
 use Rattle.path_text.specs.declared.PathField.{PathField}
 use Rattle.path_text.specs.declared.Found.the-variants as found
-use Rattle.listing.specs.Lines.{readPathField}
+use Rattle.listing.specs.Lines.{readPathField, areaField}
 use Rattle.decimal.specs.Decimal.{readDecimal}
 use Rattle.decimal.specs.declared.Decimal.{Decimal}
 use Rattle.decimal.specs.declared.Decimal.the-variants as decimal
 use Rattle.area_text.specs.declared.EndField.{EndField}
-use Rattle.area_text.specs.AreaText.{readEndText}
-use Rattle.grouping.specs.declared.Area.{Area}
+use Rattle.path.specs.Flat.{pathIn}
+use Rattle.grouping.specs.Record.{Area}
 use Rattle.case_text.specs.Fields.{field, Says}
-use Rattle.listing.specs.Lines.{areaField}
 use Rattle.listing.proofs.read_area.Statement.{statement}
 use Rattle.listing.proofs.read_area.Tie as tie
 
@@ -32,7 +31,7 @@ module _ (line : List ℕ) {s1 : List ℕ} {x1 : SubspaceField} (read1 : x1 ≡ 
         no-end : (a : Area) → not (x4 .ok) ≡ true → Says (areaField line) false a
         no-end a e = record { said = λ k. rw (← part1, ← read1, not-false (x1 .ok) ok1, ← part2, ← read2, ok2, ← part3, ← read3, ok3, ← part4, ← read4, not-true (x4 .ok) e) }
 
-        all-read : (ok4 : not (x4 .ok) ≡ false) → Says (areaField line) true (record { subspace = x1 .subspace; path = x2 .path; times = record { start = v3; end = x4 .end } })
+        all-read : (ok4 : not (x4 .ok) ≡ false) → Says (areaField line) true (record { subspace = x1 .subspace; path = pathIn (x2 .path .flat); times = record { start = v3; end = x4 .end } })
         all-read ok4 = record { said = λ k. rw (← part1, ← read1, not-false (x1 .ok) ok1, ← part2, ← read2, ok2, ← part3, ← read3, ok3, ← part4, ← read4, not-false (x4 .ok) ok4) }
 
 pub read-area-spec : {M : Type 1} → statement M

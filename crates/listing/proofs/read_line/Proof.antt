@@ -1,5 +1,6 @@
 use Rattle.codec.proofs.Prelude.{Bool, ℕ, sym, List, arith, now, needs}
-use Rattle.grouping.specs.declared.Area.{Area}
+use Rattle.path.specs.Flat.{pathIn}
+use Rattle.grouping.specs.Record.{Area, areaWith}
 use Rattle.area_area.specs.Records.{readAgainstArea}
 use Rattle.case_text.specs.Texts.{readText}
 use Rattle.case_text.specs.Fields.{hexField}
@@ -32,5 +33,5 @@ read-line-spec =
     (λ c. let p : tie.After-print = search in let d : tie.After-relative-decode = search in let n : tie.After-hex2 = search in let h : tie.After-hex = search in
     let a : tie.After-read-area = search in let s : tie.Start = search in
     counted 6 _ _ (omega arith) (says-so (λ i line k. areaField line k) 1 (now (s .args .line)) (said (s .args .canonic) (now (s .args .line))) (a .read-area .ensures) (search)
-    (hex-printed areaText (readAgainstArea (s .args .canonic) (a .read-area .result .area)) (d .relative-decode .result .answer) (d .relative-decode .result .area) (h .hex .ensures)
+    (hex-printed areaText (readAgainstArea (s .args .canonic) (areaWith (a .read-area .result .head) (pathIn (a .read-area .result .path .flat)))) (d .relative-decode .result .answer) (areaWith (d .relative-decode .result .head) (pathIn _)) (h .hex .ensures)
     (n .hex2 .given .1) (d .relative-decode .ensures .answer) (puts-first (p .print .ensures)) search))))

@@ -1,5 +1,5 @@
 -- The invariant: `clear` says whether the first i are zero.
-use Rattle.codec.proofs.Prelude.{_≤_, _-_, _≡_, refl, _∙_, sym, _&&_, and-true, and-false, ⊎-elim, now, arith, lt-leb, le-leb, length, drop}
+use Rattle.codec.proofs.Prelude.{_≤_, _-_, _≡_, _∙_, sym, _&&_, and-true, and-false, ⊎-elim, now, arith, lt-leb, le-leb, length, drop}
 use Rattle.path.specs.Record.{allAtMost}
 use Rattle.path.proofs.Lists.{at-most-next, at-most-end}
 use Rattle.path.proofs.all_zero.Statement.{statement}

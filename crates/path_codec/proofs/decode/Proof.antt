@@ -1,13 +1,17 @@
-use Rattle.codec.proofs.Prelude.{_≡_, ap, _∙_, sym, [], _+_, _≤_, now, arith, length, drop, length-drop, needs}
-use Rattle.codec.specs.Answers.{accepted, answerOf}
+use Rattle.codec.proofs.Prelude.{[], _≡_, ap, _∙_, sym, _+_, _≤_, now, arith, length, drop, length-drop, needs}
+use Rattle.codec.specs.Answers.{accepted, answerOf, Gives}
 use Rattle.codec.specs.declared.Decoded.{Decoded}
 use Rattle.codec.proofs.Answers.{gives-refused, later-accepted, later-refused}
 use Rattle.codec.proofs.Lending.{to-end}
+use Rattle.path.specs.Record.{pathFrom}
+use Rattle.path.specs.Flat.{pathIn}
+use Rattle.path.proofs.Growing.{in-empty}
 use Rattle.path_suffix.specs.Suffix.{sizesFrom, readSizes}
-use Rattle.path_codec.specs.Plain.{readAfter}
-use Rattle.path_codec.specs.Answers.{GivesPath, sizesAnswer}
-use Rattle.path_codec.proofs.After.{after-bounded}
-use Rattle.path_codec.proofs.Exits.{no-sizes, sizes-inside, path-refused, path-after}
+use Rattle.path_suffix_decode.specs.After.{readMore}
+use Rattle.path_suffix_decode.specs.Answers.{sizesAnswer}
+use Rattle.path_suffix_decode.proofs.Within.{more-bounded}
+use Rattle.path_suffix_decode.proofs.Exits.{no-sizes, sizes-inside}
+use Rattle.path_codec.proofs.Exits.{path-refused, path-more}
 use Rattle.path_codec.proofs.decode.Statement.{statement}
 use Rattle.path_codec.proofs.decode.Tie as tie
 
@@ -29,65 +33,67 @@ begins c =
     sizes-inside (a .canonic) (now (a .message)) (a .start) _ _ (sizes-are c)
 
 -- the components, read after none
-components-are : (c : tie.After-decode-after) → let a = c .before .before .before .before .before .before .before .before .before .args in
-    let h = c .before .before .before .before .before .sizes .given .0 in
-    GivesPath (c .decode-after .result) (readAfter (a .canonic) [] [] (h .0) (h .1 .0) (drop (a .start + h .1 .1 .0) (now (a .message))))
+components-are : (c : tie.After-decode-components) → let a = known-told-start (c .before .before .before) .args in
+    let h = c .before .before .before .before .sizes .given .0 in
+    Gives (pathFrom []) (c .decode-components .result) (pathIn (c .decode-components .last .1 .1 .1 .1 .0)) (readMore (a .canonic) [] (h .0) (h .1 .0) (drop (a .start + h .1 .1 .0) (now (a .message))))
 components-are c =
     let after-sizes : tie.After-sizes = search in
     let start : tie.Start = search in
     let a = start .args in
     let at = a .start + after-sizes .sizes .given .0 .1 .1 .0 in
-    rw (to-end at (now (a .message))) at (c .decode-after .ensures)
+    rw (to-end at (now (a .message))) at (c .decode-components .ensures)
 
 returns : tie.Need-returns
 returns c =
     let after-decode-sizes : tie.After-decode-sizes = search in
     let start : tie.Start = search in
     let a = start .args in
-    let x = no-sizes (after-decode-sizes .decode-sizes .result) (c .before .before .match .keys2) in
-    rw (c .refuse .ensures, c .before .sizes-refusal .ensures)
+    let x = no-sizes (after-decode-sizes .decode-sizes .result) (c .before .before .before .match .keys2) in
+    rw (c .sizes-refusal .ensures, c .before .clear .ensures, in-empty)
     (gives-refused (x .why) (x .path) (path-refused (a .canonic) (now (a .message)) (a .start) (x .why) (sym (after-decode-sizes .decode-sizes .ensures) ∙ x .sizes)))
 
 add-at : tie.Need-add-at
 add-at c = omega (arith, begins c)
 
-sub-decode-after : tie.Need-sub-decode-after
-sub-decode-after c = begins c
+sub-rest : tie.Need-sub-rest
+sub-rest c =
+    let told : tie.After-known-told = search in
+    begins told
 
-part-decode-after-start : tie.Need-part-decode-after-start
-part-decode-after-start c = omega (arith, begins c)
+part-rest-start : tie.Need-part-rest-start
+part-rest-start c =
+    let told : tie.After-known-told = search in
+    omega (arith, begins told)
 
 returns-2 : tie.Need-returns-2
 returns-2 c =
-    let after-known-told : tie.After-known-told = search in
+    let told : tie.After-known-told = search in
     let start : tie.Start = search in
     let a = start .args in
-    rw (path-after (a .canonic) (now (a .message)) (a .start) _ _ _ (sizes-are after-known-told)) (later-refused _ _ (c .match2 .keys2) (components-are (c .before)))
+    rw (path-more (a .canonic) (now (a .message)) (a .start) _ _ _ (sizes-are told)) (later-refused _ _ (c .match2 .keys2) (components-are (c .before)))
 
 add-t16 : tie.Need-add-t16
 add-t16 c =
-    let after-decode-after : tie.After-decode-after = search in
-    let after-known-told : tie.After-known-told = search in
+    let read : tie.After-decode-components = search in
+    let told : tie.After-known-told = search in
     let after-sizes : tie.After-sizes = search in
     let start : tie.Start = search in
     let a = start .args in
     let n = after-sizes .sizes .given .0 .1 .1 .0 in
-    let g = components-are after-decode-after in
-    let e = sym (g .answer) ∙ ap (λ (d : Decoded). answerOf d (after-decode-after .decode-after .result .path)) (c .before .before .answer .given .1) in
-    omega (arith, begins after-known-told, after-bounded (a .canonic) [] [] _ _ .bound (drop (a .start + n) (now (a .message))) _ _ e, length-drop (a .start + n) (now (a .message)))
+    let e = sym (components-are read .answer) ∙ ap (λ (d : Decoded). answerOf d (pathIn (read .decode-components .last .1 .1 .1 .1 .0))) (c .before .answer .given .1) in
+    omega (arith, begins told, more-bounded (a .canonic) [] _ _ .bound (drop (a .start + n) (now (a .message))) _ _ e, length-drop (a .start + n) (now (a .message)))
 
 returns-3 : tie.Need-returns-3
 returns-3 c =
-    let after-decode-after : tie.After-decode-after = search in
-    let after-known-told : tie.After-known-told = search in
+    let read : tie.After-decode-components = search in
+    let told : tie.After-known-told = search in
     let start : tie.Start = search in
     let a = start .args in
-    rw (path-after (a .canonic) (now (a .message)) (a .start) _ _ _ (sizes-are after-known-told)) (later-accepted _ _ _ (c .before .before .answer .given .1) (components-are after-decode-after))
+    rw (path-more (a .canonic) (now (a .message)) (a .start) _ _ _ (sizes-are told)) (later-accepted _ _ _ (c .before .answer .given .1) (components-are read))
 
 pub decode-spec : {M : Type 1} → statement M
 decode-spec =
     tie.close
     (tie.spec
-    (λ c κs. search needs) (λ c. search needs) (λ c κs. search needs) (λ c κs. search needs) returns add-at sub-decode-after
-    part-decode-after-start (λ c. search needs) (λ c. search needs) (λ c. search needs) (λ c. search needs) (λ c κs. search needs)
-    (λ c. search needs) returns-2 add-t16 returns-3)
+    (λ c κs. search needs) (λ c. search needs) (λ c κs. search needs) (λ c κs. search needs) returns add-at sub-rest part-rest-start
+    (λ c. search needs) (λ c κs. search needs) (λ c. search needs) returns-2 add-t16 returns-3)

@@ -3,7 +3,7 @@ use Rattle.text.specs.Hex.{unhex}
 use Rattle.text.specs.Fields.{readHex}
 use Rattle.text.specs.declared.Hex.the-variants.{Bytes}
 use Rattle.text.proofs.HexAnswers.{hex-refused, some-bytes, bytes-are}
-use Rattle.path_text.proofs.Reading.{push-refused, push-hex}
+use Rattle.path_text.proofs.Reading.{push-refused}
 use Rattle.path_text.proofs.push_text.Statement.{statement}
 use Rattle.path_text.proofs.push_text.Tie as tie
 
@@ -21,29 +21,31 @@ bytes-here c =
 
 returns : tie.Need-returns
 returns c =
-    let start : tie.Start = search in
-    let a = start .args in
-    push-refused (a .builder) (now (a .t)) (hex-refused (now (a .t)) 300 (c .before .before .read-hex .result) (c .before .before .read-hex .ensures .0) (c .match .keys2))
+    let s : tie.Start = search in
+    let a = s .args in
+    push-refused (a .builder) (now (a .t)) (now (a .out)) (hex-refused (now (a .t)) 300 (c .before .before .read-hex .result) (c .before .before .read-hex .ensures .0) (c .match .keys2))
 
 array-share-prefix-bytes : tie.Need-array-share-prefix-bytes
 array-share-prefix-bytes c =
     let after-read-hex : tie.After-read-hex = search in
-    omega (arith, some-bytes _ _ 300 (hex-here c) .2, after-read-hex .read-hex .kept .1 .0)
+    let told : tie.After-known-told = search in
+    omega (arith, some-bytes _ _ 300 (hex-here told) .2, after-read-hex .read-hex .kept .1 .0)
 
-slice-aggregate-push-component : tie.Need-slice-aggregate-push-component
-slice-aggregate-push-component c =
+slice-aggregate-append-component : tie.Need-slice-aggregate-append-component
+slice-aggregate-append-component c =
     let after-read-hex : tie.After-read-hex = search in
-    sym (length-take-le _ _ (omega (arith, some-bytes _ _ 300 (hex-here (c .before)) .2, after-read-hex .read-hex .kept .1 .0)))
+    let told : tie.After-known-told = search in
+    sym (length-take-le _ _ (omega (arith, some-bytes _ _ 300 (hex-here told) .2, after-read-hex .read-hex .kept .1 .0)))
 
 returns-2 : tie.Need-returns-2
 returns-2 c =
-    let start : tie.Start = search in
-    let a = start .args in
-    c .push-component .ensures ∙ rw (bytes-here (c .before .before)) (push-hex (a .builder) (now (a .t)) (some-bytes _ _ 300 (hex-here (c .before .before)) .0))
+    let told : tie.After-known-told = search in
+    let s : tie.Start = search in
+    rw (some-bytes _ _ 300 (hex-here told) .0) (rw (bytes-here told) at (c .append-component .ensures))
 
 pub push-text-spec : {M : Type 1} → statement M
 push-text-spec =
     tie.close
     (tie.spec
-    (λ c. search needs) (λ c κs. search needs) (λ c. search needs) returns array-share-prefix-bytes slice-aggregate-push-component
+    (λ c. search needs) (λ c κs. search needs) (λ c. search needs) returns array-share-prefix-bytes slice-aggregate-append-component
     (λ c κs. search needs) returns-2)

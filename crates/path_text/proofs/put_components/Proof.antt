@@ -1,5 +1,6 @@
 use Rattle.codec.proofs.Prelude.{_≡_, _∙_, sym, [], now, arith, not-true, not-false, needs}
 use Rattle.path.specs.Record.{componentsOf}
+use Rattle.path.specs.Flat.{pathIn}
 use Rattle.path_text.specs.PathText.{tailText}
 use Rattle.path_text.proofs.Printing.{part-text, no-length, put-none, ill-components, well-components}
 use Rattle.path_text.proofs.put_components.Statement.{statement}
@@ -8,7 +9,7 @@ use Rattle.path_text.proofs.put_components.Tie as tie
 returns : tie.Need-returns
 returns c =
     let start : tie.Start = search in
-    let e = ill-components (start .args .path) (sym (c .before .well-formed .ensures) ∙ not-true (c .before .well-formed .result) (c .if1 .taken)) in
+    let e = ill-components (pathIn (now (start .args .path))) (sym (c .before .well-formed .ensures) ∙ not-true (c .before .well-formed .result) (c .if1 .taken)) in
     rw e (put-none (start .args .at) (now (start .args .out)))
 
 fill-requires : tie.Need-fill-requires
@@ -19,7 +20,7 @@ returns-2 c =
     let else1 : tie.Else1 = search in
     let after-well-formed : tie.After-well-formed = search in
     let start : tie.Start = search in
-    let p = start .args .path in
+    let p = pathIn (now (start .args .path)) in
     let e = well-components p (sym (after-well-formed .well-formed .ensures) ∙ not-false (after-well-formed .well-formed .result) (else1 .if1 .left)) in
     let n = c .before .before .fill .ensures .0 in
     let z : tailText (componentsOf p) ≡ [] = no-length (tailText (componentsOf p)) (omega (arith, n)) in
@@ -36,7 +37,7 @@ returns-3 c =
     let else1 : tie.Else1 = search in
     let after-well-formed : tie.After-well-formed = search in
     let start : tie.Start = search in
-    let p = start .args .path in
+    let p = pathIn (now (start .args .path)) in
     let e = well-components p (sym (after-well-formed .well-formed .ensures) ∙ not-false (after-well-formed .well-formed .result) (else1 .if1 .left)) in
     let t = rw (after-fill .fill .ensures .1, after-fill .fill .ensures .0, part-text (tailText (componentsOf p)) _, e) at (c .before .before .put-bytes .ensures) in
     t

@@ -31,8 +31,8 @@ raw-spec =
     (l .read-lengths .ensures) (search) (not-false (l .read-lengths .result .ok) (search)) (x .read-hex .result) (rw (t .part3 .ensures) at (x .read-hex .ensures .0))
     (y .match2 .keys2)) search)
     (λ c κs. search needs) (λ c κs. search needs) (λ c. search needs)
-    (λ c. let w : tie.After-len-of-encoding = search in let y : tie.After-enum-told2 = search in let x : tie.After-read-hex = search in let t : tie.After-part3 = search in
+    (λ c. let w : tie.After-raw-len = search in let y : tie.After-enum-told2 = search in let x : tie.After-read-hex = search in let t : tie.After-part3 = search in
     let l : tie.After-read-lengths = search in let n : tie.After-count = search in let k : tie.Else1 = search in let s : tie.Start = search in
     puts (raw-answer (now (s .args .line)) refl (sym (k .before .part-count .ensures) ∙ k .if1 .left) _ (says-value (decimal-says 1 (now (s .args .line)) (n .count .given .1) (read (search))) refl)
     (l .read-lengths .ensures) (search) (not-false (l .read-lengths .result .ok) (search)) (x .read-hex .result) _ (rw (t .part3 .ensures) at (x .read-hex .ensures .0))
-    (y .enum-told2 .given .1) (rw (t .part3 .ensures) at (x .read-hex .ensures .1)) (w .len-of-encoding .ensures)) search))
+    (y .enum-told2 .given .1) (rw (t .part3 .ensures) at (x .read-hex .ensures .1)) (w .raw-len .ensures)) search))

@@ -13,10 +13,10 @@ use Rattle.entry_area_encode.proofs.entry_encode.put_entry.Tie as tie
 
 -- what stands before the path, and the path with what stands after it
 abbrev head : tie.Start → List ℕ
-head c = startOf (c .args .of .times) (subspaceOf (c .args .of .subspace)) (c .args .fields .«subspace_id») (endIn (c .args .fields))
+head c = startOf (c .args .reference .times) (subspaceOf (c .args .reference .subspace)) (c .args .fields .«subspace_id») (endIn (c .args .fields))
 
 abbrev tail : tie.Start → List ℕ
-tail c = tailBytes (c .args .of .times) (endIn (c .args .fields)) (pathIn (now (c .args .path))) (c .args .k)
+tail c = tailBytes (c .args .reference .times) (endIn (c .args .fields)) (pathIn (now (c .args .path))) (c .args .k)
 
 head-is : (c : tie.After-start-len) → c .start-len .result ≡ length (head (c .before .before .before .before))
 head-is c =

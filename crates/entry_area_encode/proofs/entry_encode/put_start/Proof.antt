@@ -2,8 +2,8 @@ use Rattle.codec.proofs.Prelude.{_≡_, sym, ap, _∙_, arith, List, Bool, ℕ,
 use Rattle.codec.specs.Format.{over}
 use Rattle.codec.proofs.Lending.{over-cons, over-one, put-over, to-end, put-end, put-end-long}
 use Rattle.grouping.specs.Record.{subspaceOf}
-use Rattle.entry_end.specs.Header.{packHeader}
-use Rattle.entry_end.specs.End.{headerOf}
+use Rattle.entry_area_end.specs.Header.{packHeader}
+use Rattle.entry_area_end.specs.End.{headerOf}
 use Rattle.entry_area.specs.Entry.{isAny}
 use Rattle.entry_area.proofs.Writing.{any-is, start-any, start-one}
 use Rattle.entry_area_encode.proofs.entry_encode.put_start.Statement.{statement}

@@ -2,20 +2,19 @@ use Rattle.codec.proofs.Prelude.{_≡_, sym, ap, _∙_, _++_, _&&_, _+_, _≤_,
 use Rattle.codec.specs.Answers.{outcomeOf}
 use Rattle.codec.specs.Format.{Format, allowed}
 use Rattle.codec.proofs.Lending.{length-barred, length-allowed, length-wrote, length-not-denied, no-length}
-use Rattle.path.specs.declared.Path.{Path}
-use Rattle.path.specs.Record.{componentsOf, sized}
+use Rattle.path.specs.Record.{Path, componentsOf, sized}
 use Rattle.path.specs.Flat.{pathIn}
 use Rattle.path.specs.Prefix.{shared}
 use Rattle.path.specs.Answers.{said, saidIf, countAnswer}
 use Rattle.path_relative.specs.Records.{sharedBy}
 use Rattle.path_relative.proofs.Lent.{rest-allowed}
-use Rattle.grouping.specs.Record.{subspaceOf, headed, sizedArea}
-use Rattle.entry.specs.declared.Entry.{Entry}
-use Rattle.entry.specs.Record.{entryWith, sizedEntry}
+use Rattle.grouping.specs.Record.{subspaceOf, areaWith, sizedArea}
+use Rattle.entry.specs.Record.{Entry, entryWith, sizedEntry}
 use Rattle.entry.proofs.Typed.{subspace-long}
-use Rattle.entry_area.specs.Entry.{startOf, endOf}
+use Rattle.entry_area_end.specs.End.{endOf}
+use Rattle.entry_area.specs.Entry.{startOf}
 use Rattle.entry_area.specs.Records.{endIn, againstNamespaceAreaBy}
-use Rattle.entry_area.proofs.Writing.{unformed, not-prefix, not-inside, contained, entry-bytes, path-short}
+use Rattle.entry_area.proofs.Writing.{unformed, not-prefix, not-inside, contained, entry-bytes, shared-short}
 use Rattle.entry_area_encode.proofs.sized.relative_len_of_encoding.Statement.{statement}
 use Rattle.entry_area_encode.proofs.sized.relative_len_of_encoding.Tie as tie
 
@@ -26,7 +25,7 @@ abbrev entry : tie.Start → Entry
 entry c = entryWith (c .args .fields) (path c)
 
 abbrev format : tie.Start → Format Entry
-format c = againstNamespaceAreaBy sizedArea sizedEntry (c .args .namespace) (headed (c .args .of) (pathIn (now (c .args .of-path))))
+format c = againstNamespaceAreaBy sizedArea sizedEntry (c .args .namespace) (areaWith (c .args .reference) (pathIn (now (c .args .reference-path))))
 
 -- earlier places
 abbrev known-told-start : tie.After-known-told → tie.Start
@@ -36,7 +35,7 @@ abbrev known-told2-known : tie.After-known-told2 → tie.After-known-told
 known-told2-known c = c .before .before .before .before .before .before .before .before
 
 -- what comparing the paths says
-shared-of : (c : tie.After-known-told) → let s = known-told-start c in let r = pathIn (now (s .args .of-path)) in
+shared-of : (c : tie.After-known-told) → let s = known-told-start c in let r = pathIn (now (s .args .reference-path)) in
     said (c .before .common .given .0 .0) ≡ saidIf (sized r && sized (path s)) (shared (componentsOf r) (componentsOf (path s)))
 shared-of c =
     let after-longest-common-prefix : tie.After-longest-common-prefix = search in
@@ -47,30 +46,29 @@ allows c =
     let after-count : tie.After-count = search in
     let after-known-told : tie.After-known-told = search in
     let s : tie.Start = search in
-    contained (s .args .namespace) (s .args .of) (s .args .fields) (now (s .args .of-path)) (path s) _ (shared-of after-known-told) _ (after-count .count .ensures)
+    contained (s .args .namespace) (s .args .reference) (s .args .fields) (now (s .args .reference-path)) (path s) _ (shared-of after-known-told) _ (after-count .count .ensures)
     (c .before .before .if1 .left) (sym (c .before .lies-inside .ensures) ∙ not-false _ (c .if2 .left))
 
 -- the length of the path, and that it is small
 path-is : (c : tie.After-known-told2) → let s = known-told-start (known-told2-known c) in let bs = sharedBy sized (known-told2-known c .before .common .given .0 .0) .encode (path s) in
-    (c .before .shared .given .0 .0 ≡ length bs) × (length bs ≤ 900)
+    (c .before .shared .given .0 .0 ≡ length bs) × (length bs ≤ 1009)
 path-is c =
     let after-shared-len : tie.After-shared-len = search in
     let after-known-told : tie.After-known-told = search in
-    let s : tie.Start = search in (
-      length-wrote (sharedBy sized (after-known-told .before .common .given .0 .0)) (path s) _
-          (sym (after-shared-len .shared-len .ensures) ∙ ap outcomeOf (c .before .shared .given .1)) .1,
-      path-short (s .args .namespace) (s .args .of) (s .args .fields) (now (s .args .of-path)) (path s) _ (shared-of after-known-told),
-    )
+    let s : tie.Start = search in
+    let k = after-known-told .before .common .given .0 .0 in
+    let long = length-wrote (sharedBy sized k) (path s) _ (sym (after-shared-len .shared-len .ensures) ∙ ap outcomeOf (c .before .shared .given .1)) in
+    (long .1, shared-short (path s) k (long .0))
 
 returns : tie.Need-returns
 returns c =
     let s : tie.Start = search in
-    length-barred (format s) (entry s) 5 (unformed (s .args .namespace) (s .args .of) (s .args .fields) (now (s .args .of-path)) (path s) (sym (ap countAnswer (c .enum-told .given .1)) ∙ c .before .before .longest-common-prefix .ensures))
+    length-barred (format s) (entry s) 5 (unformed (s .args .namespace) (s .args .reference) (s .args .fields) (now (s .args .reference-path)) (path s) (sym (ap countAnswer (c .enum-told .given .1)) ∙ c .before .before .longest-common-prefix .ensures))
 
 returns-2 : tie.Need-returns-2
 returns-2 c =
     let s : tie.Start = search in
-    length-barred (format s) (entry s) 3 (not-prefix (s .args .namespace) (s .args .of) (s .args .fields) (now (s .args .of-path)) (path s) _ (shared-of (c .before .before)) _ (c .before .count .ensures) (c .if1 .taken))
+    length-barred (format s) (entry s) 3 (not-prefix (s .args .namespace) (s .args .reference) (s .args .fields) (now (s .args .reference-path)) (path s) _ (shared-of (c .before .before)) _ (c .before .count .ensures) (c .if1 .taken))
 
 returns-3 : tie.Need-returns-3
 returns-3 c =
@@ -78,7 +76,7 @@ returns-3 c =
     let after-known-told : tie.After-known-told = search in
     let s : tie.Start = search in
     length-barred (format s) (entry s) 3
-    (not-inside (s .args .namespace) (s .args .of) (s .args .fields) (now (s .args .of-path)) (path s) _ (shared-of after-known-told) _ (after-count .count .ensures) (sym (c .before .lies-inside .ensures) ∙ not-true _ (c .if2 .taken)))
+    (not-inside (s .args .namespace) (s .args .reference) (s .args .fields) (now (s .args .reference-path)) (path s) _ (shared-of after-known-told) _ (after-count .count .ensures) (sym (c .before .lies-inside .ensures) ∙ not-true _ (c .if2 .taken)))
 
 returns-4 : tie.Need-returns-4
 returns-4 c =
@@ -86,7 +84,7 @@ returns-4 c =
     let s : tie.Start = search in
     let none = no-length (c .before .shared-len .result) (c .match2 .keys2) in
     absurd (length-not-denied (sharedBy sized (after-known-told .before .common .given .0 .0)) (path s) (none .why)
-    (rest-allowed (pathIn (now (s .args .of-path))) (path s) _ (shared-of after-known-told)) (sym (c .before .shared-len .ensures) ∙ none .is))
+    (rest-allowed (pathIn (now (s .args .reference-path))) (path s) _ (shared-of after-known-told)) (sym (c .before .shared-len .ensures) ∙ none .is))
 
 add-t13 : tie.Need-add-t13
 add-t13 c =
@@ -98,7 +96,7 @@ add-t16 : tie.Need-add-t16
 add-t16 c =
     let after-known-told2 : tie.After-known-told2 = search in
     let after-start-len : tie.After-start-len = search in
-    omega (arith, path-is after-known-told2 .0, path-is after-known-told2 .1, after-start-len .start-len .ensures .1, c .end-len .ensures .1)
+    omega (arith, path-is after-known-told2 .0, path-is after-known-told2 .1, after-start-len .start-len .ensures .1, c .relative-len-of-encoding .ensures .1)
 
 returns-5 : tie.Need-returns-5
 returns-5 c =
@@ -110,14 +108,14 @@ returns-5 c =
     let after-known-told : tie.After-known-told = search in
     let s : tie.Start = search in
     let f = s .args .fields in
-    let h = startOf (s .args .of .times) (subspaceOf (s .args .of .subspace)) (f .«subspace_id») (endIn f) in
+    let h = startOf (s .args .reference .times) (subspaceOf (s .args .reference .subspace)) (f .«subspace_id») (endIn f) in
     let x = sharedBy sized (after-known-told .before .common .given .0 .0) .encode (path s) in
-    let y = endOf (s .args .of .times) (endIn f) in
+    let y = endOf (s .args .reference .times) (endIn f) in
     let start : after-start-len .start-len .result ≡ length h = omega (arith, after-start-len .start-len .ensures .0 (f .«subspace_id») (subspace-long f (s .good .0))) in
-    let end : c .end-len .result ≡ length y = rw (after-end-of .end-of .ensures) at (c .end-len .ensures .0) in
-    let long : after-start-len .start-len .result + after-shared .shared .given .0 .0 + c .end-len .result
+    let end : c .relative-len-of-encoding .result ≡ length y = rw (after-end-of .end-of .ensures) at (c .relative-len-of-encoding .ensures .0) in
+    let long : after-start-len .start-len .result + after-shared .shared .given .0 .0 + c .relative-len-of-encoding .result
     ≡ length (h ++ (x ++ y)) = omega (arith, start, end, path-is after-known-told2 .0, length-append h (x ++ y), length-append x y) in
-    length-allowed (format s) (entry s) _ (allows else2) (long ∙ ap length (sym (entry-bytes (s .args .namespace) (s .args .of) (s .args .fields) (now (s .args .of-path)) (path s) _ (shared-of after-known-told))))
+    length-allowed (format s) (entry s) _ (allows else2) (long ∙ ap length (sym (entry-bytes (s .args .namespace) (s .args .reference) (s .args .fields) (now (s .args .reference-path)) (path s) _ (shared-of after-known-told))))
 
 pub relative-len-of-encoding-spec : {M : Type 1} → statement M
 relative-len-of-encoding-spec =

@@ -3,7 +3,7 @@ use Rattle.codec.specs.Answers.{accepted, answerOf}
 use Rattle.codec.specs.declared.Decoded.{Decoded}
 use Rattle.codec.proofs.Answers.{no-value}
 use Rattle.codec.proofs.Lending.{to-end}
-use Rattle.entry_numbers.specs.declared.Header.{Header}
+use Rattle.entry_numbers.specs.declared.EntryHeader.{EntryHeader}
 use Rattle.entry_numbers.specs.Header.{unpackHeader}
 use Rattle.entry_numbers.specs.Numbers.{readNumbers}
 use Rattle.entry_entry.specs.Entry.{readIds}
@@ -33,18 +33,18 @@ known-told2-start c = relative-decode-start (c .before .before .before)
 there : (c : tie.After-unpack) → unpack-start c .args .start < length (now (unpack-start c .args .message))
 there c = omega (arith, c .before .before .if1 .left)
 
-abbrev header : tie.Start → Header
+abbrev header : tie.Start → EntryHeader
 header s = unpackHeader (getD (now (s .args .message)) (s .args .start) 0)
 
 ids-told : (c : tie.After-decode-ids) → let a = decode-ids-start c .args in
     answerOf (c .decode-ids .result .answer) (c .decode-ids .result .ids)
-    ≡ readIds (a .of .«namespace_id») (a .of .«subspace_id») (header (decode-ids-start c)) (drop (a .start + 1) (now (a .message)))
+    ≡ readIds (a .reference .«namespace_id») (a .reference .«subspace_id») (header (decode-ids-start c)) (drop (a .start + 1) (now (a .message)))
 ids-told c =
     let start : tie.Start = search in
     rw (c .before .before .unpack .ensures, to-end (start .args .start + 1) (now (start .args .message))) at (c .decode-ids .ensures)
 
 ids-is : (c : tie.After-known-told) → let a = known-told-start c .args in
-    readIds (a .of .«namespace_id») (a .of .«subspace_id») (header (known-told-start c)) (drop (a .start + 1) (now (a .message)))
+    readIds (a .reference .«namespace_id») (a .reference .«subspace_id») (header (known-told-start c)) (drop (a .start + 1) (now (a .message)))
     ≡ accepted (c .before .before .before .decode-ids .result .ids) (c .before .first-answer .given .0 .0)
 ids-is c =
     let after-decode-ids : tie.After-decode-ids = search in
@@ -54,11 +54,11 @@ ids-in : (c : tie.After-known-told) → known-told-start c .args .start + 1 + c 
 ids-in c =
     let after-unpack : tie.After-unpack = search in
     let start : tie.Start = search in
-    let a = start .args in first-inside (a .of .«namespace_id») (a .of .«subspace_id») (a .of .timestamp) (now (a .message)) (a .start) (there after-unpack) _ _ (ids-is c)
+    let a = start .args in first-inside (a .reference .«namespace_id») (a .reference .«subspace_id») (a .reference .timestamp) (now (a .message)) (a .start) (there after-unpack) _ _ (ids-is c)
 
 numbers-told : (c : tie.After-relative-decode) → let a = relative-decode-start c .args in
     answerOf (c .relative-decode .result .answer) (c .relative-decode .result .numbers)
-    ≡ readNumbers (a .of .timestamp) (header (relative-decode-start c)) (drop (a .start + 1 + c .before .before .before .first-answer .given .0 .0) (now (a .message)))
+    ≡ readNumbers (a .reference .timestamp) (header (relative-decode-start c)) (drop (a .start + 1 + c .before .before .before .first-answer .given .0 .0) (now (a .message)))
 numbers-told c =
     let after-first-answer : tie.After-first-answer = search in
     let after-unpack : tie.After-unpack = search in
@@ -66,7 +66,7 @@ numbers-told c =
     rw (after-unpack .unpack .ensures, to-end (start .args .start + 1 + after-first-answer .first-answer .given .0 .0) (now (start .args .message))) at (c .relative-decode .ensures .answer)
 
 numbers-is : (c : tie.After-known-told2) → let a = known-told2-start c .args in
-    readNumbers (a .of .timestamp) (header (known-told2-start c)) (drop (a .start + 1 + known-told2-first-answer c .first-answer .given .0 .0) (now (a .message)))
+    readNumbers (a .reference .timestamp) (header (known-told2-start c)) (drop (a .start + 1 + known-told2-first-answer c .first-answer .given .0 .0) (now (a .message)))
     ≡ accepted (c .before .before .before .relative-decode .result .numbers) (c .before .second-answer .given .0 .0)
 numbers-is c =
     let after-relative-decode : tie.After-relative-decode = search in
@@ -80,14 +80,14 @@ numbers-in c =
     let after-unpack : tie.After-unpack = search in
     let start : tie.Start = search in
     let a = start .args in
-    second-inside (a .of .«namespace_id») (a .of .«subspace_id») (a .of .timestamp) (now (a .message)) (a .start) (there after-unpack) _ _
+    second-inside (a .reference .«namespace_id») (a .reference .«subspace_id») (a .reference .timestamp) (now (a .message)) (a .start) (there after-unpack) _ _
     (ids-is after-known-told) _ _ (numbers-is c)
 
 returns : tie.Need-returns
 returns c =
     let start : tie.Start = search in
     let a = start .args in
-    rw (c .no-head .ensures) (sym (head-none (a .of .«namespace_id») (a .of .«subspace_id») (a .of .timestamp) (now (a .message)) (a .start) (omega (arith, c .before .if1 .taken))))
+    rw (c .no-head .ensures) (sym (head-none (a .reference .«namespace_id») (a .reference .«subspace_id») (a .reference .timestamp) (now (a .message)) (a .start) (omega (arith, c .before .if1 .taken))))
 
 returns-2 : tie.Need-returns-2
 returns-2 c =
@@ -96,7 +96,7 @@ returns-2 c =
     let a = start .args in
     let x = no-value (c .before .before .decode-ids .result .answer) (c .before .match .keys2) in
     rw (c .no-head2 .ensures)
-    (x .beside _ ∙ sym (head-ids (a .of .«namespace_id») (a .of .«subspace_id») (a .of .timestamp) (now (a .message)) (a .start) (there after-unpack)
+    (x .beside _ ∙ sym (head-ids (a .reference .«namespace_id») (a .reference .«subspace_id») (a .reference .timestamp) (now (a .message)) (a .start) (there after-unpack)
     (x .why) (sym (ids-told (c .before .before)) ∙ x .beside _)))
 
 add-next : tie.Need-add-next
@@ -116,7 +116,7 @@ returns-3 c =
     let a = start .args in
     let x = no-value (c .before .before .relative-decode .result .answer) (c .before .match2 .keys2) in
     rw (c .no-head3 .ensures)
-    (x .beside _ ∙ sym (head-numbers (a .of .«namespace_id») (a .of .«subspace_id») (a .of .timestamp) (now (a .message)) (a .start)
+    (x .beside _ ∙ sym (head-numbers (a .reference .«namespace_id») (a .reference .«subspace_id») (a .reference .timestamp) (now (a .message)) (a .start)
     (there after-unpack) _ _ (ids-is after-known-told) (x .why) (sym (numbers-told (c .before .before)) ∙ x .beside _)))
 
 add-t15 : tie.Need-add-t15
@@ -131,7 +131,7 @@ returns-4 c =
     let after-unpack : tie.After-unpack = search in
     let start : tie.Start = search in
     let a = start .args in
-    sym (head-read (a .of .«namespace_id») (a .of .«subspace_id») (a .of .timestamp) (now (a .message)) (a .start) (there after-unpack) _ _
+    sym (head-read (a .reference .«namespace_id») (a .reference .«subspace_id») (a .reference .timestamp) (now (a .message)) (a .start) (there after-unpack) _ _
     (ids-is after-known-told) _ _ (numbers-is (c .before .before)))
 
 pub decode-head-spec : {M : Type 1} → statement M

@@ -8,49 +8,49 @@ use Rattle.entry_entry_decode.proofs.entry_decode.decode_ids.Statement.
 use Rattle.entry_entry_decode.proofs.entry_decode.decode_ids.Tie as tie
 
 first-is : (c : tie.After-known-told) → let a = c .before .before .before .before .before .before .args in
-    readId (a .header .«namespace_written») (a .of .«namespace_id») (now (a .message)) ≡ accepted (c .before .before .before .decode-id .result .id) (c .before .first-answer .given .0 .0)
+    readId (a .header .«namespace_written») (a .reference .«namespace_id») (now (a .message)) ≡ accepted (c .before .before .before .decode-id-if .result .id) (c .before .first-answer .given .0 .0)
 first-is c =
-    let after-decode-id : tie.After-decode-id = search in
-    sym (after-decode-id .decode-id .ensures) ∙ ap (λ (d : Decoded). answerOf d (after-decode-id .decode-id .result .id)) (c .before .first-answer .given .1)
+    let after-decode-id-if : tie.After-decode-id-if = search in
+    sym (after-decode-id-if .decode-id-if .ensures .answer) ∙ ap (λ (d : Decoded). answerOf d (after-decode-id-if .decode-id-if .result .id)) (c .before .first-answer .given .1)
 
 second-is : (c : tie.After-known-told2) → let a = c .before .before .before .before .before .before .before .before .before .before .before .args in
-    readId (a .header .«subspace_written») (a .of .«subspace_id») (drop (c .before .before .before .before .before .before .first-answer .given .0 .0) (now (a .message)))
-    ≡ accepted (c .before .before .before .decode-id2 .result .id) (c .before .second-answer .given .0 .0)
+    readId (a .header .«subspace_written») (a .reference .«subspace_id») (drop (c .before .before .before .before .before .before .first-answer .given .0 .0) (now (a .message)))
+    ≡ accepted (c .before .before .before .decode-id-if2 .result .id) (c .before .second-answer .given .0 .0)
 second-is c =
-    let after-decode-id2 : tie.After-decode-id2 = search in
-    sym (after-decode-id2 .decode-id2 .ensures) ∙ ap (λ (d : Decoded). answerOf d (after-decode-id2 .decode-id2 .result .id)) (c .before .second-answer .given .1)
+    let after-decode-id-if2 : tie.After-decode-id-if2 = search in
+    sym (after-decode-id-if2 .decode-id-if2 .ensures .answer) ∙ ap (λ (d : Decoded). answerOf d (after-decode-id-if2 .decode-id-if2 .result .id)) (c .before .second-answer .given .1)
 
 returns : tie.Need-returns
 returns c =
     let start : tie.Start = search in
     let a = start .args in
-    let x = no-value (c .before .before .decode-id .result .answer) (c .before .match .keys2) in
+    let x = no-value (c .before .before .decode-id-if .result .answer) (c .before .match .keys2) in
     rw (c .no-ids .ensures) (x .beside _
-    ∙ sym (ids-first (a .of .«namespace_id») (a .of .«subspace_id») (a .header) (now (a .message)) (x .why) (sym (c .before .before .decode-id .ensures) ∙ x .beside _)))
+    ∙ sym (ids-first (a .reference .«namespace_id») (a .reference .«subspace_id») (a .header) (now (a .message)) (x .why) (sym (c .before .before .decode-id-if .ensures .answer) ∙ x .beside _)))
 
 returns-2 : tie.Need-returns-2
 returns-2 c =
     let after-known-told : tie.After-known-told = search in
     let start : tie.Start = search in
     let a = start .args in
-    let x = no-value (c .before .before .decode-id2 .result .answer) (c .before .match2 .keys2) in
+    let x = no-value (c .before .before .decode-id-if2 .result .answer) (c .before .match2 .keys2) in
     rw (c .no-ids2 .ensures) (x .beside _ ∙ sym
-    (ids-second (a .of .«namespace_id») (a .of .«subspace_id») (a .header) (now (a .message)) _ _ (first-is after-known-told) (x .why)
-    (sym (c .before .before .decode-id2 .ensures) ∙ x .beside _)))
+    (ids-second (a .reference .«namespace_id») (a .reference .«subspace_id») (a .header) (now (a .message)) _ _ (first-is after-known-told) (x .why)
+    (sym (c .before .before .decode-id-if2 .ensures .answer) ∙ x .beside _)))
 
 add-t14 : tie.Need-add-t14
 add-t14 c =
     let after-known-told : tie.After-known-told = search in
     let start : tie.Start = search in
     let a = start .args in
-    omega (arith, ids-inside (a .of .«namespace_id») (a .of .«subspace_id») (a .header) (now (a .message)) _ _ (first-is after-known-told) _ _ (second-is (c .before .before)))
+    omega (arith, ids-inside (a .reference .«namespace_id») (a .reference .«subspace_id») (a .header) (now (a .message)) _ _ (first-is after-known-told) _ _ (second-is (c .before .before)))
 
 returns-3 : tie.Need-returns-3
 returns-3 c =
     let after-known-told : tie.After-known-told = search in
     let start : tie.Start = search in
     let a = start .args in
-    sym (ids-read (a .of .«namespace_id») (a .of .«subspace_id») (a .header) (now (a .message)) _ _ (first-is after-known-told) _ _ (second-is (c .before .before)))
+    sym (ids-read (a .reference .«namespace_id») (a .reference .«subspace_id») (a .header) (now (a .message)) _ _ (first-is after-known-told) _ _ (second-is (c .before .before)))
 
 pub decode-ids-spec : {M : Type 1} → statement M
 decode-ids-spec =

@@ -2,8 +2,7 @@ use Rattle.codec.proofs.Prelude.{_≡_, refl, sym, ap, _∙_, List, ℕ, _+_, _
 use Rattle.codec.specs.Format.{over, writeAnswer, writeBuffer}
 use Rattle.codec.specs.Answers.{outcomeOf, wrote}
 use Rattle.codec.proofs.Lending.{put-over, put-fits, over-then, to-end, put-end, no-length, written-is, wrote-not-denied}
-use Rattle.path.specs.declared.Path.{Path}
-use Rattle.path.specs.Record.{sized}
+use Rattle.path.specs.Record.{Path, sized}
 use Rattle.path.specs.Flat.{pathIn}
 use Rattle.path_relative.specs.Records.{sharedBy}
 use Rattle.entry_entry_encode.proofs.entry_encode.put_end.Statement.{statement}

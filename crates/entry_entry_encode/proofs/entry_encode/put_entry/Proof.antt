@@ -46,7 +46,7 @@ returns c =
     let l = now (s .args .buffer) in
     let h = after-header-byte .header-byte in
     let w = c .before .before .put-parts in
-    let bs = partsWith (s .args .of) (s .args .fields) (bytes s) in
+    let bs = partsWith (s .args .reference) (s .args .fields) (bytes s) in
     let rest = rw (to-end 1 (set l 0 (h .result))) at (w .ensures) in
     put-end 1 (set l 0 (h .result)) (w .last .0) ∙ rw rest (over-cons l bs (h .result) (omega (arith, s .pre .1))) ∙ ap (λ (b : ℕ). over (b ∷ bs) l) (h .ensures)
 

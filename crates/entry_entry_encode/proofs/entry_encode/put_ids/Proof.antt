@@ -6,11 +6,11 @@ use Rattle.entry_entry_encode.proofs.entry_encode.put_ids.Tie as tie
 
 -- the parts fit
 parts : (c : tie.Start) → let a = c .args in
-    length (idBytes (a .of .«namespace_id») (a .fields .«namespace_id»)) + length (idBytes (a .of .«subspace_id») (a .fields .«subspace_id»))
+    length (idBytes (a .reference .«namespace_id») (a .fields .«namespace_id»)) + length (idBytes (a .reference .«subspace_id») (a .fields .«subspace_id»))
     ≤ length (now (a .buffer))
 parts c =
     let a = c .args in
-    omega (arith, c .pre, length-append (idBytes (a .of .«namespace_id») (a .fields .«namespace_id»)) (idBytes (a .of .«subspace_id») (a .fields .«subspace_id»)))
+    omega (arith, c .pre, length-append (idBytes (a .reference .«namespace_id») (a .fields .«namespace_id»)) (idBytes (a .reference .«subspace_id») (a .fields .«subspace_id»)))
 
 put-id-requires : tie.Need-put-id-requires
 put-id-requires c κs =
@@ -48,8 +48,8 @@ returns c =
     let start : tie.Start = search in
     let a = start .args in
     let l = now (a .buffer) in
-    let x = idBytes (a .of .«namespace_id») (a .fields .«namespace_id») in
-    let y = idBytes (a .of .«subspace_id») (a .fields .«subspace_id») in
+    let x = idBytes (a .reference .«namespace_id») (a .fields .«namespace_id») in
+    let y = idBytes (a .reference .«subspace_id») (a .fields .«subspace_id») in
     let n = after-put-id .put-id in
     let w = c .before .before .put-id2 in
     let rest = rw (to-end (n .result) (n .last .0)) at (w .ensures .1) in (

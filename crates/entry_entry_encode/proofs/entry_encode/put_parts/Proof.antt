@@ -11,8 +11,8 @@ abbrev bytes : tie.Start → List ℕ
 bytes c = sharedBy sized (c .args .k) .encode (pathIn (now (c .args .path)))
 
 -- the parts fit
-parts : (c : tie.Start) → let a = c .args in length (idsWith (a .of) (a .fields)) + length (restWith (a .of) (a .fields) (bytes c)) ≤ length (now (a .buffer))
-parts c = let a = c .args in omega (arith, c .pre .1, length-append (idsWith (a .of) (a .fields)) (restWith (a .of) (a .fields) (bytes c)))
+parts : (c : tie.Start) → let a = c .args in length (idsWith (a .reference) (a .fields)) + length (restWith (a .reference) (a .fields) (bytes c)) ≤ length (now (a .buffer))
+parts c = let a = c .args in omega (arith, c .pre .1, length-append (idsWith (a .reference) (a .fields)) (restWith (a .reference) (a .fields) (bytes c)))
 
 put-ids-requires : tie.Need-put-ids-requires
 put-ids-requires c κs =
@@ -44,7 +44,7 @@ returns c =
     let n = after-put-ids .put-ids in
     let w = c .before .before .put-rest in
     let rest = rw (to-end (n .result) (n .last .0)) at (w .ensures) in
-    put-end (n .result) (n .last .0) (w .last .0) ∙ rw (rest, n .ensures .1, n .ensures .0) (over-then l (idsWith (s .args .of) (s .args .fields)) (restWith (s .args .of) (s .args .fields) (bytes s)))
+    put-end (n .result) (n .last .0) (w .last .0) ∙ rw (rest, n .ensures .1, n .ensures .0) (over-then l (idsWith (s .args .reference) (s .args .fields)) (restWith (s .args .reference) (s .args .fields) (bytes s)))
 
 pub put-parts-spec : {M : Type 1} → statement M
 put-parts-spec =

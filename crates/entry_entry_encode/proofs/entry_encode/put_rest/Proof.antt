@@ -13,9 +13,9 @@ bytes c = sharedBy sized (c .args .k) .encode (pathIn (now (c .args .path)))
 
 -- the parts fit
 parts : (c : tie.Start) → let a = c .args in
-    length (numbersBytes (a .of .timestamp) (a .fields .timestamp) (a .fields .«payload_length»)) + length (bytes c ++ a .fields .«payload_digest»)
+    length (numbersBytes (a .reference .timestamp) (a .fields .timestamp) (a .fields .«payload_length»)) + length (bytes c ++ a .fields .«payload_digest»)
     ≤ length (now (a .buffer))
-parts c = let a = c .args in omega (arith, c .pre .1, length-append (numbersBytes (a .of .timestamp) (a .fields .timestamp) (a .fields .«payload_length»)) (bytes c ++ a .fields .«payload_digest»))
+parts c = let a = c .args in omega (arith, c .pre .1, length-append (numbersBytes (a .reference .timestamp) (a .fields .timestamp) (a .fields .«payload_length»)) (bytes c ++ a .fields .«payload_digest»))
 
 -- the numbers' bytes are in the buffer
 inside : (c : tie.After-slice-known2) → c .before .before .before .before .relative-len-of-encoding .result ≤ length (c .before .before .relative-encode .last .0)
@@ -49,7 +49,7 @@ returns c =
     let n = after-relative-len-of-encoding .relative-len-of-encoding in
     let p = after-relative-encode .relative-encode in
     let w = c .before .before .put-end in
-    let x = numbersBytes (a .of .timestamp) (a .fields .timestamp) (a .fields .«payload_length») in
+    let x = numbersBytes (a .reference .timestamp) (a .fields .timestamp) (a .fields .«payload_length») in
     let first : p .last .0 ≡ over x l = p .ensures .1 ∙ put-over x l (omega (arith, parts s)) in
     let rest = rw (to-end (n .result) (p .last .0)) at (w .ensures) in
     put-end (n .result) (p .last .0) (w .last .0) ∙ rw (rest, first, n .ensures .0) (over-then l x (bytes s ++ a .fields .«payload_digest»))

@@ -8,8 +8,7 @@ use Rattle.path.specs.Prefix.{shared}
 use Rattle.path.specs.Answers.{said, saidIf, countAnswer}
 use Rattle.path_relative.specs.Records.{sharedBy, againstBy}
 use Rattle.path_relative.proofs.Lent.{uncommon-barred, rest-allowed, shared-against}
-use Rattle.entry.specs.declared.Entry.{Entry}
-use Rattle.entry.specs.Record.{entryWith, sizedEntry}
+use Rattle.entry.specs.Record.{Entry, entryWith, sizedEntry}
 use Rattle.entry.proofs.Typed.{digest-long}
 use Rattle.entry_numbers.specs.Header.{packHeader}
 use Rattle.entry_entry.specs.Records.{againstEntryBy, headerWith, partsWith}
@@ -21,7 +20,7 @@ abbrev entry : tie.Start → Entry
 entry c = entryWith (c .args .fields) (pathIn (now (c .args .path)))
 
 abbrev reference : tie.Start → Entry
-reference c = entryWith (c .args .of) (pathIn (now (c .args .of-path)))
+reference c = entryWith (c .args .reference) (pathIn (now (c .args .reference-path)))
 
 -- earlier places
 abbrev known-told-start : tie.After-known-told → tie.Start
@@ -95,7 +94,7 @@ put-entry-requires c κs =
     let same = shared-against (reference s .path) (entry s .path) k (shared-of after-known-told) .1 in (
       rest-allowed (reference s .path) (entry s .path) k (shared-of after-known-told),
       omega
-          (arith, ap (λ (bs : List ℕ). length (partsWith (s .args .of) (s .args .fields) bs)) same, ap length (entry-bytes (reference s) (entry s)), long (c .before .before), c .before .if1 .left),
+          (arith, ap (λ (bs : List ℕ). length (partsWith (s .args .reference) (s .args .fields) bs)) same, ap length (entry-bytes (reference s) (entry s)), long (c .before .before), c .before .if1 .left),
     )
 
 returns-4 : tie.Need-returns-4
@@ -107,7 +106,7 @@ returns-4 c =
     let l = now (s .args .buffer) in
     let same = shared-against (reference s .path) (entry s .path) _ (shared-of after-known-told) .1 in
     let put = put-fits (againstEntryBy sizedEntry (reference s) .check (entry s)) (againstEntryBy sizedEntry (reference s) .encode (entry s)) l (valid after-known-told) _ (long after-entry-len) (else1 .if1 .left) in
-    let written = ap (λ (bs : List ℕ). packHeader (headerWith (s .args .of) (s .args .fields)) ∷ partsWith (s .args .of) (s .args .fields) bs) same ∙ entry-bytes (reference s) (entry s) in
+    let written = ap (λ (bs : List ℕ). packHeader (headerWith (s .args .reference) (s .args .fields)) ∷ partsWith (s .args .reference) (s .args .fields) bs) same ∙ entry-bytes (reference s) (entry s) in
     writes-into (put .0, c .before .before .put-entry .ensures ∙ ap (λ (bs : List ℕ). over bs l) written ∙ put .1)
 
 pub relative-encode-spec : {M : Type 1} → statement M

@@ -5,8 +5,7 @@ use Rattle.codec.proofs.Lending.{length-allowed, length-barred, length-wrote, l
 use Rattle.path.specs.Record.{sized}
 use Rattle.path.specs.Flat.{pathIn}
 use Rattle.path_relative.specs.Records.{againstBy}
-use Rattle.entry.specs.declared.Entry.{Entry}
-use Rattle.entry.specs.Record.{entryWith, sizedEntry}
+use Rattle.entry.specs.Record.{Entry, entryWith, sizedEntry}
 use Rattle.entry.proofs.Typed.{digest-long}
 use Rattle.entry_entry.specs.Records.{againstEntryBy}
 use Rattle.entry_entry.proofs.Writing.{path-check, path-short, entry-long}
@@ -17,7 +16,7 @@ abbrev entry : tie.Start → Entry
 entry c = entryWith (c .args .fields) (pathIn (now (c .args .path)))
 
 abbrev reference : tie.Start → Entry
-reference c = entryWith (c .args .of) (pathIn (now (c .args .of-path)))
+reference c = entryWith (c .args .reference) (pathIn (now (c .args .reference-path)))
 
 -- the entry is well formed; the length of its path
 path-is : (c : tie.After-known-told) → let s = c .before .before .before .before .before .before in

@@ -1,4 +1,4 @@
-use Rattle.codec.proofs.Prelude.{_≡_, sym, _∙_, true, not-true, not-false, needs}
+use Rattle.codec.proofs.Prelude.{not-true, not-false, needs}
 use Rattle.grouping.specs.Area.{headInside}
 use Rattle.grouping.specs.Record.{subspaceIncludes}
 use Rattle.grouping.proofs.AreaHead.contains.Statement.{statement}

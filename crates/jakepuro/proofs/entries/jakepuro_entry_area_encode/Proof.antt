@@ -1,8 +1,8 @@
 use Rattle.calls.proofs.Calls.{encodes, encodes-of}
-use Rattle.codec.proofs.Prelude.{_≡_, sym, _∙_, now, not-true, not-false, needs}
+use Rattle.codec.proofs.Prelude.{sym, _∙_, now, not-true, not-false, needs}
 use Rattle.codec.proofs.Lending.{put-barred}
 use Rattle.path.specs.Flat.{pathIn}
-use Rattle.grouping.specs.Record.{headed}
+use Rattle.grouping.specs.Record.{areaWith}
 use Rattle.entry.specs.Record.{entryWith}
 use Rattle.entry_area.specs.Records.{againstNamespaceArea}
 use Rattle.flat.specs.AreaRecord.{areaIn}
@@ -32,7 +32,7 @@ returns-2 c =
     let else1 : tie.Else1 = search in
     let s : tie.Start = search in
     let here = (λ i. entryWith (fields .fields .ensures i) (pathIn (now (path .path .result)))) ∙ entry-lent (now (s .args .entry)) _ (path .path .ensures) in
-    let there = (λ i. headed (head .head .ensures i) (pathIn (now (path2 .path2 .result))))
+    let there = (λ i. areaWith (head .head .ensures i) (pathIn (now (path2 .path2 .result))))
     ∙ area-lent (now (s .args .area)) _ (path2 .path2 .ensures) (sym (marked .is-marked .ensures) ∙ not-false _ (else1 .if1 .left)) in
     let put = after .relative-encode .ensures in
     encodes-of (againstNamespaceArea (now (s .args .namespace))) there here (put .answer, put .buffer) (c .tell-length2 .ensures)

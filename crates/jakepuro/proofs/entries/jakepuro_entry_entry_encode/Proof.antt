@@ -1,5 +1,5 @@
 use Rattle.calls.proofs.Calls.{encodes-of}
-use Rattle.codec.proofs.Prelude.{_≡_, _∙_, now, needs}
+use Rattle.codec.proofs.Prelude.{_∙_, now, needs}
 use Rattle.path.specs.Flat.{pathIn}
 use Rattle.entry.specs.Record.{entryWith}
 use Rattle.entry_entry.specs.Records.{againstEntry}

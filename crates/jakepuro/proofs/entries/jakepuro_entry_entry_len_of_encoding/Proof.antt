@@ -1,5 +1,5 @@
 use Rattle.calls.proofs.Calls.{told-as}
-use Rattle.codec.proofs.Prelude.{_≡_, _∙_, now, needs}
+use Rattle.codec.proofs.Prelude.{_∙_, now, needs}
 use Rattle.codec.specs.Format.{lengthAnswer}
 use Rattle.path.specs.Flat.{pathIn}
 use Rattle.entry.specs.Record.{entryWith}

@@ -1,9 +1,9 @@
 use Rattle.calls.proofs.Calls.{encodes, encodes-of}
-use Rattle.codec.proofs.Prelude.{_≡_, sym, _∙_, now, not-true, not-false, needs}
+use Rattle.codec.proofs.Prelude.{sym, _∙_, now, not-true, not-false, needs}
 use Rattle.codec.proofs.Tests.{and-left, and-right}
 use Rattle.codec.proofs.Lending.{put-barred}
 use Rattle.path.specs.Flat.{pathIn}
-use Rattle.range_3d.specs.Record.{headed}
+use Rattle.range_3d.specs.Record.{rangeWith}
 use Rattle.range3d_range3d.specs.Records.{againstRange}
 use Rattle.flat.specs.RangeRecord.{rangeMarked, rangeIn}
 use Rattle.flat.proofs.RangeLaws.{range-lent, ranges-unmarked}
@@ -31,9 +31,9 @@ returns-2 c =
     let else1 : tie.Else1 = search in
     let s : tie.Start = search in
     let both = sym (marked .both-marked .ensures) ∙ not-false _ (else1 .if1 .left) in
-    let here = (λ i. headed (head .head .ensures i) (pathIn (now (start .path-start .result))) (pathIn (now (end .path-end .result))))
+    let here = (λ i. rangeWith (head .head .ensures i) (pathIn (now (start .path-start .result))) (pathIn (now (end .path-end .result))))
     ∙ range-lent (now (s .args .range)) _ _ (start .path-start .ensures) (end .path-end .ensures) (and-right (rangeMarked (now (s .args .reference))) _ both) in
-    let there = (λ i. headed (head2 .head2 .ensures i) (pathIn (now (start2 .path-start2 .result))) (pathIn (now (end2 .path-end2 .result))))
+    let there = (λ i. rangeWith (head2 .head2 .ensures i) (pathIn (now (start2 .path-start2 .result))) (pathIn (now (end2 .path-end2 .result))))
     ∙ range-lent (now (s .args .reference)) _ _ (start2 .path-start2 .ensures) (end2 .path-end2 .ensures) (and-left _ (rangeMarked (now (s .args .range))) both) in
     let put = after .relative-encode .ensures in
     encodes-of againstRange there here (put .answer, put .buffer) (c .tell-length2 .ensures)

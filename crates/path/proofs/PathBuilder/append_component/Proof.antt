@@ -1,29 +1,41 @@
-use Rattle.codec.proofs.Prelude.{_≡_, sym, _∙_, ℕ, now, length-unmapped, needs, not-true, not-false, length}
-use Rattle.path.specs.Builder.{appendComponent}
-use Rattle.path.proofs.Builder.{rebuilt, appends}
+use Rattle.codec.proofs.Prelude.{_≡_, refl, sym, _∙_, true, now, arith, length, not-true, not-false, needs}
+use Rattle.path.specs.Builder.{fitsAfter}
+use Rattle.path.proofs.Builder.{fitting}
 use Rattle.path.proofs.PathBuilder.append_component.Statement.{statement}
 use Rattle.path.proofs.PathBuilder.append_component.Tie as tie
 
--- what owning the parameter tells of its arrays
-bytes-long : (c : tie.Start) → length (c .args .self .path .bytes) ≡ 600
-bytes-long c = length-unmapped ℕ (c .args .self .path .bytes) 600 (c .good .0 .1 .1 .0 .1 .1 .0 .1 .0 .1)
+-- earlier places
+abbrev start : tie.Else1 → tie.Start
+start c = c .before .before .before
 
-lengths-long : (c : tie.Start) → length (c .args .self .path .lengths) ≡ 20
-lengths-long c = length-unmapped ℕ (c .args .self .path .lengths) 20 (c .good .0 .1 .1 .0 .1 .1 .1 .0 .1 .0 .1)
+-- the component fits where the test did not turn it away
+fits : (c : tie.Else1) → fitsAfter (start c .args .self .total) (start c .args .self .count) (length (now (start c .args .component))) ≡ true
+fits c = sym (c .before .fits-after .ensures) ∙ not-false (c .before .fits-after .result) (c .if1 .left)
 
 returns : tie.Need-returns
-unfolding appendComponent
 returns c =
-    let m = c .before .is-made in
-    rw (← (m .ensures), not-true (m .result) (c .if1 .taken))
+    let f = c .before .fits-after in
+    rw (← (f .ensures), not-true (f .result) (c .if1 .taken)) (record { answer = refl; is = refl })
+
+put-component-requires : tie.Need-put-component-requires
+put-component-requires c κs =
+    let e : tie.Else1 = search in
+    (omega arith, fits e)
+
+add-t14 : tie.Need-add-t14
+add-t14 c =
+    let e : tie.Else1 = search in
+    omega (arith, fitting _ _ _ (fits e) .fits)
+
+add-t15 : tie.Need-add-t15
+add-t15 c =
+    let e : tie.Else1 = search in
+    omega (arith, fitting _ _ _ (fits e) .few)
 
 returns-2 : tie.Need-returns-2
 returns-2 c =
-    let s : tie.Start = search in
-    let m = c .before .before .is-made in
-    let b = s .args .self in
-    let is = sym (m .ensures) ∙ not-false (m .result) (c .before .if1 .left) in
-    c .push-component .ensures ∙ appends b (now (s .args .component)) is (rebuilt b (bytes-long s) (lengths-long s) is)
+    let e : tie.Else1 = search in
+    rw (fits e) (record { answer = refl; is = rw (c .put-component .ensures) })
 
 pub append-component-spec : {M : Type 1} → statement M
-append-component-spec = tie.close (tie.spec (λ c κs. search needs) returns (λ c κs. search needs) returns-2)
+append-component-spec = tie.close (tie.spec (λ c κs. search needs) returns put-component-requires add-t14 add-t15 returns-2)

@@ -1,4 +1,4 @@
-use Rattle.codec.proofs.Prelude.{sym, _∙_, now, not-true, not-false, needs}
+use Rattle.codec.proofs.Prelude.{not-true, not-false, needs}
 use Rattle.path.proofs.lent.both_formed.Statement.{statement}
 use Rattle.path.proofs.lent.both_formed.Tie as tie
 

@@ -1,4 +1,4 @@
-use Rattle.codec.proofs.Prelude.{_∙_, [], refl, sym, now, arith, lt-leb, needs}
+use Rattle.codec.proofs.Prelude.{_∙_, [], sym, now, arith, lt-leb, needs}
 use Rattle.path.proofs.Records.{lent-is}
 use Rattle.path.proofs.lent.bytes.Statement.{statement}
 use Rattle.path.proofs.lent.bytes.Tie as tie

@@ -1,4 +1,4 @@
-use Rattle.codec.proofs.Prelude.{_≡_, _∙_, sym, now, arith, lt-leb, List·getD-eq-default, needs}
+use Rattle.codec.proofs.Prelude.{_∙_, sym, now, arith, lt-leb, List·getD-eq-default, needs}
 use Rattle.path.specs.Record.{lengthAt}
 use Rattle.path.specs.Flat.{pathIn}
 use Rattle.path.proofs.Records.{lent-is, slots}

@@ -1,4 +1,4 @@
-use Rattle.codec.proofs.Prelude.{_≡_, sym, _∙_, now, arith, needs}
+use Rattle.codec.proofs.Prelude.{sym, now, arith, needs}
 use Rattle.path.proofs.Records.{length-there}
 use Rattle.path.proofs.lent.length_in.Statement.{statement}
 use Rattle.path.proofs.lent.length_in.Tie as tie

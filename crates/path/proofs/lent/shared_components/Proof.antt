@@ -1,7 +1,6 @@
 -- The invariant: outside, the first k components are the same and end at `at`; inside, so are the first i bytes of the next.
-use Rattle.codec.proofs.Prelude.{_+_, _≤_, _-_, _≡_, refl, sym, _∙_, ap, ℕ, List, arith, now, length, take, drop, getD, needs}
-use Rattle.path.specs.declared.Path.{Path}
-use Rattle.path.specs.Record.{lengthAt}
+use Rattle.codec.proofs.Prelude.{_+_, _≤_, _-_, _≡_, refl, sym, _∙_, ap, ℕ, List, arith, now, length, take, drop, needs}
+use Rattle.path.specs.Record.{Path, lengthAt}
 use Rattle.path.specs.Flat.{pathIn}
 use Rattle.path.proofs.Components.{sized-formed}
 use Rattle.path.proofs.Records.{whole-in, lent-is}

@@ -1,17 +1,15 @@
-use Rattle.codec.proofs.Prelude.{_≡_, refl, sym, ap, _∙_, true, _&&_, now, arith, eqb, not-true, not-false, needs}
+use Rattle.codec.proofs.Prelude.{_≡_, refl, sym, ap, _∙_, now, arith, eqb, not-true, not-false, needs}
 use Rattle.codec.specs.Answers.{accepted, answerOf}
 use Rattle.codec.specs.Reader.{passed}
 use Rattle.codec.specs.declared.Decoded.{Decoded}
 use Rattle.codec.proofs.Answers.{gives-refused, bind-refused}
-use Rattle.codec.proofs.Tests.{and-right}
-use Rattle.path.specs.declared.Path.{Path}
-use Rattle.path.specs.Record.{componentsOf, sized}
+use Rattle.path.specs.Record.{Path, componentsOf}
 use Rattle.path.specs.Flat.{pathIn}
 use Rattle.path.specs.Prefix.{shared}
 use Rattle.path.proofs.Growing.{in-empty}
-use Rattle.path_codec.specs.Plain.{readOn}
-use Rattle.path_codec.proofs.Within.{on-sized}
+use Rattle.path_suffix_decode.specs.After.{readOn}
 use Rattle.path_relative.specs.Records.{readJoined}
+use Rattle.path_relative.proofs.Alike.{on-alike}
 use Rattle.path_relative.proofs.Exits.{joined-on, joined-loose, joined-tested}
 use Rattle.path_relative_decode.proofs.sized.decode_joined.Statement.{statement}
 use Rattle.path_relative_decode.proofs.sized.decode_joined.Tie as tie
@@ -46,13 +44,17 @@ returns-2 c =
     let s : tie.Start = search in
     rw (joined-on _ (reference s) _ (s .pre) _ _ _) (bind-refused _ _ (c .match .keys2) (c .before .before .decode-after .ensures))
 
+share-only-requires : tie.Need-share-only-requires
+share-only-requires c κs =
+    let told : tie.After-enum-told = search in
+    let known : tie.After-shared-slice-known = search in
+    let s : tie.Start = search in
+    on-alike _ (reference s) _ (s .pre) _ _ .holds (now (s .args .message)) _ _ (λ i. omega (arith, known .shared-slice-known .given i)) (taken told)
+
 returns-3 : tie.Need-returns-3
 returns-3 c =
     let told : tie.After-enum-told = search in
-    let s : tie.Start = search in
-    let most = sym (c .before .share-only .ensures) ∙ c .if2 .taken in
-    let ok = and-right (sized (reference s) && sized (path told)) _ most in
-    let e = rw ok at (judged told) in
+    let e = rw (sym (c .before .share-only .ensures) ∙ c .if2 .taken) at (judged told) in
     record { answer = ap (λ (d : Decoded). answerOf d (path told)) (told .enum-told .given .1) ∙ sym e; value = rw e }
 
 returns-4 : tie.Need-returns-4
@@ -60,14 +62,10 @@ returns-4 c =
     let told : tie.After-enum-told = search in
     let only : tie.After-share-only = search in
     let else2 : tie.Else2 = search in
-    let known : tie.After-shared-slice-known = search in
-    let s : tie.Start = search in
-    let fits : sized (path told) ≡ true = on-sized _ _ _ _ _ (now (s .args .message)) _ _ (λ i. omega (arith, known .shared-slice-known .given i)) (taken told) in
-    let no = rw (s .pre .fits, fits) at (sym (only .share-only .ensures) ∙ else2 .if2 .left) in
-    rw (c .clear .ensures, in-empty) (gives-refused 2 refl (judged told ∙ rw no))
+    rw (c .clear .ensures, in-empty) (gives-refused 2 refl (judged told ∙ rw (sym (only .share-only .ensures) ∙ else2 .if2 .left)))
 
 pub decode-joined-spec : {M : Type 1} → statement M
 decode-joined-spec =
     tie.close
     (tie.spec
-    (λ c κs. search needs) returns (λ c. search needs) returns-2 (λ c κs. search needs) returns-3 (λ c κs. search needs) returns-4)
+    (λ c κs. search needs) returns (λ c. search needs) returns-2 share-only-requires returns-3 (λ c κs. search needs) returns-4)

@@ -4,18 +4,17 @@ use Rattle.codec.specs.Reader.{shift}
 use Rattle.codec.specs.declared.Decoded.{Decoded}
 use Rattle.codec.proofs.Answers.{gives-refused, later-accepted, later-refused}
 use Rattle.codec.proofs.Lending.{to-end}
-use Rattle.path.specs.declared.Path.{Path}
+use Rattle.path.specs.Record.{Path, componentsOf, pathFrom, sized}
 use Rattle.path.specs.Limits.{totalOf}
-use Rattle.path.specs.Record.{componentsOf, pathFrom, sized}
 use Rattle.path.specs.Flat.{pathIn}
 use Rattle.path.proofs.Components.{Formed, sized-formed, whole, total-small}
 use Rattle.path.proofs.Records.{lent-known, span-start}
 use Rattle.path.proofs.Growing.{in-empty}
 use Rattle.path_suffix.specs.Suffix.{sizesFrom, readSizes}
-use Rattle.path_codec.specs.Plain.{readMore, readOn}
-use Rattle.path_codec.specs.Answers.{sizesAnswer}
-use Rattle.path_codec.proofs.Within.{on-more, more-bounded}
-use Rattle.path_codec.proofs.Exits.{no-sizes, sizes-inside}
+use Rattle.path_suffix_decode.specs.After.{readMore, readOn}
+use Rattle.path_suffix_decode.specs.Answers.{sizesAnswer}
+use Rattle.path_suffix_decode.proofs.Within.{on-more, more-bounded}
+use Rattle.path_suffix_decode.proofs.Exits.{no-sizes, sizes-inside}
 use Rattle.path_relative.specs.Records.{readExtendsBy}
 use Rattle.path_relative.proofs.Exits.{extends-unformed, extends-sizes, extends-long, extends-many, extends-more}
 use Rattle.path_relative_decode.proofs.sized.decode_path_extends_path.Statement.{

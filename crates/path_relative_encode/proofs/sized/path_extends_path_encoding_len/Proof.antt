@@ -1,7 +1,6 @@
 use Rattle.codec.proofs.Prelude.{sym, ap, _∙_, now, needs}
 use Rattle.codec.proofs.Lending.{length-barred, same-length}
-use Rattle.path.specs.declared.Path.{Path}
-use Rattle.path.specs.Record.{sized}
+use Rattle.path.specs.Record.{Path, sized}
 use Rattle.path.specs.Flat.{pathIn}
 use Rattle.path.specs.Answers.{comparedAnswer}
 use Rattle.path.proofs.Records.{lent-known}

@@ -1,6 +1,5 @@
 use Rattle.codec.proofs.Prelude.{_≡_, sym, ap, _∙_, arith, now, length, needs}
-use Rattle.path.specs.declared.Path.{Path}
-use Rattle.path.specs.Record.{sized}
+use Rattle.path.specs.Record.{Path, sized}
 use Rattle.path.specs.Flat.{pathIn}
 use Rattle.path.proofs.Components.{sized-formed}
 use Rattle.path_suffix.specs.Suffix.{suffixBy}

@@ -2,8 +2,7 @@
 use Rattle.codec.proofs.Prelude.{_≡_, refl, sym, ap, _∙_, List, ℕ, _+_, _-_, _≤_, _<_, _++_, now, arith, length, take, drop, length-drop, length-append, needs}
 use Rattle.codec.specs.Format.{over}
 use Rattle.codec.proofs.Lending.{to-end, put-end, put-end-long, over-turn}
-use Rattle.path.specs.declared.Path.{Path}
-use Rattle.path.specs.Record.{componentsOf, lengthAt, startAt}
+use Rattle.path.specs.Record.{Path, componentsOf, lengthAt, startAt}
 use Rattle.path.specs.Flat.{pathIn}
 use Rattle.path.proofs.Components.{Formed, sized-formed, bytesAt, bytes-at-long, next-start, ends}
 use Rattle.path.proofs.Records.{lent-known, span-start}

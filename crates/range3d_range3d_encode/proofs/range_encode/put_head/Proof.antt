@@ -13,7 +13,7 @@ returns c =
     let l = now (a .buffer) in
     let x = c .before .pack .result in
     let y = c .header-byte .result in
-    let is : x ∷ y ∷ [] ≡ headWith (a .of) (a .range) (a .paths) = rw
+    let is : x ∷ y ∷ [] ≡ headWith (a .reference) (a .range) (a .paths) = rw
     (c .header-byte .ensures, c .before .pack .ensures, c .before .before .is-open .ensures, after-sources-of .sources-of .ensures) in
     over-two l x y (start .pre) ∙ ap (λ (bs : List ℕ). over bs l) is
 

@@ -5,7 +5,7 @@ use Rattle.codec.proofs.Lending.{put-fits, no-length, written-is, wrote-not-den
 use Rattle.path.specs.Record.{sized}
 use Rattle.path.specs.Flat.{pathIn}
 use Rattle.path_relative.specs.Records.{sharedBy}
-use Rattle.range_3d.specs.declared.PathRange.{PathRange}
+use Rattle.range_3d.specs.Record.{PathRange}
 use Rattle.range_paths.specs.Records.{pathsWith}
 use Rattle.range3d_range3d.proofs.Writing.{start-within, both-open, both-closed, next-inside, put-next}
 use Rattle.range3d_range3d_encode.proofs.range_encode.put_paths.Statement.{statement}

@@ -2,8 +2,7 @@ use Rattle.codec.proofs.Prelude.{_≡_, refl, ap, _∙_, List, _++_, ℕ, _+_, 
 use Rattle.codec.specs.Format.{allowed, over}
 use Rattle.codec.proofs.Lending.{put-full, put-fits, writes-into}
 use Rattle.path.specs.Flat.{pathIn}
-use Rattle.range_3d.specs.declared.Range3d.{Range3d}
-use Rattle.range_3d.specs.Record.{headed, subspacesOf}
+use Rattle.range_3d.specs.Record.{Range3d, rangeWith, subspacesOf}
 use Rattle.range_subspaces.specs.Subspaces.{subspacesBytes}
 use Rattle.range_paths.specs.Records.{bothBytes}
 use Rattle.range_times.specs.Times.{timesBytes}
@@ -13,22 +12,22 @@ use Rattle.range3d_range3d_encode.proofs.range_encode.put_range.Stateme
 use Rattle.range3d_range3d_encode.proofs.range_encode.put_range.Tie as tie
 
 abbrev value : tie.Start → Range3d
-value c = headed (c .args .range) (pathIn (now (c .args .start))) (pathIn (now (c .args .end)))
+value c = rangeWith (c .args .range) (pathIn (now (c .args .start))) (pathIn (now (c .args .end)))
 
 abbrev whole : tie.Start → List ℕ
-whole c = measuredRange (c .args .of) (c .args .paths) .encode (value c)
+whole c = measuredRange (c .args .reference) (c .args .paths) .encode (value c)
 
 abbrev head : tie.Start → List ℕ
-head c = headWith (c .args .of) (c .args .range) (c .args .paths)
+head c = headWith (c .args .reference) (c .args .range) (c .args .paths)
 
 abbrev subspaces : tie.Start → List ℕ
-subspaces c = subspacesBytes (subspacesOf (c .args .of .subspaces)) (subspacesOf (c .args .range .subspaces))
+subspaces c = subspacesBytes (subspacesOf (c .args .reference .subspaces)) (subspacesOf (c .args .range .subspaces))
 
 abbrev paths : tie.Start → List ℕ
 paths c = bothBytes (value c .paths) (c .args .paths)
 
 abbrev times : tie.Start → List ℕ
-times c = timesBytes (c .args .of .times) (c .args .range .times)
+times c = timesBytes (c .args .reference .times) (c .args .range .times)
 
 -- earlier places
 abbrev else1-start : tie.Else1 → tie.Start
@@ -46,7 +45,7 @@ long c =
     let s : tie.Start = search in
     omega (
       arith,
-      measured-long (s .args .of) (value s) (s .args .paths) _ _ _ (c .before .before .relative-len-of-encoding .ensures .0) (s .pre .1)
+      measured-long (s .args .reference) (value s) (s .args .paths) _ _ _ (c .before .before .relative-len-of-encoding .ensures .0) (s .pre .1)
           (c .relative-len-of-encoding2 .ensures .0),
     )
 
@@ -119,7 +118,7 @@ returns-2 c =
     let done = put-fits allowed (whole s) l refl _ (long (e .before)) (e .if1 .left) in
     let w = c .before .before .relative-encode2 in
     let last = put-next l ((head s ++ subspaces s) ++ paths s) (times s) _ _ (three after-slice-known4) (at-times e) (room-times e) (w .last .0) (w .ensures .1) in
-    writes-into (done .0, last ∙ ap (λ (bs : List ℕ). over bs l) (measured-parts (s .args .of) (value s) (s .args .paths)) ∙ done .1)
+    writes-into (done .0, last ∙ ap (λ (bs : List ℕ). over bs l) (measured-parts (s .args .reference) (value s) (s .args .paths)) ∙ done .1)
 
 pub put-range-spec : {M : Type 1} → statement M
 put-range-spec =

@@ -1,8 +1,7 @@
 use Rattle.codec.proofs.Prelude.{sym, ap, _∙_, now, needs}
 use Rattle.codec.proofs.Lending.{put-barred, same-writing, writes-into}
 use Rattle.path.specs.Flat.{pathIn}
-use Rattle.range_3d.specs.declared.Range3d.{Range3d}
-use Rattle.range_3d.specs.Record.{headed, sizedRange3d}
+use Rattle.range_3d.specs.Record.{Range3d, rangeWith, sizedRange3d}
 use Rattle.range_paths.specs.Records.{measuredAnswer}
 use Rattle.range3d_range3d.specs.Records.{againstRangeBy, measuredRange}
 use Rattle.range3d_range3d.proofs.Writing.{Measures, measures, unmeasured}
@@ -10,10 +9,10 @@ use Rattle.range3d_range3d_encode.proofs.sized.relative_encode.Statemen
 use Rattle.range3d_range3d_encode.proofs.sized.relative_encode.Tie as tie
 
 abbrev value : tie.Start → Range3d
-value c = headed (c .args .range) (pathIn (now (c .args .start))) (pathIn (now (c .args .end)))
+value c = rangeWith (c .args .range) (pathIn (now (c .args .start))) (pathIn (now (c .args .end)))
 
 abbrev known : tie.Start → Range3d
-known c = headed (c .args .of) (pathIn (now (c .args .of-start))) (pathIn (now (c .args .of-end)))
+known c = rangeWith (c .args .reference) (pathIn (now (c .args .reference-start))) (pathIn (now (c .args .reference-end)))
 
 -- earlier places
 abbrev measured-start : tie.After-measured → tie.Start
@@ -39,7 +38,7 @@ returns-2 c =
     let after-measured : tie.After-measured = search in
     let s : tie.Start = search in
     let m = paths-are after-measured in
-    let w = same-writing (measuredRange (s .args .of) (after-measured .measured .given .0 .0)) (value s) (againstRangeBy sizedRange3d (known s)) (sym (m .allows)) (m .bytes) (now (s .args .buffer)) in
+    let w = same-writing (measuredRange (s .args .reference) (after-measured .measured .given .0 .0)) (value s) (againstRangeBy sizedRange3d (known s)) (sym (m .allows)) (m .bytes) (now (s .args .buffer)) in
     let put = c .before .before .put-range .ensures in
     writes-into (put .answer ∙ w .0, put .buffer ∙ w .1)
 

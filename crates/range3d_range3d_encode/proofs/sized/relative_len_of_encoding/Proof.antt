@@ -1,8 +1,7 @@
 use Rattle.codec.proofs.Prelude.{sym, ap, _∙_, arith, now, needs}
 use Rattle.codec.proofs.Lending.{length-barred, length-allowed}
 use Rattle.path.specs.Flat.{pathIn}
-use Rattle.range_3d.specs.declared.Range3d.{Range3d}
-use Rattle.range_3d.specs.Record.{headed, sizedRange3d}
+use Rattle.range_3d.specs.Record.{Range3d, rangeWith, sizedRange3d}
 use Rattle.range_paths.specs.Records.{measuredAnswer}
 use Rattle.range3d_range3d.specs.Records.{againstRangeBy}
 use Rattle.range3d_range3d.proofs.Writing.{Measures, measures, unmeasured, range-long}
@@ -10,10 +9,10 @@ use Rattle.range3d_range3d_encode.proofs.sized.relative_len_of_encoding
 use Rattle.range3d_range3d_encode.proofs.sized.relative_len_of_encoding.Tie as tie
 
 abbrev value : tie.Start → Range3d
-value c = headed (c .args .range) (pathIn (now (c .args .start))) (pathIn (now (c .args .end)))
+value c = rangeWith (c .args .range) (pathIn (now (c .args .start))) (pathIn (now (c .args .end)))
 
 abbrev known : tie.Start → Range3d
-known c = headed (c .args .of) (pathIn (now (c .args .of-start))) (pathIn (now (c .args .of-end)))
+known c = rangeWith (c .args .reference) (pathIn (now (c .args .reference-start))) (pathIn (now (c .args .reference-end)))
 
 -- earlier places
 abbrev measured-start : tie.After-measured → tie.Start

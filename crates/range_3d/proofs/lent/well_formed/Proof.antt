@@ -1,6 +1,5 @@
 use Rattle.codec.proofs.Prelude.{_≡_, sym, _∙_, true, _&&_, now, not-true, not-false, needs}
-use Rattle.path.specs.declared.Path.{Path}
-use Rattle.path.specs.Record.{wellFormed}
+use Rattle.path.specs.Record.{Path, wellFormed}
 use Rattle.path.specs.Flat.{pathIn}
 use Rattle.range_3d.specs.Record.{wellFormedSubspaces}
 use Rattle.range_3d.proofs.Heads.{no-subspaces, no-paths, with-paths, count-lent}

@@ -1,6 +1,6 @@
 use Rattle.codec.proofs.Prelude.{sym, ap, _∙_, now, not-true, not-false, needs}
 use Rattle.path.specs.Flat.{pathIn}
-use Rattle.range_3d.specs.declared.PathRange.{PathRange}
+use Rattle.range_3d.specs.Record.{PathRange}
 use Rattle.range_paths.specs.Records.{pathsWith, nearAnswer}
 use Rattle.range_paths.proofs.Writing.{near-allowed, no-start, end-unsized, no-end, measured-open, measured-closed}
 use Rattle.range_paths.proofs.sized.measure.Statement.{statement}
@@ -10,7 +10,7 @@ abbrev paths : tie.Start → PathRange
 paths c = pathsWith (pathIn (now (c .args .start))) (c .args .end-open) (pathIn (now (c .args .end)))
 
 abbrev known : tie.Start → PathRange
-known c = pathsWith (pathIn (now (c .args .of-start))) (c .args .of-end-open) (pathIn (now (c .args .of-end)))
+known c = pathsWith (pathIn (now (c .args .reference-start))) (c .args .reference-end-open) (pathIn (now (c .args .reference-end)))
 
 returns : tie.Need-returns
 returns c =

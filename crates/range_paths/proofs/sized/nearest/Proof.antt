@@ -1,8 +1,8 @@
 use Rattle.codec.proofs.Prelude.{sym, ap, _∙_, now, not-true, not-false, needs}
-use Rattle.path.specs.declared.Path.{Path}
+use Rattle.path.specs.Record.{Path}
 use Rattle.path.specs.Flat.{pathIn}
 use Rattle.path.specs.Answers.{countAnswer}
-use Rattle.range_3d.specs.declared.PathRange.{PathRange}
+use Rattle.range_3d.specs.Record.{PathRange}
 use Rattle.range_paths.specs.Records.{pathsWith}
 use Rattle.range_paths.proofs.Writing.{near-no-start, near-end-unsized, near-open, near-no-end, near-start, near-end}
 use Rattle.range_paths.proofs.sized.nearest.Statement.{statement}

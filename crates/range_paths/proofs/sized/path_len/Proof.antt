@@ -2,8 +2,7 @@ use Rattle.codec.proofs.Prelude.{sym, ap, _∙_, _≤_, arith, now, length, nee
 use Rattle.codec.specs.Answers.{outcomeOf}
 use Rattle.codec.proofs.Lawful.{verdict-allowed}
 use Rattle.codec.proofs.Lending.{length-wrote, length-not-denied, no-length}
-use Rattle.path.specs.declared.Path.{Path}
-use Rattle.path.specs.Record.{sized}
+use Rattle.path.specs.Record.{Path, sized}
 use Rattle.path.specs.Flat.{pathIn}
 use Rattle.path_relative.specs.Records.{sharedBy}
 use Rattle.range_paths.proofs.Writing.{shared-short}

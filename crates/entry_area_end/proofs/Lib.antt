@@ -1,0 +1,3 @@
+pub mod HeaderLayout
+pub mod Reading
+pub mod Writing

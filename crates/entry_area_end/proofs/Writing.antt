@@ -1,0 +1,12 @@
+-- The fields after the path, as they are written: both numbers, then the digest.
+use Rattle.codec.proofs.Prelude.{_≡_, sym, _++_, append-assoc}
+use Rattle.compact_u64.specs.Number.{numberBytes}
+use Rattle.grouping.specs.declared.TimeRange.{TimeRange}
+use Rattle.time_relative.specs.declared.TimeDifference.{TimeDifference}
+use Rattle.time_relative.specs.Difference.{differenceOf}
+use Rattle.entry_area_end.specs.declared.End.{End}
+use Rattle.entry_area_end.specs.End.{endOf}
+
+pub end-apart : (r : TimeRange) (e : End) (d : TimeDifference) → d ≡ differenceOf r (e .timestamp)
+    → endOf r e ≡ (numberBytes 2 (d .difference) ++ numberBytes 2 (e .«payload_length»)) ++ e .«payload_digest»
+end-apart r e d same = rw (← same) (sym (append-assoc (numberBytes 2 (d .difference)) (numberBytes 2 (e .«payload_length»)) (e .«payload_digest»)))

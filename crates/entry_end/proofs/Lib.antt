@@ -1,2 +1,0 @@
-pub mod HeaderLayout
-pub mod Reading

@@ -1,9 +1,0 @@
-use Rattle.codec.proofs.Prelude.{needs}
-use Rattle.path_codec.proofs.refuse.Statement.{statement}
-use Rattle.path_codec.proofs.refuse.Tie as tie
-
-returns : tie.Need-returns
-returns c = rw (c .new-empty .ensures)
-
-pub refuse-spec : {M : Type 1} → statement M
-refuse-spec = tie.close (tie.spec (λ c κs. search needs) returns)

@@ -1,0 +1,3 @@
+pub mod Exits
+pub mod Into
+pub mod Within

@@ -1,0 +1,3 @@
+pub mod After
+pub mod Answers
+pub mod Inside
