@@ -203,13 +203,11 @@ fn no_range() -> RangeField
     ensures { λ r. ⌜ r ≡ noRangeField ⌝ }
 {
     let no_subspaces = no_subspaces();
-    let no_paths = no_paths();
     let no_times = no_times();
     let subspaces = no_subspaces.subspaces;
     let times = no_times.times;
-    let start = no_paths.start;
-    let last = no_paths.end;
-    let end = last.path;
+    let start = Path::new_empty();
+    let end = Path::new_empty();
     RangeField {
         ok: false,
         head: Range3dHead {

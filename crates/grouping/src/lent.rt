@@ -27,11 +27,15 @@ pub fn both_formed<'a>(
 ) -> bool
     ensures { λ r. ⌜ r ≡ (wellFormedArea (areaWith area (pathIn (now (path .entry)))) && wellFormedArea (areaWith other (pathIn (now («other_path» .entry))))) ⌝ }
 {
-    let well = well_formed(area, path);
-    if !well {
+    let subspace = area.subspace.well_formed();
+    if !subspace {
         return false;
     }
-    well_formed(other, other_path)
+    let other_subspace = other.subspace.well_formed();
+    if !other_subspace {
+        return false;
+    }
+    path::lent::both_formed(path, other_path)
 }
 
 // Whether an area includes another.

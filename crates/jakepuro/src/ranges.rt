@@ -4,10 +4,8 @@ ghost use Rattle.codec.specs.Format.{lengthAnswer};
 ghost use Rattle.range3d_range3d.specs.Records.{againstRange, readAgainstRange};
 ghost use Rattle.flat.specs.RangeRecord.{rangeIn, rangeFlat};
 ghost use Rattle.calls.specs.Calls.{Encodes, Told, Stores};
+use codec::Decoded;
 use codec::Encoded;
-
-// The code of a refusal for marks that are none.
-const MALFORMED: u8 = 5;
 
 // Writes a 3d range against a 3d range.
 #[no_mangle]
@@ -72,8 +70,7 @@ pub extern "C" fn jakepuro_range3d_range3d_decode<'a>(
 {
     let marked = flat_records::range_record::is_marked(reference);
     if !marked {
-        *consumed = 0;
-        return MALFORMED;
+        return calls::tell_refusal(Decoded::Malformed, consumed);
     }
     let mut path_start = [0u8; 641];
     let mut path_end = [0u8; 641];

@@ -1,10 +1,10 @@
-use Rattle.calls.proofs.Calls.{stores-as}
-use Rattle.codec.proofs.Prelude.{refl, sym, _∙_, now, drop, not-true, not-false, needs}
+use Rattle.calls.proofs.Calls.{stores-none, stores-as}
+use Rattle.codec.proofs.Prelude.{sym, _∙_, now, drop, not-true, not-false, needs}
 use Rattle.path.specs.Flat.{pathIn}
 use Rattle.range_3d.specs.Record.{rangeWith}
 use Rattle.range3d_range3d.specs.Records.{readAgainstRange}
 use Rattle.range3d_range3d.proofs.DecodeExits.{range-unformed}
-use Rattle.flat.specs.RangeRecord.{rangeIn}
+use Rattle.flat.specs.RangeRecord.{rangeFlat, rangeIn}
 use Rattle.flat.proofs.RangeLaws.{range-lent, range-unmarked}
 use Rattle.jakepuro.proofs.ranges.jakepuro_range3d_range3d_decode.Statement.{statement}
 use Rattle.jakepuro.proofs.ranges.jakepuro_range3d_range3d_decode.Tie as tie
@@ -15,8 +15,7 @@ returns c =
     let then1 : tie.Then1 = search in
     let s : tie.Start = search in
     let bad = range-unmarked (now (s .args .reference)) (sym (marked .is-marked .ensures) ∙ not-true (marked .is-marked .result) (then1 .if1 .taken)) in
-    let e = range-unformed (rangeIn (now (s .args .reference))) (drop (s .args .start) (now (s .args .message))) bad in
-    rw e (record { code = refl; count = refl; value = refl })
+    stores-none rangeFlat 5 (range-unformed (rangeIn (now (s .args .reference))) _ bad) (c .tell-refusal .ensures .0) (c .tell-refusal .ensures .1)
 
 returns-2 : tie.Need-returns-2
 returns-2 c =
@@ -35,5 +34,5 @@ pub jakepuro-range3d-range3d-decode-spec : {M : Type 1} → statement M
 jakepuro-range3d-range3d-decode-spec =
     tie.close
     (tie.spec
-    (λ c κs. search needs) returns (λ c κs. search needs) (λ c κs. search needs) (λ c κs. search needs) (λ c κs. search needs)
+    (λ c κs. search needs) (λ c κs. search needs) returns (λ c κs. search needs) (λ c κs. search needs) (λ c κs. search needs) (λ c κs. search needs)
     (λ c κs. search needs) returns-2)
