@@ -1,8 +1,9 @@
 -- The laws of an area against an area, on plain values.
 use Rattle.codec.proofs.Prelude.{_≡_, refl, _∙_, List, [], _∷_, _++_, Bool, true, false, not, ℕ, not-true}
 use Rattle.codec.specs.Answers.{refused}
-use Rattle.codec.specs.Header.{readHeader, HeaderAs}
-use Rattle.codec.specs.Reads.{Reads, ReadsBack, Relaxes, Bounded, Tested, Mapped, Joined}
+use Rattle.codec.specs.Header.{readHeader}
+use Rattle.codec.proofs.Relations.{HeaderAs, Tested, Mapped, Joined}
+use Rattle.codec.specs.Reads.{Reads, ReadsBack, Relaxes, Bounded}
 use Rattle.codec.proofs.Tests.{and-left, and-right}
 use Rattle.codec.proofs.Header.{header-reads}
 use Rattle.codec.proofs.Readers.{reads-as, then-reads, guard-reads, mapped-reads}
@@ -11,19 +12,25 @@ use Rattle.codec.proofs.Bounded.{then-bounded, mapped-bounded}
 use Rattle.path.specs.Limits.{PathOk}
 use Rattle.path.specs.Prefix.{isPrefix}
 use Rattle.path.proofs.Prefix.{prefix-takes, takes-prefix}
-use Rattle.path_relative.specs.Extension.{extensionBytes, ExtensionAs}
+use Rattle.path_relative.specs.Extension.{extensionBytes}
+use Rattle.path_relative.proofs.Relations.{ExtensionAs}
 use Rattle.path_relative.proofs.Extension.{extension-reads, extension-relaxes, extension-bounded}
 use Rattle.grouping.specs.Range.{TypedRange, endValue, bounds, includesRange}
-use Rattle.grouping.specs.Area.{AreaValue, TypedSubspace, includesSubspace, includesArea, liesInside}
+use Rattle.grouping.specs.Area.{AreaValue, TypedSubspace, includesSubspace, includesArea, areaLiesInside}
 use Rattle.area_times.specs.declared.AreaHeader.{AreaHeader}
-use Rattle.area_times.specs.Header.{unpackHeader, packHeader, HeaderFits, spareBits}
+use Rattle.area_times.specs.Header.{unpackHeader, packHeader, spareBits}
+use Rattle.area_times.specs.inside.Header.{HeaderFits}
 use Rattle.area_times.specs.Times.{headerOf, timesBytes, readTimes}
-use Rattle.area_times.specs.Relations.{TimesAs}
+use Rattle.area_times.proofs.Relations.{TimesAs}
 use Rattle.area_times.proofs.HeaderLayout.{header-layout, header-fits}
 use Rattle.area_times.proofs.Times.{header-spares, header-is, times-reads, times-relaxes, times-bounded}
-use Rattle.area_area.specs.Area.{idWritten, areaHeader, subspaceBytes, areaBytes, valueFrom, readSubspace, readParts, readArea}
-use Rattle.area_area.specs.Relations.{SubspaceAs, AreaAs}
+use Rattle.area_area.specs.Area.{idWritten, subspaceBytes, areaBytes, valueFrom, readSubspace, readParts, readArea}
+use Rattle.area_area.specs.Relations.{AreaAs}
+use Rattle.area_area.proofs.Relations.{SubspaceAs}
 use Rattle.area_area.proofs.Subspace.{subspace-reads, subspace-relaxes, subspace-bounded}
+
+abbrev areaHeader : AreaValue → AreaValue → AreaHeader
+areaHeader r a = headerOf (idWritten (r .subspace) (a .subspace)) (r .times) (a .times)
 
 -- ---- lies inside, part by part
 pub record Inside (r a : AreaValue) : Type 0 where
@@ -33,8 +40,8 @@ pub record Inside (r a : AreaValue) : Type 0 where
   pub start : bounds (r .times) (a .times .start) ≡ true
   pub end : bounds (r .times) (endValue (a .times .end)) ≡ true
 
-pub inside : (r a : AreaValue) → liesInside r a ≡ true → Inside r a
-unfolding liesInside includesArea
+pub inside : (r a : AreaValue) → areaLiesInside r a ≡ true → Inside r a
+unfolding areaLiesInside includesArea
 inside r a e =
     let i = and-left (includesArea r a) _ e in
     let b = and-right (includesArea r a) _ e in
@@ -47,8 +54,8 @@ inside r a e =
       end = and-right (bounds (r .times) (a .times .start)) _ b;
     }
 
-inside-of : (r a : AreaValue) → Inside r a → liesInside r a ≡ true
-unfolding liesInside includesArea
+inside-of : (r a : AreaValue) → Inside r a → areaLiesInside r a ≡ true
+unfolding areaLiesInside includesArea
 inside-of r a i = rw (i .subspace, i .prefix, i .included, i .start, i .end)
 
 -- ---- reading

@@ -3,3 +3,5 @@ pub mod Area
 pub mod Records
 pub mod DecodeExits
 pub mod Writing
+pub mod Relations
+pub mod Orders

@@ -11,7 +11,8 @@ use Rattle.path.specs.Limits.{pathOk}
 use Rattle.path.proofs.Limits.{path-ok, ok-path, typed-of}
 use Rattle.grouping.specs.Record.{Area, areaOf, areaFrom, wellFormedArea, TypedArea}
 use Rattle.grouping.specs.Range.{TypedRange}
-use Rattle.grouping.specs.Area.{AreaValue, TypedValue, liesInside}
+use Rattle.grouping.specs.Area.{AreaValue, areaLiesInside}
+use Rattle.grouping.proofs.Values.{TypedValue}
 use Rattle.grouping.proofs.Record.{apart-area, made-area}
 use Rattle.time_relative.proofs.Time.{within}
 use Rattle.area_area.specs.Area.{areaBytes, readArea}
@@ -21,7 +22,7 @@ use Rattle.area_area.proofs.Area.{inside, area-reads, area-reads-back, 
 
 -- ---- on values
 abbrev onValues : AreaValue → Format AreaValue
-onValues r = record { check = λ a. verdictBy (pathOk (a .path)) (liesInside r a); encode = areaBytes r }
+onValues r = record { check = λ a. verdictBy (pathOk (a .path)) (areaLiesInside r a); encode = areaBytes r }
 
 module _ (r : AreaValue) (t : TypedRange (r .times)) where
   area-writes : (a : AreaValue) (e : List ℕ) → AreaAs r a e → Writes TypedValue (onValues r) a e
@@ -41,25 +42,25 @@ module _ (r : AreaValue) (t : TypedRange (r .times)) where
 
   writes-area : (a : AreaValue) (e : List ℕ) → Writes TypedValue (onValues r) a e → AreaAs r a e
   writes-area a e w =
-      let v = verdict-allowed (pathOk (a .path)) (liesInside r a) (w .valid .allows) in
+      let v = verdict-allowed (pathOk (a .path)) (areaLiesInside r a) (w .valid .allows) in
       record { typed = w .valid .typed .subspace; path = path-ok (a .path) (w .valid .typed .path) (v .0); inside = v .1; bytes = w .bytes }
 
 -- ---- on records
 module _ (r : Area) (t : TypedArea r) (w : wellFormedArea r ≡ true) where
   abbrev onRecords : Format Area
-  onRecords = record { check = λ a. verdictBy (wellFormedArea a) (liesInside (areaOf r) (areaOf a)); encode = λ a. areaBytes (areaOf r) (areaOf a) }
+  onRecords = record { check = λ a. verdictBy (wellFormedArea a) (areaLiesInside (areaOf r) (areaOf a)); encode = λ a. areaBytes (areaOf r) (areaOf a) }
 
   record-out : (a : Area) → Valid TypedArea onRecords a → Valid TypedValue (onValues (areaOf r)) (areaOf a) × (areaFrom (areaOf a) ≡ a)
   record-out a v =
-      let ok = verdict-allowed (wellFormedArea a) (liesInside (areaOf r) (areaOf a)) (v .allows) in
+      let ok = verdict-allowed (wellFormedArea a) (areaLiesInside (areaOf r) (areaOf a)) (v .allows) in
       let x = apart-area a (v .typed) (ok .0) in
       (record { typed = x .typed; allows = rw (ok-path (areaOf a .path) (x .ok), ok .1) }, x .made)
 
   record-in : (v : AreaValue) → Valid TypedValue (onValues (areaOf r)) v → Valid TypedArea onRecords (areaFrom v) × (areaOf (areaFrom v) ≡ v)
   record-in v a =
-      let ok = verdict-allowed (pathOk (v .path)) (liesInside (areaOf r) v) (a .allows) in
+      let ok = verdict-allowed (pathOk (v .path)) (areaLiesInside (areaOf r) v) (a .allows) in
       let x = made-area v (a .typed) (path-ok (v .path) (a .typed .path) (ok .0)) in
-      (record { typed = x .typed; allows = rw (x .well) (ap (verdictBy true) (ap (liesInside (areaOf r)) (x .back) ∙ ok .1)) }, x .back)
+      (record { typed = x .typed; allows = rw (x .well) (ap (verdictBy true) (ap (areaLiesInside (areaOf r)) (x .back) ∙ ok .1)) }, x .back)
 
   pub area-lawful : Lawful TypedArea (againstArea r) (readAgainstArea true r)
   unfolding readAgainstArea

@@ -2,7 +2,8 @@
 use Rattle.codec.proofs.Prelude.{_≡_, refl, sym, ap, List, [], Bool, true, false, cond, _&&_, not, true≢false, false≢true, Option, none, some, ℕ}
 use Rattle.codec.specs.Bytes.{sameBytes}
 use Rattle.codec.specs.Reader.{give, someBytes}
-use Rattle.codec.specs.Reads.{Reads, Relaxes, Bounded, Nothing, SomeBytes, Tested, Mapped, Either}
+use Rattle.codec.specs.Reads.{Reads, Relaxes, Bounded}
+use Rattle.codec.proofs.Relations.{Given, SomeBytes, Tested, Mapped, Chosen}
 use Rattle.codec.proofs.SameBytes.{same-eq, same-refl}
 use Rattle.codec.proofs.Tests.{and-left}
 use Rattle.codec.proofs.Readers.{reads-as, choose-reads, mapped-reads, checked-reads, someBytes-reads, give-reads}
@@ -10,7 +11,7 @@ use Rattle.codec.proofs.Relaxes.{relaxes-self, choose-relaxes, mapped-relaxes, 
 use Rattle.codec.proofs.Bounded.{choose-bounded, mapped-bounded, checked-bounded, someBytes-bounded, give-bounded}
 use Rattle.grouping.specs.Area.{TypedSubspace, includesSubspace}
 use Rattle.area_area.specs.Area.{idWritten, subspaceBytes, sameId, readSubspace}
-use Rattle.area_area.specs.Relations.{SubspaceAs}
+use Rattle.area_area.proofs.Relations.{SubspaceAs}
 
 -- ---- the reference's own subspace
 pub includes-self : (r : Option (List ℕ)) → includesSubspace r r ≡ true
@@ -29,13 +30,13 @@ never false e = false≢true e
 Written : Option (List ℕ) → Option (List ℕ) → List ℕ → Type 0
 Written r = Mapped some (Tested (λ id. includesSubspace r (some id) && not (sameId r id)) (SomeBytes 32))
 
-there : (r : Option (List ℕ)) → TypedSubspace r → (written : Bool) (s : Option (List ℕ)) (e : List ℕ) → Either written (Written r) (Nothing r) s e → SubspaceAs r written s e
+there : (r : Option (List ℕ)) → TypedSubspace r → (written : Bool) (s : Option (List ℕ)) (e : List ℕ) → Chosen written (Written r) (Given r) s e → SubspaceAs r written s e
 unfolding Written
 there none ty true s e m = rw (← (m .named)) (record { typed = (m .stands .1 .0, m .stands .1 .1); inside = refl; id = refl; bytes = m .stands .1 .2 })
 there (some r) ty true s e m = absurd (never (sameBytes r (m .value)) (m .stands .0))
 there r ty false s e n = rw (← (n .0), n .1) (record { typed = ty; inside = includes-self r; id = none-written r .0; bytes = sym (none-written r .1) })
 
-back : (r : Option (List ℕ)) (written : Bool) (s : Option (List ℕ)) (e : List ℕ) → SubspaceAs r written s e → Either written (Written r) (Nothing r) s e
+back : (r : Option (List ℕ)) (written : Bool) (s : Option (List ℕ)) (e : List ℕ) → SubspaceAs r written s e → Chosen written (Written r) (Given r) s e
 unfolding Written
 back none true none e a = absurd (false≢true (a .id))
 back none true (some id) e a = record { value = id; named = refl; stands = (refl, (a .typed .0, a .typed .1, a .bytes)) }

@@ -19,9 +19,6 @@ idWritten none none = false
 idWritten none (some id) = true
 idWritten (some r) s = false
 
-abbrev pub areaHeader : AreaValue → AreaValue → AreaHeader
-areaHeader r a = headerOf (idWritten (r .subspace) (a .subspace)) (r .times) (a .times)
-
 abbrev pub subspaceBytes : Option (List ℕ) → Option (List ℕ) → List ℕ
 subspaceBytes none none = []
 subspaceBytes none (some id) = id
@@ -30,9 +27,6 @@ subspaceBytes (some r) s = []
 -- the header and the id, by the subspaces and the times; what stands before the path
 abbrev pub startOf : Option (List ℕ) → TimeRange → Option (List ℕ) → TimeRange → List ℕ
 startOf r within s times = packHeader (headerOf (idWritten r s) within times) ∷ subspaceBytes r s
-
-abbrev pub headBytes : Option (List ℕ) → TimeRange → Option (List ℕ) → TimeRange → List ℕ
-headBytes r within s times = startOf r within s times ++ timesBytes within times
 
 abbrev pub startBytes : AreaValue → AreaValue → List ℕ
 startBytes r a = startOf (r .subspace) (r .times) (a .subspace) (a .times)

@@ -1,3 +1,4 @@
 pub mod Area
 pub mod Records
 pub mod Relations
+pub mod inside

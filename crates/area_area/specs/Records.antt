@@ -3,18 +3,14 @@ use mathlib.Core.Bool.{Bool, _&&_}
 use Rattle.codec.specs.Format.{Format, verdictBy}
 use Rattle.codec.specs.Reader.{Reader, mapped, onFormed}
 use Rattle.grouping.specs.Record.{Area, areaOf, areaFrom, wellFormedArea}
-use Rattle.grouping.specs.Area.{liesInside}
+use Rattle.grouping.specs.Area.{areaLiesInside}
 use Rattle.area_area.specs.Area.{areaBytes, readArea}
 
--- 5 unless both records pass the test, then 3 unless the area lies inside
-abbrev pub againstAreaBy : (Area → Bool) → Area → Format Area
-againstAreaBy formed r = record {
-  check = λ a. verdictBy (formed r && formed a) (liesInside (areaOf r) (areaOf a));
+abbrev pub againstArea : Area → Format Area
+againstArea r = record {
+  check = λ a. verdictBy (wellFormedArea r && wellFormedArea a) (areaLiesInside (areaOf r) (areaOf a));
   encode = λ a. areaBytes (areaOf r) (areaOf a);
 }
-
-abbrev pub againstArea : Area → Format Area
-againstArea = againstAreaBy wellFormedArea
 
 unfoldable pub readAgainstArea : Bool → Area → Reader Area
 readAgainstArea canonic r = onFormed (wellFormedArea r) (mapped areaFrom (readArea canonic (areaOf r)))

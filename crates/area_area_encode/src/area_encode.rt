@@ -4,7 +4,8 @@ ghost use Prim.Native.Nat.{_≤_};
 ghost use lib.ListN.{length};
 ghost use Rattle.codec.specs.Format.{over};
 ghost use Rattle.grouping.specs.Record.{subspaceOf};
-ghost use Rattle.area_area.specs.Area.{idWritten, subspaceBytes, startOf, headBytes};
+ghost use Rattle.area_area.specs.Area.{idWritten, subspaceBytes, startOf};
+ghost use Rattle.area_area.specs.inside.Writing.{headBytes};
 use grouping::AreaSubspace;
 use grouping::TimeRange;
 

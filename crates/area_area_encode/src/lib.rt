@@ -9,7 +9,6 @@ use codec::Encoded;
 use grouping::AreaHead;
 
 mod area_encode;
-pub mod sized;
 
 // How many bytes an area against a reference takes.
 pub fn relative_len_of_encoding<'a>(
@@ -24,10 +23,24 @@ pub fn relative_len_of_encoding<'a>(
     if !formed {
         return Encoded::Malformed;
     }
-    sized::relative_len_of_encoding(area, path, reference, reference_path)
+    let inside = reference.contains(area);
+    if !inside {
+        return Encoded::Outside;
+    }
+    let rest = path_relative_encode::sized::path_extends_path_encoding_len(path, reference_path);
+    let Encoded::Length(n) = rest else {
+        return rest;
+    };
+    let a = area_encode::head_len(
+        area.subspace,
+        reference.subspace,
+        area.times,
+        reference.times,
+    );
+    Encoded::Length(a + n)
 }
 
-// Writes an area against a reference.
+// Writes an area against a reference: the path before what comes first, since it is what may not fit.
 pub fn relative_encode<'a>(
     buffer: &mut [u8],
     area: AreaHead,
@@ -41,5 +54,34 @@ pub fn relative_encode<'a>(
     if !formed {
         return Encoded::Malformed;
     }
-    sized::relative_encode(buffer, area, path, reference, reference_path)
+    let inside = reference.contains(area);
+    if !inside {
+        return Encoded::Outside;
+    }
+    let a = area_encode::head_len(
+        area.subspace,
+        reference.subspace,
+        area.times,
+        reference.times,
+    );
+    if buffer.len() < a {
+        let whole = relative_len_of_encoding(area, path, reference, reference_path);
+        return byte_codec::in_room(whole, buffer.len());
+    }
+    let rest = path_relative_encode::sized::encode_path_extends_path(
+        &mut buffer[a..],
+        path,
+        reference_path,
+    );
+    let Encoded::Length(n) = rest else {
+        return rest;
+    };
+    area_encode::put_head(
+        buffer,
+        area.subspace,
+        reference.subspace,
+        area.times,
+        reference.times,
+    );
+    Encoded::Length(a + n)
 }

@@ -1,14 +1,15 @@
 -- What the definitions say at each exit of the code.
 use Rattle.codec.proofs.Prelude.{_≡_, List, _++_, append-nil, Bool, true, false, ℕ, _+_, drop}
 use Rattle.codec.specs.Answers.{accepted, refused}
+use Rattle.codec.specs.Reader.{named}
 use Rattle.compact_u64.specs.Number.{numberBytes}
 use Rattle.grouping.specs.declared.RangeEnd.{RangeEnd}
 use Rattle.grouping.specs.declared.RangeEnd.the-variants.{Closed, Open}
 use Rattle.grouping.specs.declared.TimeRange.{TimeRange}
-use Rattle.grouping.specs.Range.{includesRange}
+use Rattle.grouping.specs.Range.{includesRange, timesFrom}
 use Rattle.time_relative.specs.Difference.{differenceOf, readTime}
 use Rattle.area_times.specs.declared.AreaHeader.{AreaHeader}
-use Rattle.area_times.specs.Times.{timesBytes, readEnd, timesFrom, readTimes}
+use Rattle.area_times.specs.Times.{timesBytes, readEnd, readTimes}
 
 -- ---- reading
 module _ (canonic : Bool) (r : TimeRange) (h : AreaHeader) (s : List ℕ) where
@@ -21,14 +22,9 @@ module _ (canonic : Bool) (r : TimeRange) (h : AreaHeader) (s : List ℕ) where
     unfolding readEnd
     end-open a = rw (o, a)
 
-  module _ (o : h .«end_open» ≡ false) where
-    pub end-refused : (k : ℕ) → readTime canonic r (h .«end_added») (h .«end_tag») s ≡ refused k → readEnd canonic r h s ≡ refused k
-    unfolding readEnd
-    end-refused k e = rw (o, e)
-
-    pub end-read : (x n : ℕ) → readTime canonic r (h .«end_added») (h .«end_tag») s ≡ accepted x n → readEnd canonic r h s ≡ accepted (Closed x) n
-    unfolding readEnd
-    end-read x n e = rw (o, e)
+  pub end-closed : h .«end_open» ≡ false → readEnd canonic r h s ≡ named Closed (readTime canonic r (h .«end_added») (h .«end_tag») s)
+  unfolding readEnd
+  end-closed o = rw o
 
   pub times-start : (k : ℕ) → readTime canonic r (h .«start_added») (h .«start_tag») s ≡ refused k → readTimes canonic r h s ≡ refused k
   unfolding readTimes

@@ -1,11 +1,12 @@
 -- The header of an area: packing and taking apart undo each other. No law here knows a place.
 use Rattle.codec.proofs.Prelude.{_≡_, refl, Bool, ℕ, _+_, _≤_, _<_, arith}
-use Rattle.codec.specs.Header.{field, placed, bit, Layout}
+use Rattle.codec.specs.Header.{bitsAt, placed, bit, Layout}
 use Rattle.codec.proofs.Header.{field-fits, bit-small, flag-of, same-bytes}
 use Rattle.compact_u64.proofs.Tags.{min-tag-fits}
 use Rattle.grouping.specs.declared.TimeRange.{TimeRange}
 use Rattle.area_times.specs.declared.AreaHeader.{AreaHeader}
-use Rattle.area_times.specs.Header.{idWrittenAt, endOpenAt, startAddedAt, endAddedAt, startTagAt, endTagAt, unpackHeader, packHeader, HeaderFits}
+use Rattle.area_times.specs.Header.{idWrittenAt, endOpenAt, startAddedAt, endAddedAt, startTagAt, endTagAt, unpackHeader, packHeader}
+use Rattle.area_times.specs.inside.Header.{HeaderFits}
 use Rattle.area_times.specs.Times.{headerOf}
 
 -- the sum of the parts, each a number that fits its bits
@@ -15,12 +16,12 @@ sum id opens start end s t =
 
 record Parts (p id opens start end s t : ℕ) : Type 0 where
   byte : p < 256
-  id-is : field idWrittenAt 1 p ≡ id
-  open-is : field endOpenAt 1 p ≡ opens
-  start-is : field startAddedAt 1 p ≡ start
-  end-is : field endAddedAt 1 p ≡ end
-  s-is : field startTagAt 2 p ≡ s
-  t-is : field endTagAt 2 p ≡ t
+  id-is : bitsAt idWrittenAt 1 p ≡ id
+  open-is : bitsAt endOpenAt 1 p ≡ opens
+  start-is : bitsAt startAddedAt 1 p ≡ start
+  end-is : bitsAt endAddedAt 1 p ≡ end
+  s-is : bitsAt startTagAt 2 p ≡ s
+  t-is : bitsAt endTagAt 2 p ≡ t
 
 parts : (id opens start end s t : ℕ) → id ≤ 1 → opens ≤ 1 → start ≤ 1 → end ≤ 1 → s < 4 → t < 4 → Parts (sum id opens start end s t) id opens start end s t
 parts id opens start end s t a b c d f g =

@@ -1,7 +1,8 @@
 -- The laws of an area's times against the reference's.
 use Rattle.codec.proofs.Prelude.{_≡_, refl, sym, ap, _∙_, List, Bool, true, false, _&&_, _||_, not, true≢false, false≢true, ℕ, leb, eqb, le-leb, eqb-true}
 use Rattle.codec.specs.Reader.{give}
-use Rattle.codec.specs.Reads.{Reads, Relaxes, Bounded, Nothing, Tested, Mapped, Joined, Either}
+use Rattle.codec.specs.Reads.{Reads, Relaxes, Bounded}
+use Rattle.codec.proofs.Relations.{Given, Tested, Mapped, Joined, Chosen}
 use Rattle.codec.proofs.Tests.{and-right}
 use Rattle.codec.proofs.Readers.{reads-as, choose-reads, then-reads, guard-reads, mapped-reads, checked-reads, give-reads}
 use Rattle.codec.proofs.Relaxes.{relaxes-self, choose-relaxes, then-relaxes, mapped-relaxes, checked-relaxes}
@@ -10,13 +11,14 @@ use Rattle.compact_u64.specs.Number.{minTag, numberBytes}
 use Rattle.grouping.specs.declared.RangeEnd.{RangeEnd}
 use Rattle.grouping.specs.declared.RangeEnd.the-variants.{Closed, Open}
 use Rattle.grouping.specs.declared.TimeRange.{TimeRange}
-use Rattle.grouping.specs.Range.{TypedRange, top, endValue, isOpen, endAtMost, bounds, includesRange}
-use Rattle.time_relative.specs.Difference.{differenceOf, endDifference, readTime, TimeAs}
+use Rattle.grouping.specs.Range.{TypedRange, top, endValue, isOpen, endAtMost, bounds, includesRange, timesFrom}
+use Rattle.time_relative.specs.Difference.{differenceOf, endDifference, readTime}
+use Rattle.time_relative.proofs.Relations.{TimeAs}
 use Rattle.time_relative.proofs.Time.{time-reads, time-relaxes, time-bounded}
 use Rattle.area_times.specs.declared.AreaHeader.{AreaHeader}
 use Rattle.area_times.specs.Header.{spareBits}
-use Rattle.area_times.specs.Times.{headerOf, timesFrom, endBytes, timesBytes, readEnd, readTimes}
-use Rattle.area_times.specs.Relations.{EndAs, TimesAs}
+use Rattle.area_times.specs.Times.{headerOf, endBytes, timesBytes, readEnd, readTimes}
+use Rattle.area_times.proofs.Relations.{EndAs, TimesAs}
 
 -- ---- the header that writing gives
 pub header-spares : (id : Bool) (r t : TimeRange) → not (spareBits (headerOf id r t)) ≡ true
@@ -44,7 +46,7 @@ no-spare h e o = go (h .«end_added») (eqb (h .«end_tag») 0) refl refl (rw o 
 
 module _ (r : TimeRange) (added : Bool) (tag : ℕ) where
   EndRel : Bool → RangeEnd → List ℕ → Type 0
-  EndRel opens = Either opens (Tested (λ end. not added) (Nothing Open)) (Mapped Closed (TimeAs r added tag))
+  EndRel opens = Chosen opens (Tested (λ end. not added) (Given Open)) (Mapped Closed (TimeAs r added tag))
 
   end-there : (opens : Bool) → (opens ≡ true → (added ≡ false) × (tag ≡ 0)) → (end : RangeEnd) (e : List ℕ) → EndRel opens end e → EndAs r opens added tag end e
   unfolding EndRel minTag
@@ -71,7 +73,7 @@ module _ (r : TimeRange) (h : AreaHeader) where
   unfolding readEnd EndRel
   end-reads ty spare = reads-as _ _ _
       (choose-reads (h .«end_open») _ _ _ _
-      (guard-reads (not (h .«end_added»)) (give Open) (Nothing Open) (λ ok. give-reads Open))
+      (guard-reads (not (h .«end_added»)) (give Open) (Given Open) (λ ok. give-reads Open))
       (mapped-reads Closed _ _ (time-reads r (h .«end_added») (h .«end_tag») ty)))
       (end-there r (h .«end_added») (h .«end_tag») (h .«end_open») (no-spare h spare))
       (end-back r (h .«end_added») (h .«end_tag») (h .«end_open»))

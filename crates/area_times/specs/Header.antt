@@ -1,8 +1,8 @@
 -- docs/FORMAT.md, "Areas": the header byte of an area against an area.
 use mathlib.Core.Bool.{Bool, _&&_, _||_, not}
-use Prim.Native.Nat.{ℕ, _+_, _<_}
+use Prim.Native.Nat.{ℕ, _+_}
 use lib.Dec.{eqb}
-use Rattle.codec.specs.Header.{field, flag, placed, bit}
+use Rattle.codec.specs.Header.{bitsAt, flag, placed, bit}
 use Rattle.area_times.specs.declared.AreaHeader.{AreaHeader}
 
 -- where each part stands
@@ -30,8 +30,8 @@ unpackHeader b = record {
   «end_open» = flag endOpenAt b;
   «start_added» = flag startAddedAt b;
   «end_added» = flag endAddedAt b;
-  «start_tag» = field startTagAt 2 b;
-  «end_tag» = field endTagAt 2 b;
+  «start_tag» = bitsAt startTagAt 2 b;
+  «end_tag» = bitsAt endTagAt 2 b;
 }
 
 abbrev pub packHeader : AreaHeader → ℕ
@@ -42,10 +42,6 @@ packHeader h =
     + placed endAddedAt 1 (bit (h .«end_added»))
     + placed startTagAt 2 (h .«start_tag»)
     + placed endTagAt 2 (h .«end_tag»)
-
-pub record HeaderFits (h : AreaHeader) : Type 0 where
-  pub start : h .«start_tag» < 4
-  pub end : h .«end_tag» < 4
 
 -- an open end has no difference; bits that speak of one are spare
 unfoldable pub spareBits : AreaHeader → Bool

@@ -1,3 +1,3 @@
 pub mod Header
 pub mod Times
-pub mod Relations
+pub mod inside

@@ -7,7 +7,7 @@ use Rattle.compact_u64.specs.Number.{minTag, numberBytes}
 use Rattle.grouping.specs.declared.RangeEnd.{RangeEnd}
 use Rattle.grouping.specs.declared.RangeEnd.the-variants.{Closed, Open}
 use Rattle.grouping.specs.declared.TimeRange.{TimeRange}
-use Rattle.grouping.specs.Range.{isOpen, includesRange}
+use Rattle.grouping.specs.Range.{timesFrom, isOpen, includesRange}
 use Rattle.time_relative.specs.Difference.{differenceOf, endDifference, readTime}
 use Rattle.area_times.specs.declared.AreaHeader.{AreaHeader}
 
@@ -36,9 +36,6 @@ readEnd canonic r h =
     choose (h .«end_open»)
     (guard (not (h .«end_added»)) (give Open))
     (mapped Closed (readTime canonic r (h .«end_added») (h .«end_tag»)))
-
-abbrev pub timesFrom : ℕ → RangeEnd → TimeRange
-timesFrom start end = record { start = start; end = end }
 
 unfoldable pub readTimes : Bool → TimeRange → AreaHeader → Reader TimeRange
 readTimes canonic r h =

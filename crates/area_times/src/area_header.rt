@@ -1,6 +1,7 @@
 // The header byte of an area against an area.
 ghost use mathlib.Core.Path.{_≡_};
-ghost use Rattle.area_times.specs.Header.{unpackHeader, packHeader, HeaderFits, spareBits};
+ghost use Rattle.area_times.specs.Header.{unpackHeader, packHeader, spareBits};
+ghost use Rattle.area_times.specs.inside.Header.{HeaderFits};
 use crate::AreaHeader;
 
 // What one of each part adds to the byte.

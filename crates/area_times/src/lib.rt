@@ -2,14 +2,18 @@
 ghost use mathlib.Core.Path.{_≡_};
 ghost use Prim.Native.Nat.{_≤_};
 ghost use lib.ListN.{length, drop};
-ghost use Rattle.codec.specs.Answers.{answerOf, outcomeOf, Gives};
+ghost use Rattle.codec.specs.Answers.{outcomeOf, Gives};
 ghost use Rattle.codec.specs.Format.{allowed, putAnswer, putBuffer};
+ghost use Rattle.grouping.specs.Answers.{noTimes};
+ghost use Rattle.grouping.specs.declared.RangeEnd.the-variants.{Open};
 ghost use Rattle.area_times.specs.Header.{packHeader};
 ghost use Rattle.area_times.specs.Times.{headerOf, timesBytes, readEnd, readTimes};
 use codec::Decoded;
 use codec::Encoded;
 use compact_u64::DecodedU64;
 use compact_u64::TagWidth;
+use grouping::DecodedEnd;
+use grouping::DecodedTimes;
 use grouping::RangeEnd;
 use grouping::TimeRange;
 
@@ -23,17 +27,6 @@ pub struct AreaHeader {
     pub end_added: bool,
     pub start_tag: u8,
     pub end_tag: u8,
-}
-
-pub struct DecodedEnd {
-    pub answer: Decoded,
-    pub end: RangeEnd,
-}
-
-// Times beside the answer; beside a refusal they are the reference's.
-pub struct DecodedTimes {
-    pub answer: Decoded,
-    pub times: TimeRange,
 }
 
 fn header_of(id_written: bool, times: TimeRange, reference: TimeRange) -> AreaHeader
@@ -67,7 +60,7 @@ fn decode_end(
     reference: TimeRange,
     header: AreaHeader,
 ) -> DecodedEnd
-    ensures { λ r. ⌜ answerOf (r .answer) (r .end) ≡ readEnd canonic reference header (drop start (now (message .entry))) ⌝ }
+    ensures { λ r. ⌜ Gives Open (r .answer) (r .end) (readEnd canonic reference header (drop start (now (message .entry)))) ⌝ }
 {
     if header.end_open {
         if header.end_added {
@@ -81,24 +74,14 @@ fn decode_end(
             end: RangeEnd::Open,
         };
     }
-    let read = time_relative::relative_decode(
+    grouping::closed_end(time_relative::relative_decode(
         message,
         start,
         canonic,
         reference,
         header.end_added,
         header.end_tag,
-    );
-    let DecodedU64::Value(end, n) = read else {
-        return DecodedEnd {
-            answer: compact_u64::refusal(read),
-            end: RangeEnd::Open,
-        };
-    };
-    DecodedEnd {
-        answer: Decoded::Consumed(n),
-        end: RangeEnd::Closed(end),
-    }
+    ))
 }
 
 // Reads times against a reference, by the header.
@@ -108,7 +91,7 @@ pub fn relative_decode(
     reference: TimeRange,
     header: AreaHeader,
 ) -> DecodedTimes
-    ensures { λ r. ⌜ Gives reference (r .answer) (r .times) (readTimes canonic reference header (now (message .entry))) ⌝ }
+    ensures { λ r. ⌜ Gives noTimes (r .answer) (r .times) (readTimes canonic reference header (now (message .entry))) ⌝ }
 {
     let first = time_relative::relative_decode(
         message,
@@ -119,18 +102,12 @@ pub fn relative_decode(
         header.start_tag,
     );
     let DecodedU64::Value(start, a) = first else {
-        return DecodedTimes {
-            answer: compact_u64::refusal(first),
-            times: reference,
-        };
+        return grouping::refuse_times(compact_u64::unvalued(first));
     };
     let second = decode_end(message, a, canonic, reference, header);
     let answer = second.answer;
     let Decoded::Consumed(b) = answer else {
-        return DecodedTimes {
-            answer: answer,
-            times: reference,
-        };
+        return grouping::refuse_times(answer);
     };
     let end = second.end;
     let times = TimeRange {
@@ -139,10 +116,7 @@ pub fn relative_decode(
     };
     let included = reference.includes_range(times);
     if !included {
-        return DecodedTimes {
-            answer: Decoded::TheirFault,
-            times: reference,
-        };
+        return grouping::refuse_times(Decoded::TheirFault);
     }
     DecodedTimes {
         answer: Decoded::Consumed(a + b),

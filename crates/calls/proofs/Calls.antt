@@ -11,8 +11,8 @@ use Rattle.codec.proofs.Lending.{no-length}
 use Rattle.calls.specs.Calls.{codeOf, Told, Encodes, readCode, Stores}
 
 -- ---- writing
-pub told-denied : (x : Encoded) → OneOf (1 ∷ 2 ∷ 3 ∷ []) (declared.tagOf Rattle.codec.proofs.Encoded.the-type x) → {r : ℕ} → r ≡ codeOf (outcomeOf x) → Told (outcomeOf x) r 0
-told-denied x h e = record { code = e; count = rw (no-length x h .is) }
+pub told-refused-writing : (x : Encoded) → OneOf (1 ∷ 2 ∷ 3 ∷ []) (declared.tagOf Rattle.codec.proofs.Encoded.the-type x) → {r : ℕ} → r ≡ codeOf (outcomeOf x) → Told (outcomeOf x) r 0
+told-refused-writing x h e = record { code = e; count = rw (no-length x h .is) }
 
 pub told-as : {x y : Outcome} {r n : ℕ} → Told x r n → x ≡ y → Told y r n
 told-as t e = rw e at t

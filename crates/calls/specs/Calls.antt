@@ -3,17 +3,17 @@ use mathlib.Core.Path.{_≡_}
 use mathlib.Core.List.{List}
 use Prim.Native.Nat.{ℕ}
 use lib.ListN.{length}
-use Rattle.codec.specs.Answers.{Answer, accepted, refused, Outcome, wrote, denied}
+use Rattle.codec.specs.Answers.{Answer, accepted, refused, Outcome, wrote, refusedWriting}
 use Rattle.codec.specs.Format.{Format, writeAnswer, writeBuffer}
 
 -- ---- writing, and written length
 abbrev pub codeOf : Outcome → ℕ
 codeOf (wrote n) = 0
-codeOf (denied k) = k
+codeOf (refusedWriting k) = k
 
 abbrev pub countOf : Outcome → ℕ
 countOf (wrote n) = n
-countOf (denied k) = 0
+countOf (refusedWriting k) = 0
 
 pub record Told (x : Outcome) (r n : ℕ) : Type 0 where
   pub code : r ≡ codeOf x

@@ -1,9 +1,7 @@
--- Laws of a line's answer: by its length and its kind, and where it ends.
-use Rattle.codec.proofs.Prelude.{_≡_, ap, List, ℕ, _+_, _-_, _≤_, _<_, arith, le-leb, lt-leb, length, length-append, length-drop, length-take-le}
+-- Laws of a line's answer: by its length and its kind.
+use Rattle.codec.proofs.Prelude.{_≡_, List, ℕ, _≤_, _<_, le-leb, lt-leb, length}
 use Rattle.text.specs.Parts.{partAt}
-use Rattle.text.specs.Buffer.{overAt}
 use Rattle.case_text.specs.Texts.{six, ended}
-use Rattle.case_text.specs.Answers.{Puts}
 use Rattle.case_answers.specs.declared.Kind.{Kind}
 use Rattle.case_answers.specs.Lines.{kindOf, kindLine, answerTo}
 

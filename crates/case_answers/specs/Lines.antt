@@ -1,5 +1,5 @@
 -- The answer to a case line: docs/CASES.md.
-use mathlib.Core.List.{List, [], _∷_}
+use mathlib.Core.List.{List, []}
 use mathlib.Core.Bool.{cond}
 use Prim.Native.Nat.{ℕ}
 use lib.Dec.{leb}
@@ -17,25 +17,26 @@ use Rattle.case_entry_entry.specs.Lines.{entryEntryLine}
 use Rattle.case_ranges.specs.Lines.{rangeLine}
 use Rattle.case_answers.specs.declared.Kind.{Kind}
 use Rattle.case_answers.specs.declared.Kind.the-variants as kind
+use Rattle.text.specs.Ascii.{ascii}
 
 -- the kind in the first field
 unfoldable pub recordKind : List ℕ → Kind
 recordKind f =
     -- area_area, entry_area, entry_entry, range3d_range3d, raw
-    cond (sameBytes f (97 ∷ 114 ∷ 101 ∷ 97 ∷ 95 ∷ 97 ∷ 114 ∷ 101 ∷ 97 ∷ [])) kind.AreaArea
-    (cond (sameBytes f (101 ∷ 110 ∷ 116 ∷ 114 ∷ 121 ∷ 95 ∷ 97 ∷ 114 ∷ 101 ∷ 97 ∷ [])) kind.EntryArea
-    (cond (sameBytes f (101 ∷ 110 ∷ 116 ∷ 114 ∷ 121 ∷ 95 ∷ 101 ∷ 110 ∷ 116 ∷ 114 ∷ 121 ∷ [])) kind.EntryEntry
-    (cond (sameBytes f (114 ∷ 97 ∷ 110 ∷ 103 ∷ 101 ∷ 51 ∷ 100 ∷ 95 ∷ 114 ∷ 97 ∷ 110 ∷ 103 ∷ 101 ∷ 51 ∷ 100 ∷ [])) kind.Range3d
-    (cond (sameBytes f (114 ∷ 97 ∷ 119 ∷ [])) kind.Raw kind.Unknown))))
+    cond (sameBytes f (ascii "area_area")) kind.AreaArea
+    (cond (sameBytes f (ascii "entry_area")) kind.EntryArea
+    (cond (sameBytes f (ascii "entry_entry")) kind.EntryEntry
+    (cond (sameBytes f (ascii "range3d_range3d")) kind.Range3d
+    (cond (sameBytes f (ascii "raw")) kind.Raw kind.Unknown))))
 
 unfoldable pub kindOf : List ℕ → Kind
 kindOf f =
     -- number, standalone, path, path_path, path_extends
-    cond (sameBytes f (110 ∷ 117 ∷ 109 ∷ 98 ∷ 101 ∷ 114 ∷ [])) kind.Number
-    (cond (sameBytes f (115 ∷ 116 ∷ 97 ∷ 110 ∷ 100 ∷ 97 ∷ 108 ∷ 111 ∷ 110 ∷ 101 ∷ [])) kind.Standalone
-    (cond (sameBytes f (112 ∷ 97 ∷ 116 ∷ 104 ∷ [])) kind.Path
-    (cond (sameBytes f (112 ∷ 97 ∷ 116 ∷ 104 ∷ 95 ∷ 112 ∷ 97 ∷ 116 ∷ 104 ∷ [])) kind.PathPath
-    (cond (sameBytes f (112 ∷ 97 ∷ 116 ∷ 104 ∷ 95 ∷ 101 ∷ 120 ∷ 116 ∷ 101 ∷ 110 ∷ 100 ∷ 115 ∷ [])) kind.PathExtends (recordKind f)))))
+    cond (sameBytes f (ascii "number")) kind.Number
+    (cond (sameBytes f (ascii "standalone")) kind.Standalone
+    (cond (sameBytes f (ascii "path")) kind.Path
+    (cond (sameBytes f (ascii "path_path")) kind.PathPath
+    (cond (sameBytes f (ascii "path_extends")) kind.PathExtends (recordKind f)))))
 
 abbrev pub kindLine : Kind → List ℕ → List ℕ
 kindLine kind.Number line = taggedLine line

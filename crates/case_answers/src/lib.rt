@@ -1,15 +1,10 @@
 // Answers to case lines: docs/CASES.md.
 ghost use mathlib.Core.Path.{_≡_};
-ghost use Prim.Native.Nat.{_≤_};
-ghost use lib.ListN.{length};
-ghost use Rattle.codec.specs.Format.{over};
-ghost use Rattle.lines.specs.Lines.{span, answers, fittingLines};
 ghost use Rattle.case_text.specs.Answers.{PutsWithin};
 ghost use Rattle.case_answers.specs.Lines.{recordKind, kindOf, answerTo};
 use case_paths::Encoding;
-use case_text::MAX_ANSWER;
 
-pub enum Kind {
+enum Kind {
     Number,
     Standalone,
     Path,
@@ -25,12 +20,6 @@ pub enum Kind {
 
 // The longest line, its newline not counted.
 pub const MAX_LINE: usize = 16384;
-
-// What was answered: the bytes of the lines, and those of the answers.
-pub struct Answered {
-    pub taken: usize,
-    pub put: usize,
-}
 
 // The kinds of records other than numbers and paths.
 fn record_kind(field: &[u8]) -> Kind
@@ -95,28 +84,5 @@ pub fn answer(line: &[u8], out: &mut [u8], at: usize) -> usize
         Kind::Range3d => case_ranges::range(line, out, at),
         Kind::Raw => case_paths::raw::raw(line, out, at),
         Kind::Unknown => case_text::put::refuse(out, at),
-    }
-}
-
-// Answers the whole lines of a text, one after another, while MAX_ANSWER bytes of the buffer are free.
-pub fn answer_lines(s: &[u8], out: &mut [u8]) -> Answered
-    ensures { λ r. ⌜ (r .taken ≡ span (fittingLines answerTo 16640 (length (now (out .entry))) (now (s .entry)))) × (r .put ≡ length (answers answerTo (fittingLines answerTo 16640 (length (now (out .entry))) (now (s .entry))))) ⌝ }
-    ensures { λ _. ⌜ now (out .exit) ≡ over (answers answerTo (fittingLines answerTo 16640 (length (now (out .entry))) (now (s .entry)))) (now (out .entry)) ⌝ }
-    ensures { λ r. ⌜ (r .taken ≤ length (now (s .entry))) × (r .put ≤ length (now (out .exit))) ⌝ }
-{
-    let mut at: usize = 0;
-    let mut put: usize = 0;
-    while MAX_ANSWER <= out.len() - put {
-        let rest = &s[at..];
-        let k = text::find(rest, b'\n');
-        if k == rest.len() {
-            break;
-        }
-        put = answer(&rest[..k], out, put);
-        at += k + 1;
-    }
-    Answered {
-        taken: at,
-        put: put,
     }
 }

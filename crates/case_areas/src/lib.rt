@@ -1,19 +1,19 @@
 // Case lines of areas against an area: docs/CASES.md. A line is answered where MAX_ANSWER bytes are free; elsewhere nothing changes.
 ghost use mathlib.Core.Path.{_≡_};
 ghost use mathlib.Core.Bool.{cond};
-ghost use lib.ListN.{take};
+ghost use lib.ListN.{length, take};
 ghost use Rattle.path.specs.Flat.{pathIn};
 ghost use Rattle.grouping.specs.Record.{areaWith};
-ghost use Rattle.area_area.specs.Records.{againstArea, readAgainstArea};
+ghost use Rattle.area_area.specs.Records.{againstArea};
 ghost use Rattle.case_text.specs.Texts.{ended};
 ghost use Rattle.case_text.specs.Fields.{Says};
-ghost use Rattle.case_text.specs.Records.{readLine, writeLine, lengthLine};
+ghost use Rattle.case_text.specs.inside.Values.{valueText};
 ghost use Rattle.case_text.specs.Answers.{PutsWithin};
+ghost use Rattle.case_text.specs.Asking.{OutputInside};
 ghost use Rattle.case_areas.specs.Lines.{areaText, areaField, fieldArea, noArea, areaLine};
-use case_text::HexField;
+use case_text::Asked;
 use case_text::MAX_BYTES;
-use case_text::MessageField;
-use case_text::Op;
+use case_text::Output;
 use case_text::fields;
 use case_text::put;
 use decimal::Decimal;
@@ -95,71 +95,38 @@ fn print(area: AreaHead, path: &[u8; 641], buffer: &mut [u8; MAX_BYTES]) -> usiz
     area_text::put_end(buffer, p, end)
 }
 
-fn read_line(line: &[u8], out: &mut [u8], at: usize, reference: AreaField, canonic: bool) -> usize
-    ensures { λ r. ⌜ PutsWithin 16640 at (ended (readLine areaText (readAgainstArea canonic (fieldArea reference)) 6 (now (line .entry)))) (now (out .entry)) (now (out .exit)) r ⌝ }
+// Writes or measures the area from the seventh field on.
+fn write(
+    line: &[u8],
+    out: &mut [u8],
+    at: usize,
+    reference: AreaField,
+    output: Output,
+    mut buffer: [u8; MAX_BYTES],
+) -> usize
+    requires { ⌜ OutputInside (length buffer) output ⌝ }
+    ensures { λ r. ⌜ PutsWithin 16640 at (ended (areaField 6 (now (line .entry)) (valueText (againstArea (fieldArea reference)) output buffer))) (now (out .entry)) (now (out .exit)) r ⌝ }
 {
-    let mut bytes = [0u8; MAX_BYTES];
-    let message = fields::message(line, 6, &mut bytes);
-    let MessageField::Message(s, n) = message else {
+    let value = read_area(line, 6);
+    if !value.ok {
         return put::refuse(out, at);
+    }
+    let answer = match output {
+        Output::Buffer(n) => area_area_encode::relative_encode(
+            &mut buffer[..n],
+            value.head,
+            &value.path.flat,
+            reference.head,
+            &reference.path.flat,
+        ),
+        Output::Length => area_area_encode::relative_len_of_encoding(
+            value.head,
+            &value.path.flat,
+            reference.head,
+            &reference.path.flat,
+        ),
     };
-    let mut path = [0u8; path::lent::SIZE];
-    let read = area_area_decode::relative_decode(
-        &bytes[..n],
-        s,
-        canonic,
-        reference.head,
-        &reference.path.flat,
-        &mut path,
-    );
-    let mut text = [0u8; MAX_BYTES];
-    let k = print(read.head, &path, &mut text);
-    let answer = read.answer;
-    put::value(out, at, answer, &text, k)
-}
-
-fn write_line(line: &[u8], out: &mut [u8], at: usize, reference: AreaField) -> usize
-    ensures { λ r. ⌜ PutsWithin 16640 at (ended (writeLine areaField (againstArea (fieldArea reference)) 6 10 (now (line .entry)))) (now (out .entry)) (now (out .exit)) r ⌝ }
-{
-    if text::part_count(line, b'\t') != 11 {
-        return put::refuse(out, at);
-    }
-    let field = read_area(line, 6);
-    if !field.ok {
-        return put::refuse(out, at);
-    }
-    let mut buffer = [0u8; MAX_BYTES];
-    let hex = fields::hex(line, 10, &mut buffer);
-    let HexField::Bytes(n) = hex else {
-        return put::refuse(out, at);
-    };
-    let answer = area_area_encode::relative_encode(
-        &mut buffer[..n],
-        field.head,
-        &field.path.flat,
-        reference.head,
-        &reference.path.flat,
-    );
-    put::written(out, at, answer, &buffer, n)
-}
-
-fn len_line(line: &[u8], out: &mut [u8], at: usize, reference: AreaField) -> usize
-    ensures { λ r. ⌜ PutsWithin 16640 at (ended (lengthLine areaField (againstArea (fieldArea reference)) 6 10 (now (line .entry)))) (now (out .entry)) (now (out .exit)) r ⌝ }
-{
-    if text::part_count(line, b'\t') != 10 {
-        return put::refuse(out, at);
-    }
-    let field = read_area(line, 6);
-    if !field.ok {
-        return put::refuse(out, at);
-    }
-    let answer = area_area_encode::relative_len_of_encoding(
-        field.head,
-        &field.path.flat,
-        reference.head,
-        &reference.path.flat,
-    );
-    put::length(out, at, answer)
+    put::output(out, at, output, answer, &buffer)
 }
 
 // Answers a line of an area against a reference, which stands before the other fields.
@@ -170,12 +137,25 @@ pub fn area(line: &[u8], out: &mut [u8], at: usize) -> usize
     if !reference.ok {
         return put::refuse(out, at);
     }
-    let op = fields::op(text::part(line, b'\t', 1));
-    match op {
-        Op::Strict => read_line(line, out, at, reference, true),
-        Op::Lenient => read_line(line, out, at, reference, false),
-        Op::Write => write_line(line, out, at, reference),
-        Op::Length => len_line(line, out, at, reference),
-        Op::Unknown => put::refuse(out, at),
+    let mut bytes = [0u8; MAX_BYTES];
+    let asked = fields::asked(line, 6, 10, &mut bytes);
+    match asked {
+        Asked::Read(canonic, s, n) => {
+            let mut path = [0u8; path::lent::SIZE];
+            let read = area_area_decode::relative_decode(
+                &bytes[..n],
+                s,
+                canonic,
+                reference.head,
+                &reference.path.flat,
+                &mut path,
+            );
+            let mut text = [0u8; MAX_BYTES];
+            let k = print(read.head, &path, &mut text);
+            let answer = read.answer;
+            put::value(out, at, answer, &text, k)
+        }
+        Asked::Value(output) => write(line, out, at, reference, output, bytes),
+        Asked::Refused => put::refuse(out, at),
     }
 }

@@ -1,94 +1,55 @@
 // Case lines of entries against a namespace and an area: docs/CASES.md. A line is answered where MAX_ANSWER bytes are free; elsewhere nothing changes.
-ghost use Rattle.entry_area.specs.Records.{againstNamespaceArea, readAgainstNamespaceArea};
+ghost use lib.ListN.{length};
+ghost use Rattle.entry_area.specs.Records.{againstNamespaceArea};
 ghost use Rattle.case_text.specs.Texts.{ended};
-ghost use Rattle.case_text.specs.Records.{readLine, writeLine, lengthLine};
+ghost use Rattle.case_text.specs.inside.Values.{valueText};
 ghost use Rattle.case_text.specs.Answers.{PutsWithin};
+ghost use Rattle.case_text.specs.Asking.{OutputInside};
 ghost use Rattle.case_areas.specs.Lines.{fieldArea};
-ghost use Rattle.case_entry_text.specs.Fields.{entryText, entryField};
+ghost use Rattle.case_entry_text.specs.Fields.{entryField};
 ghost use Rattle.case_entries.specs.Lines.{entryLine};
 use case_areas::AreaField;
-use case_text::HexField;
+use case_text::Asked;
 use case_text::MAX_BYTES;
-use case_text::MessageField;
-use case_text::Op;
+use case_text::Output;
 use case_text::fields;
 use case_text::put;
 
-fn read_line(
+// Writes or measures the entry from the eighth field on.
+fn write(
     line: &[u8],
     out: &mut [u8],
     at: usize,
     namespace: [u8; 32],
     area: AreaField,
-    canonic: bool,
+    output: Output,
+    mut buffer: [u8; MAX_BYTES],
 ) -> usize
-    ensures { λ r. ⌜ PutsWithin 16640 at (ended (readLine entryText (readAgainstNamespaceArea canonic namespace (fieldArea area)) 7 (now (line .entry)))) (now (out .entry)) (now (out .exit)) r ⌝ }
+    requires { ⌜ OutputInside (length buffer) output ⌝ }
+    ensures { λ r. ⌜ PutsWithin 16640 at (ended (entryField 7 (now (line .entry)) (valueText (againstNamespaceArea namespace (fieldArea area)) output buffer))) (now (out .entry)) (now (out .exit)) r ⌝ }
 {
-    let mut bytes = [0u8; MAX_BYTES];
-    let message = fields::message(line, 7, &mut bytes);
-    let MessageField::Message(s, n) = message else {
+    let value = case_entry_text::read_entry(line, 7);
+    if !value.ok {
         return put::refuse(out, at);
+    }
+    let answer = match output {
+        Output::Buffer(n) => entry_area_encode::relative_encode(
+            &mut buffer[..n],
+            value.fields,
+            &value.path.flat,
+            namespace,
+            area.head,
+            &area.path.flat,
+        ),
+        Output::Length => entry_area_encode::relative_len_of_encoding(
+            value.fields,
+            &value.path.flat,
+            namespace,
+            area.head,
+            &area.path.flat,
+        ),
     };
-    let mut path = [0u8; path::lent::SIZE];
-    let read = entry_area_decode::relative_decode(
-        &bytes[..n],
-        s,
-        canonic,
-        namespace,
-        area.head,
-        &area.path.flat,
-        &mut path,
-    );
-    let mut text = [0u8; MAX_BYTES];
-    let k = case_entry_text::print_entry(read.fields, &path, &mut text);
-    let answer = read.answer;
-    put::value(out, at, answer, &text, k)
-}
-
-fn write_line(line: &[u8], out: &mut [u8], at: usize, namespace: [u8; 32], area: AreaField) -> usize
-    ensures { λ r. ⌜ PutsWithin 16640 at (ended (writeLine entryField (againstNamespaceArea namespace (fieldArea area)) 7 13 (now (line .entry)))) (now (out .entry)) (now (out .exit)) r ⌝ }
-{
-    if text::part_count(line, b'\t') != 14 {
-        return put::refuse(out, at);
-    }
-    let field = case_entry_text::read_entry(line, 7);
-    if !field.ok {
-        return put::refuse(out, at);
-    }
-    let mut buffer = [0u8; MAX_BYTES];
-    let hex = fields::hex(line, 13, &mut buffer);
-    let HexField::Bytes(n) = hex else {
-        return put::refuse(out, at);
-    };
-    let answer = entry_area_encode::relative_encode(
-        &mut buffer[..n],
-        field.fields,
-        &field.path.flat,
-        namespace,
-        area.head,
-        &area.path.flat,
-    );
-    put::written(out, at, answer, &buffer, n)
-}
-
-fn len_line(line: &[u8], out: &mut [u8], at: usize, namespace: [u8; 32], area: AreaField) -> usize
-    ensures { λ r. ⌜ PutsWithin 16640 at (ended (lengthLine entryField (againstNamespaceArea namespace (fieldArea area)) 7 13 (now (line .entry)))) (now (out .entry)) (now (out .exit)) r ⌝ }
-{
-    if text::part_count(line, b'\t') != 13 {
-        return put::refuse(out, at);
-    }
-    let field = case_entry_text::read_entry(line, 7);
-    if !field.ok {
-        return put::refuse(out, at);
-    }
-    let answer = entry_area_encode::relative_len_of_encoding(
-        field.fields,
-        &field.path.flat,
-        namespace,
-        area.head,
-        &area.path.flat,
-    );
-    put::length(out, at, answer)
+    put::output(out, at, output, answer, &buffer)
 }
 
 // Answers a line of an entry against a namespace and an area, which stand before the other fields.
@@ -104,12 +65,26 @@ pub fn entry(line: &[u8], out: &mut [u8], at: usize) -> usize
         return put::refuse(out, at);
     }
     let namespace = first.id;
-    let op = fields::op(text::part(line, b'\t', 1));
-    match op {
-        Op::Strict => read_line(line, out, at, namespace, area, true),
-        Op::Lenient => read_line(line, out, at, namespace, area, false),
-        Op::Write => write_line(line, out, at, namespace, area),
-        Op::Length => len_line(line, out, at, namespace, area),
-        Op::Unknown => put::refuse(out, at),
+    let mut bytes = [0u8; MAX_BYTES];
+    let asked = fields::asked(line, 7, 13, &mut bytes);
+    match asked {
+        Asked::Read(canonic, s, n) => {
+            let mut path = [0u8; path::lent::SIZE];
+            let read = entry_area_decode::relative_decode(
+                &bytes[..n],
+                s,
+                canonic,
+                namespace,
+                area.head,
+                &area.path.flat,
+                &mut path,
+            );
+            let mut text = [0u8; MAX_BYTES];
+            let k = case_entry_text::print_entry(read.fields, &path, &mut text);
+            let answer = read.answer;
+            put::value(out, at, answer, &text, k)
+        }
+        Asked::Value(output) => write(line, out, at, namespace, area, output, bytes),
+        Asked::Refused => put::refuse(out, at),
     }
 }

@@ -2,7 +2,6 @@
 use mathlib.Core.List.{List, [], _++_}
 use mathlib.Core.Bool.{false}
 use Prim.Native.Nat.{ℕ, _+_}
-use Rattle.codec.specs.Bytes.{zeroId}
 use Rattle.path.specs.Record.{Path, pathFrom}
 use Rattle.path.specs.Flat.{pathFlat, pathIn}
 use Rattle.entry.specs.Record.{Entry, fieldsOf, entryWith}
@@ -12,7 +11,6 @@ use Rattle.text.specs.Hex.{hexText}
 use Rattle.path_text.specs.PathText.{pathTextOf}
 use Rattle.case_text.specs.Texts.{afterTab}
 use Rattle.case_text.specs.Fields.{decimalField, pathField, idField}
-use Rattle.case_entry_text.specs.declared.NamesField.{NamesField}
 use Rattle.case_entry_text.specs.declared.EntryField.{EntryField}
 
 -- ---- printed
@@ -54,15 +52,8 @@ entryField i line k =
       «payload_digest» = digest;
     })))))
 
--- what fields that were read say, and what stands beside fields that are not in their form
-abbrev pub fieldNames : NamesField → Names
-fieldNames f = record { «namespace_id» = f .«namespace_id»; «subspace_id» = f .«subspace_id»; path = pathIn (f .path .flat) }
-
 abbrev pub fieldEntry : EntryField → Entry
 fieldEntry f = entryWith (f .fields) (pathIn (f .path .flat))
-
-unfoldable pub noNames : NamesField
-noNames = record { ok = false; «namespace_id» = zeroId; «subspace_id» = zeroId; path = record { flat = pathFlat (pathFrom []) } }
 
 unfoldable pub noEntry : EntryField
 noEntry = record { ok = false; fields = fieldsOf zeroEntry; path = record { flat = pathFlat (pathFrom []) } }

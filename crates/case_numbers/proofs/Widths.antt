@@ -7,7 +7,7 @@ use Rattle.case_text.specs.Texts.{six}
 use Rattle.case_numbers.specs.declared.WidthField.{WidthField}
 use Rattle.case_numbers.specs.declared.WidthField.the-variants as width
 use Rattle.case_numbers.specs.Lines.{onWidth}
-use Rattle.case_numbers.specs.Answers.{onWidthField}
+use Rattle.case_numbers.specs.inside.Numbers.{onWidthField}
 
 module _ (line : List ℕ) {s : List ℕ} {r : WidthField} (part : s ≡ partAt 9 2 line) (told : (k : ℕ → List ℕ) → onWidthField r k ≡ onWidth s k) where
   pub width-refused : r ≡ width.Refused → (k : ℕ → List ℕ) → onWidth (partAt 9 2 line) k ≡ six

@@ -1,5 +1,5 @@
 -- Case lines of compact numbers: docs/CASES.md.
-use mathlib.Core.List.{List, [], _∷_}
+use mathlib.Core.List.{List, []}
 use mathlib.Core.Bool.{Bool, true, false, cond}
 use Prim.Native.Nat.{ℕ, _^_}
 use lib.Dec.{ltb}
@@ -13,6 +13,7 @@ use Rattle.case_text.specs.declared.Op.the-variants as op
 use Rattle.case_text.specs.Texts.{six, okText, readText, writtenNumberText}
 use Rattle.case_text.specs.Fields.{field, exactly, decimalField, hexField, messageField, opOf}
 use Rattle.case_text.specs.Records.{recordLine}
+use Rattle.text.specs.Ascii.{ascii}
 
 -- ---- numbers after a tag of w bits; the tag stands before the start
 abbrev pub readNumberLine : ℕ → Bool → List ℕ → List ℕ
@@ -43,10 +44,10 @@ numberLine w op.Unknown line = six
 -- the width in the third field
 unfoldable pub onWidth : List ℕ → (ℕ → List ℕ) → List ℕ
 onWidth f k =
-    cond (sameBytes f (50 ∷ [])) (k 2)
-    (cond (sameBytes f (51 ∷ [])) (k 3)
-    (cond (sameBytes f (52 ∷ [])) (k 4)
-    (cond (sameBytes f (56 ∷ [])) (k 8) six)))
+    cond (sameBytes f (ascii "2")) (k 2)
+    (cond (sameBytes f (ascii "3")) (k 3)
+    (cond (sameBytes f (ascii "4")) (k 4)
+    (cond (sameBytes f (ascii "8")) (k 8) six)))
 
 -- ---- the two kinds
 abbrev pub taggedLine : List ℕ → List ℕ

@@ -1,6 +1,6 @@
 -- The ways out of a line of a record's raw parts, and of reading its lengths.
 use Rattle.codec.proofs.Prelude.{_≡_, refl, sym, ap, _∙_, List, [], _∷_, _++_, map, append-nil, append-assoc, Bool, true, false, cond, _&&_, ℕ, _+_, _-_, _^_, _%_, _≤_, _<_, mod-eq-of-lt, true≢false, take-append-drop, OneOf, tagOf, arith, add-one, eq-eqb, ne-eqb, le-ltb, ltb, length, take, drop, set, replicate, length-set, length-replicate, drop-of-length-le, drop-cons, take-suc-set, take-all}
-use Rattle.codec.specs.Answers.{Outcome, denied}
+use Rattle.codec.specs.Answers.{Outcome, refusedWriting, said, unsaid}
 use Rattle.codec.specs.Format.{lengthAnswer}
 use Rattle.path.specs.Record.{Path, allAtMost, used, wellFormed}
 use Rattle.path.specs.Flat.{shorts, pathFlat, pathIn}
@@ -11,13 +11,12 @@ use Rattle.path.proofs.Loads.{at-most-append, at-most-mono, path-fits}
 use Rattle.path.proofs.Lists.{drop-zeros}
 use Rattle.path_codec.specs.Plain.{plainPath}
 use Rattle.path_codec.proofs.Plain.{plain-malformed}
-use Rattle.codec.proofs.Lending.{length-barred}
+use Rattle.codec.proofs.Lending.{length-refused-value}
 use Rattle.text.specs.Parts.{parts, partAt}
 use Rattle.text.specs.Hex.{unhex}
-use Rattle.decimal.specs.Decimal.{isDecimal, digitsAfter, readDecimal}
-use Rattle.text.specs.Fields.{readHex, hexBuffer}
+use Rattle.decimal.specs.Decimal.{isDecimal, digitsAfter, readDecimal, decimalAnswer}
+use Rattle.text.specs.Fields.{readHex, hexAnswer, hexBuffer}
 use Rattle.decimal.specs.declared.Decimal.{Decimal}
-use Rattle.decimal.specs.declared.Decimal.the-variants.{Value, Refused}
 use Rattle.text.specs.declared.Hex.{Hex}
 use Rattle.text.specs.declared.Hex.the-variants.{Bytes}
 use Rattle.text.proofs.HexAnswers.{some-bytes}
@@ -26,24 +25,25 @@ use Rattle.case_text.specs.Fields.{field, decimalField, hexFieldIn}
 use Rattle.case_text.proofs.FieldLaws.{hex-none, hex-some}
 use Rattle.case_text.proofs.Steps.{fields-not, fields-are}
 use Rattle.case_paths.specs.declared.Lengths.{Lengths}
-use Rattle.case_paths.specs.Raw.{allDecimals, pathOf, rawPath, rawLine, lengthsOk, lengthsOf}
+use Rattle.case_paths.specs.Raw.{allDecimals, pathOf, rawPath, rawLine, lengthsOk}
+use Rattle.case_paths.specs.inside.Raw.{lengthsOf}
 
 -- ---- one number
 module _ (p : List ℕ) (rest : Bool) where
-  number-read : (v : ℕ) → readDecimal p ≡ Value v → (isDecimal p && (ltb (digitsAfter 0 p) (2 ^ 64) && rest) ≡ rest) × (v ≡ digitsAfter 0 p)
+  number-read : (v : ℕ) → readDecimal p ≡ said v → (isDecimal p && (ltb (digitsAfter 0 p) (2 ^ 64) && rest) ≡ rest) × (v ≡ digitsAfter 0 p)
   unfolding readDecimal
   number-read v e = by-cases (isDecimal p) (ltb (digitsAfter 0 p) (2 ^ 64)) e
     where
-      by-cases : (t d : Bool) → cond t (cond d (Value (digitsAfter 0 p)) Refused) Refused ≡ Value v → (t && (d && rest) ≡ rest) × (v ≡ digitsAfter 0 p)
+      by-cases : (t d : Bool) → cond t (cond d (said (digitsAfter 0 p)) (unsaid 6)) (unsaid 6) ≡ said v → (t && (d && rest) ≡ rest) × (v ≡ digitsAfter 0 p)
       by-cases true true e = (refl, cc)
       by-cases true false e = absurd (let z : _≡_ {A = ℕ} 0 1 = cc in omega arith)
       by-cases false d e = absurd (let z : _≡_ {A = ℕ} 0 1 = cc in omega arith)
 
-  number-refused : readDecimal p ≡ Refused → isDecimal p && (ltb (digitsAfter 0 p) (2 ^ 64) && rest) ≡ false
+  number-refused : readDecimal p ≡ unsaid 6 → isDecimal p && (ltb (digitsAfter 0 p) (2 ^ 64) && rest) ≡ false
   unfolding readDecimal
   number-refused e = by-cases (isDecimal p) (ltb (digitsAfter 0 p) (2 ^ 64)) e
     where
-      by-cases : (t d : Bool) → cond t (cond d (Value (digitsAfter 0 p)) Refused) Refused ≡ Refused → t && (d && rest) ≡ false
+      by-cases : (t d : Bool) → cond t (cond d (said (digitsAfter 0 p)) (unsaid 6)) (unsaid 6) ≡ unsaid 6 → t && (d && rest) ≡ false
       by-cases true true e = absurd (let z : _≡_ {A = ℕ} 0 1 = cc in omega arith)
       by-cases true false e = refl
       by-cases false d e = refl
@@ -61,8 +61,8 @@ module _ (f : List ℕ) where
   lengths-few {m} counted h = lengths-not (rw (← counted, ne-eqb m 20 h))
 
   -- the i-th number was read
-  pub number-said : (i : ℕ) {s : List ℕ} {x y : Decimal} → s ≡ partAt 44 i f → x ≡ readDecimal s → x ≡ y → readDecimal (partAt 44 i f) ≡ y
-  number-said i part read e = rw (← part) (sym read ∙ e)
+  pub number-said : (i : ℕ) {s : List ℕ} {x y : Decimal} → s ≡ partAt 44 i f → decimalAnswer x ≡ readDecimal s → x ≡ y → readDecimal (partAt 44 i f) ≡ decimalAnswer y
+  number-said i part read e = rw (← part) (sym read ∙ ap decimalAnswer e)
 
   -- the numbers from i on are still to be read
   pub record LengthsRead (lengths : List ℕ) (i : ℕ) : Type 0 where
@@ -76,12 +76,12 @@ module _ (f : List ℕ) where
     unfolding partAt
     part-here h = rw add-one (drop-cons (parts 44 f) i [] (omega (arith, read .counted)))
 
-    pub lengths-refused : i < 20 → readDecimal (partAt 44 i f) ≡ Refused → noLengths ≡ lengthsOf f
+    pub lengths-refused : i < 20 → readDecimal (partAt 44 i f) ≡ unsaid 6 → noLengths ≡ lengthsOf f
     lengths-refused h e =
         let g : allDecimals (parts 44 f) ≡ false = read .good ∙ rw (part-here h) (number-refused (partAt 44 i f) _ e) in
         lengths-not (rw (eq-eqb _ _ (read .counted)) g)
 
-    pub lengths-next : (v : ℕ) → i < 20 → readDecimal (partAt 44 i f) ≡ Value v → LengthsRead (set lengths i v) (i + 1)
+    pub lengths-next : (v : ℕ) → i < 20 → readDecimal (partAt 44 i f) ≡ said v → LengthsRead (set lengths i v) (i + 1)
     lengths-next v h e =
         let n = number-read (partAt 44 i f) (allDecimals (drop (i + 1) (parts 44 f))) v e in
         record {
@@ -101,7 +101,7 @@ module _ (f : List ℕ) where
         rw (eq-eqb _ _ (read .counted), g, v)
 
 -- ---- the bytes, and zeros after them
-bytes-then-zeros : (a : List ℕ) (n size : ℕ) → Bytes n ≡ readHex a size → hexBuffer a (replicate size 0) ≡ unhex a ++ replicate (size - length (unhex a)) 0
+bytes-then-zeros : (a : List ℕ) (n size : ℕ) → said n ≡ readHex a size → hexBuffer a (replicate size 0) ≡ unhex a ++ replicate (size - length (unhex a)) 0
 unfolding hexBuffer
 bytes-then-zeros a n size e =
     let s = some-bytes a n size e in
@@ -141,16 +141,16 @@ module _ (line : List ℕ) {m : ℕ} (counted : m ≡ length (parts 9 line)) whe
         unfolding rawLine
         bytes-left = fields-are line counted 4 _ many ∙ count _ ∙ rw (lengths-ok true ok)
 
-        pub raw-bytes : (x : Hex) → x ≡ readHex (field 3 line) 600 → OneOf (1 ∷ 2 ∷ []) (tagOf Rattle.text.proofs.Hex.the-type x) → rawLine line ≡ six
+        pub raw-bytes : (x : Hex) → hexAnswer x ≡ readHex (field 3 line) 600 → OneOf (1 ∷ 2 ∷ []) (tagOf Rattle.text.proofs.Hex.the-type x) → rawLine line ≡ six
         raw-bytes x e k = bytes-left ∙ hex-none 3 line 600 x e k told
 
-        pub raw-answer : (x : Hex) (b : ℕ) → x ≡ readHex (field 3 line) 600 → x ≡ Bytes b → {bytes : List ℕ} → bytes ≡ hexBuffer (field 3 line) (replicate 600 0)
+        pub raw-answer : (x : Hex) (b : ℕ) → hexAnswer x ≡ readHex (field 3 line) 600 → x ≡ Bytes b → {bytes : List ℕ} → bytes ≡ hexBuffer (field 3 line) (replicate 600 0)
             → {o : Outcome} → o ≡ lengthAnswer plainPath (record { bytes = bytes; lengths = r .lengths; count = n }) → rawLine line ≡ lengthText o
         raw-answer x b e g {bytes} f {o} h =
             let a = field 3 line in
-            let z : bytes ≡ unhex a ++ replicate (600 - length (unhex a)) 0 = f ∙ bytes-then-zeros a b 600 (sym g ∙ e) in
+            let z : bytes ≡ unhex a ++ replicate (600 - length (unhex a)) 0 = f ∙ bytes-then-zeros a b 600 (sym (ap hexAnswer g) ∙ e) in
             let p : rawPath n (map (digitsAfter 0) (parts 44 (field 2 line))) (unhex a) ≡ record { bytes = bytes; lengths = r .lengths; count = n } = rw (z, lengths-are ok) in
-            bytes-left ∙ hex-some 3 line 600 b (sym g ∙ e) told ∙ ap (λ (q : Path). lengthText (lengthAnswer plainPath q)) p ∙ ap lengthText (sym h)
+            bytes-left ∙ hex-some 3 line 600 b (sym (ap hexAnswer g) ∙ e) told ∙ ap (λ (q : Path). lengthText (lengthAnswer plainPath q)) p ∙ ap lengthText (sym h)
 
 -- ---- a record of parts that it holds
 pub raw-record : {l left : List ℕ} (bs ls : List ℕ) (n : ℕ) → Puts 641 (n ∷ (shorts ls ++ bs)) l left → length l ≡ 641 → length bs ≡ 600 → length ls ≡ 20 → n ≤ 20 → allAtMost 65535 ls ≡ true
@@ -163,17 +163,17 @@ raw-record {l} {left} bs ls n p long room slots few small =
 
 -- parts that no record holds are refused too
 module _ (p : Path) where
-  refused-so : (wellFormed p ≡ true → ⊥) → denied 5 ≡ lengthAnswer plainPath p
+  refused-so : (wellFormed p ≡ true → ⊥) → refusedWriting 5 ≡ lengthAnswer plainPath p
   refused-so never = go (wellFormed p) refl
     where
-      go : (b : Bool) → wellFormed p ≡ b → denied 5 ≡ lengthAnswer plainPath p
+      go : (b : Bool) → wellFormed p ≡ b → refusedWriting 5 ≡ lengthAnswer plainPath p
       go true w = absurd (never w)
-      go false w = length-barred plainPath p 5 (plain-malformed p w)
+      go false w = length-refused-value plainPath p 5 (plain-malformed p w)
 
-  pub many-refused : 20 < p .count → denied 5 ≡ lengthAnswer plainPath p
+  pub many-refused : 20 < p .count → refusedWriting 5 ≡ lengthAnswer plainPath p
   many-refused h = refused-so (λ w. omega (arith, well-formed p w .count, h))
 
-  pub long-refused : allAtMost 65535 (p .lengths) ≡ false → denied 5 ≡ lengthAnswer plainPath p
+  pub long-refused : allAtMost 65535 (p .lengths) ≡ false → refusedWriting 5 ≡ lengthAnswer plainPath p
   long-refused e = refused-so (λ w.
       let f = well-formed p w in
       let all = rw take-append-drop at (at-most-append 65535 (take (p .count) (p .lengths)) (drop (p .count) (p .lengths))

@@ -12,7 +12,6 @@ use Rattle.text.specs.Parts.{parts}
 use Rattle.decimal.specs.Decimal.{isDecimal, digitsAfter}
 use Rattle.case_text.specs.Texts.{six, lengthText}
 use Rattle.case_text.specs.Fields.{field, exactly, decimalField, hexFieldIn}
-use Rattle.case_paths.specs.declared.Lengths.{Lengths}
 
 abbrev pub allDecimals : List (List ℕ) → Bool
 allDecimals [] = true
@@ -37,7 +36,3 @@ rawLine line =
     hexFieldIn maxPathLength 3 line (λ bytes.
     lengthText (lengthAnswer plainPath (rawPath count (map (digitsAfter 0) (parts 44 (field 2 line))) bytes))))
     six))
-
--- ---- inside: the lengths, read
-unfoldable pub lengthsOf : List ℕ → Lengths
-lengthsOf f = record { ok = lengthsOk f; lengths = cond (lengthsOk f) (map (digitsAfter 0) (parts 44 f)) (replicate maxComponentCount 0) }

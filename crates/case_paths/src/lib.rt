@@ -1,7 +1,7 @@
 // Case lines of paths: docs/CASES.md. A line is answered where MAX_ANSWER bytes are free; elsewhere nothing changes.
 ghost use mathlib.Core.Path.{_≡_};
 ghost use mathlib.Core.List.{[]};
-ghost use Prim.Native.Nat.{_+_, _≤_};
+ghost use Prim.Native.Nat.{_≤_};
 ghost use lib.ListN.{length, take, drop};
 ghost use Rattle.codec.specs.Answers.{outcomeOf, Gives};
 ghost use Rattle.codec.specs.Format.{lengthAnswer, WritesInto};
@@ -10,13 +10,13 @@ ghost use Rattle.path.specs.Flat.{pathIn};
 ghost use Rattle.path_text.specs.PathText.{pathTextOf};
 ghost use Rattle.case_text.specs.Texts.{ended};
 ghost use Rattle.case_text.specs.Fields.{pathField};
-ghost use Rattle.case_text.specs.Records.{readLine, writeLine, lengthLine};
+ghost use Rattle.case_text.specs.inside.Values.{valueText};
 ghost use Rattle.case_text.specs.Answers.{PutsWithin};
+ghost use Rattle.case_text.specs.Asking.{OutputInside};
 ghost use Rattle.case_paths.specs.Lines.{encodingReader, encodingFormat, encodingLine, plainLine, relativeLine};
-use case_text::HexField;
+use case_text::Asked;
 use case_text::MAX_BYTES;
-use case_text::MessageField;
-use case_text::Op;
+use case_text::Output;
 use case_text::fields;
 use case_text::put;
 use codec::Decoded;
@@ -99,90 +99,31 @@ fn print(path: &[u8; 641], text: &mut [u8; MAX_BYTES]) -> usize
     path_text::put_path(text, 0, path)
 }
 
-fn read_path(
+// Writes or measures the path in the i-th field.
+fn write(
     line: &[u8],
     out: &mut [u8],
     at: usize,
     encoding: Encoding,
-    i: usize,
+    i: u8,
     reference: Path,
-    canonic: bool,
+    output: Output,
+    mut buffer: [u8; MAX_BYTES],
 ) -> usize
-    ensures { λ r. ⌜ PutsWithin 16640 at (ended (readLine pathTextOf (encodingReader encoding (pathIn (reference .flat)) canonic) i (now (line .entry)))) (now (out .entry)) (now (out .exit)) r ⌝ }
+    requires { ⌜ OutputInside (length buffer) output ⌝ }
+    ensures { λ r. ⌜ PutsWithin 16640 at (ended (pathField i (now (line .entry)) (valueText (encodingFormat encoding (pathIn (reference .flat))) output buffer))) (now (out .entry)) (now (out .exit)) r ⌝ }
 {
-    let mut bytes = [0u8; MAX_BYTES];
-    let message = fields::message(line, i, &mut bytes);
-    let MessageField::Message(s, n) = message else {
-        return put::refuse(out, at);
-    };
-    let mut path = [0u8; path::lent::SIZE];
-    let answer = decode(
-        encoding,
-        &bytes[..n],
-        s,
-        canonic,
-        &reference.flat,
-        &mut path,
-    );
-    let mut text = [0u8; MAX_BYTES];
-    let k = print(&path, &mut text);
-    put::value(out, at, answer, &text, k)
-}
-
-fn write_path(
-    line: &[u8],
-    out: &mut [u8],
-    at: usize,
-    encoding: Encoding,
-    i: usize,
-    reference: Path,
-) -> usize
-    requires { ⌜ i ≤ 3 ⌝ }
-    ensures { λ r. ⌜ PutsWithin 16640 at (ended (writeLine pathField (encodingFormat encoding (pathIn (reference .flat))) i (i + 1) (now (line .entry)))) (now (out .entry)) (now (out .exit)) r ⌝ }
-{
-    if text::part_count(line, b'\t') != i + 2 {
-        return put::refuse(out, at);
-    }
-    let field = path_text::read_path(text::part(line, b'\t', i));
+    let field = path_text::read_path(text::part(line, b'\t', i as usize));
     let found = field.found;
     let Found::Read = found else {
         return put::refuse(out, at);
     };
     let path = field.path;
-    let mut buffer = [0u8; MAX_BYTES];
-    let hex = fields::hex(line, i + 1, &mut buffer);
-    let HexField::Bytes(n) = hex else {
-        return put::refuse(out, at);
+    let answer = match output {
+        Output::Buffer(n) => encode(encoding, &mut buffer[..n], &path.flat, &reference.flat),
+        Output::Length => len_of_encoding(encoding, &path.flat, &reference.flat),
     };
-    let answer = encode(encoding, &mut buffer[..n], &path.flat, &reference.flat);
-    put::written(out, at, answer, &buffer, n)
-}
-
-fn len_path(
-    line: &[u8],
-    out: &mut [u8],
-    at: usize,
-    encoding: Encoding,
-    i: usize,
-    reference: Path,
-) -> usize
-    requires { ⌜ i ≤ 3 ⌝ }
-    ensures { λ r. ⌜ PutsWithin 16640 at (ended (lengthLine pathField (encodingFormat encoding (pathIn (reference .flat))) i (i + 1) (now (line .entry)))) (now (out .entry)) (now (out .exit)) r ⌝ }
-{
-    if text::part_count(line, b'\t') != i + 1 {
-        return put::refuse(out, at);
-    }
-    let field = path_text::read_path(text::part(line, b'\t', i));
-    let found = field.found;
-    let Found::Read = found else {
-        return put::refuse(out, at);
-    };
-    let path = field.path;
-    put::length(
-        out,
-        at,
-        len_of_encoding(encoding, &path.flat, &reference.flat),
-    )
+    put::output(out, at, output, answer, &buffer)
 }
 
 fn answer(
@@ -190,19 +131,31 @@ fn answer(
     out: &mut [u8],
     at: usize,
     encoding: Encoding,
-    i: usize,
+    i: u8,
     reference: Path,
 ) -> usize
     requires { ⌜ i ≤ 3 ⌝ }
     ensures { λ r. ⌜ PutsWithin 16640 at (ended (encodingLine encoding (pathIn (reference .flat)) i (now (line .entry)))) (now (out .entry)) (now (out .exit)) r ⌝ }
 {
-    let op = fields::op(text::part(line, b'\t', 1));
-    match op {
-        Op::Strict => read_path(line, out, at, encoding, i, reference, true),
-        Op::Lenient => read_path(line, out, at, encoding, i, reference, false),
-        Op::Write => write_path(line, out, at, encoding, i, reference),
-        Op::Length => len_path(line, out, at, encoding, i, reference),
-        Op::Unknown => put::refuse(out, at),
+    let mut bytes = [0u8; MAX_BYTES];
+    let asked = fields::asked(line, i, i + 1, &mut bytes);
+    match asked {
+        Asked::Read(canonic, s, n) => {
+            let mut path = [0u8; path::lent::SIZE];
+            let answer = decode(
+                encoding,
+                &bytes[..n],
+                s,
+                canonic,
+                &reference.flat,
+                &mut path,
+            );
+            let mut text = [0u8; MAX_BYTES];
+            let k = print(&path, &mut text);
+            put::value(out, at, answer, &text, k)
+        }
+        Asked::Value(output) => write(line, out, at, encoding, i, reference, output, bytes),
+        Asked::Refused => put::refuse(out, at),
     }
 }
 

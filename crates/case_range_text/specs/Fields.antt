@@ -2,25 +2,21 @@
 use mathlib.Core.List.{List, [], _++_}
 use mathlib.Core.Bool.{Bool, true, false, cond}
 use Prim.Native.Nat.{ℕ, _+_}
+use Rattle.codec.specs.Answers.{Said, said, unsaid}
 use Rattle.codec.specs.Bytes.{sameBytes}
 use Rattle.path.specs.declared.Path.{Path as HeldPath}
 use Rattle.path.specs.Record.{pathFrom, Path}
 use Rattle.path.specs.Flat.{pathIn, pathFlat}
 use Rattle.grouping.specs.declared.TimeRange.{TimeRange}
 use Rattle.range_3d.specs.declared.SubspaceRange.{SubspaceRange}
-use Rattle.range_3d.specs.Record.{PathRange, Range3d, headOf, rangeWith, noSubspaces, noTimes, noRange}
+use Rattle.range_3d.specs.Record.{PathRange, Range3d, headOf, rangeWith, noRange}
 use Rattle.text.specs.Decimal.{decimalText}
 use Rattle.text.specs.Hex.{hexText}
 use Rattle.area_text.specs.AreaText.{star, readSubspaceText, readEndText, subspaceText, endText}
-use Rattle.path_text.specs.declared.Found.{Found}
-use Rattle.path_text.specs.declared.Found.the-variants as found
 use Rattle.path_text.specs.PathText.{readPathText, pathTextOf}
 use Rattle.case_text.specs.Texts.{afterTab}
 use Rattle.case_text.specs.Fields.{field, onField, decimalField, idField, pathField}
-use Rattle.case_range_text.specs.declared.SubspacesField.{SubspacesField}
 use Rattle.case_range_text.specs.declared.PathEndField.{PathEndField}
-use Rattle.case_range_text.specs.declared.PathsField.{PathsField}
-use Rattle.case_range_text.specs.declared.TimesField.{TimesField}
 use Rattle.case_range_text.specs.declared.RangeField.{RangeField}
 
 -- ---- printed
@@ -48,15 +44,18 @@ subspacesField i line k =
 abbrev pub emptyPath : HeldPath
 emptyPath = record { flat = pathFlat (pathFrom []) }
 
-abbrev pub closedEnd : Found → HeldPath → PathEndField
-closedEnd found.Read p = record { ok = true; end = record { «end_open» = false; path = p } }
-closedEnd found.Refused p = record { ok = false; end = record { «end_open» = false; path = p } }
+abbrev pub endField : Bool → Bool → HeldPath → PathEndField
+endField ok endOpen p = record { ok = ok; end = record { «end_open» = endOpen; path = p } }
+
+abbrev pub closedEnd : Said HeldPath → PathEndField
+closedEnd (said p) = endField true false p
+closedEnd (unsaid k) = endField false false emptyPath
 
 unfoldable pub readPathEnd : List ℕ → PathEndField
 readPathEnd s =
     cond (sameBytes s star)
-    (record { ok = true; end = record { «end_open» = true; path = emptyPath } })
-    (closedEnd (readPathText s .found) (readPathText s .path))
+    (endField true true emptyPath)
+    (closedEnd (readPathText s))
 
 abbrev pub pathsField : ℕ → List ℕ → (PathRange → List ℕ) → List ℕ
 pathsField i line k =
@@ -77,22 +76,8 @@ rangeField i line k =
     timesField (i + 4) line (λ times.
     k (record { subspaces = subspaces; paths = paths; times = times }))))
 
--- what fields said
-abbrev pub pathsSaid : PathsField → PathRange
-pathsSaid p = record { start = pathIn (p .start .flat); «end_open» = p .end .«end_open»; end = pathIn (p .end .path .flat) }
-
 abbrev pub rangeSaid : RangeField → Range3d
 rangeSaid r = rangeWith (r .head) (pathIn (r .start .flat)) (pathIn (r .end .flat))
-
--- what stands beside fields that are not in their form: nothing lies in it
-unfoldable pub noSubspacesField : SubspacesField
-noSubspacesField = record { ok = false; subspaces = noSubspaces }
-
-unfoldable pub noPathsField : PathsField
-noPathsField = record { ok = false; start = emptyPath; end = record { «end_open» = false; path = emptyPath } }
-
-unfoldable pub noTimesField : TimesField
-noTimesField = record { ok = false; times = noTimes }
 
 unfoldable pub noRangeField : RangeField
 noRangeField = record { ok = false; head = headOf noRange; start = emptyPath; end = emptyPath }

@@ -6,9 +6,10 @@ ghost use lib.ListN.{length};
 ghost use Rattle.path.specs.Flat.{pathIn};
 ghost use Rattle.range_3d.specs.Record.{rangeWith};
 ghost use Rattle.text.specs.Buffer.{placeAfter, putAt};
-ghost use Rattle.case_text.specs.Answers.{Puts};
+ghost use Rattle.case_text.specs.Answers.{PutsText};
 ghost use Rattle.case_text.specs.Fields.{Says};
-ghost use Rattle.case_range_text.specs.Fields.{subspacesField, noSubspacesField, readPathEnd, pathsField, pathsSaid, noPathsField, timesField, noTimesField, rangeField, rangeSaid, noRangeField, subspacesText, pathEndText, rangeText};
+ghost use Rattle.case_range_text.specs.Fields.{subspacesField, endField, readPathEnd, pathsField, timesField, rangeField, rangeSaid, noRangeField, subspacesText, pathEndText, rangeText};
+ghost use Rattle.case_range_text.specs.inside.Fields.{noSubspacesField, pathsSaid, noPathsField, noTimesField};
 use case_text::MAX_BYTES;
 use decimal::Decimal;
 use grouping::AreaSubspace;
@@ -93,38 +94,32 @@ fn read_subspaces(line: &[u8], i: usize) -> SubspacesField
     }
 }
 
+fn path_end(ok: bool, end_open: bool, path: Path) -> PathEndField
+    ensures { λ r. ⌜ r ≡ endField ok «end_open» path ⌝ }
+{
+    PathEndField {
+        ok: ok,
+        end: PathEnd {
+            end_open: end_open,
+            path: path,
+        },
+    }
+}
+
 // `*` is an open end.
 fn read_path_end(s: &[u8]) -> PathEndField
     ensures { λ r. ⌜ r ≡ readPathEnd (now (s .entry)) ⌝ }
 {
     if byte_codec::same_bytes(s, b"*") {
         let none = Path::new_empty();
-        return PathEndField {
-            ok: true,
-            end: PathEnd {
-                end_open: true,
-                path: none,
-            },
-        };
+        return path_end(true, true, none);
     }
     let read = path_text::read_path(s);
     let path = read.path;
     let found = read.found;
     match found {
-        Found::Read => PathEndField {
-            ok: true,
-            end: PathEnd {
-                end_open: false,
-                path: path,
-            },
-        },
-        Found::Refused => PathEndField {
-            ok: false,
-            end: PathEnd {
-                end_open: false,
-                path: path,
-            },
-        },
+        Found::Read => path_end(true, false, path),
+        Found::Refused => path_end(false, false, path),
     }
 }
 
@@ -256,7 +251,7 @@ pub fn read_range(line: &[u8], place: u8) -> RangeField
 
 // Prints subspaces from the buffer's first byte on.
 fn print_subspaces(subspaces: SubspaceRange, buffer: &mut [u8; MAX_BYTES]) -> usize
-    ensures { λ r. ⌜ Puts 0 (subspacesText subspaces) (now (buffer .entry)) (now (buffer .exit)) r × (length (now (buffer .entry)) ≡ 8192) × (r ≤ 129) ⌝ }
+    ensures { λ r. ⌜ PutsText 0 (subspacesText subspaces) (now (buffer .entry)) (now (buffer .exit)) r × (length (now (buffer .entry)) ≡ 8192) × (r ≤ 129) ⌝ }
 {
     let start = subspaces.start;
     let end = subspaces.end;
@@ -285,7 +280,7 @@ pub fn print_range(
     end: &[u8; 641],
     buffer: &mut [u8; MAX_BYTES],
 ) -> usize
-    ensures { λ r. ⌜ Puts 0 (rangeText (rangeWith range (pathIn (now (start .entry))) (pathIn (now (end .entry))))) (now (buffer .entry)) (now (buffer .exit)) r ⌝ }
+    ensures { λ r. ⌜ PutsText 0 (rangeText (rangeWith range (pathIn (now (start .entry))) (pathIn (now (end .entry))))) (now (buffer .entry)) (now (buffer .exit)) r ⌝ }
 {
     let times = range.times;
     let times_end = times.end;

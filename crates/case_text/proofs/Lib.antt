@@ -1,4 +1,5 @@
 pub mod Puts
 pub mod Steps
+pub mod Falls
 pub mod FieldLaws
 pub mod Ways

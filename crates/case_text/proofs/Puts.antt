@@ -6,16 +6,16 @@ use Rattle.codec.specs.Answers.{outcomeOf}
 use Rattle.text.specs.Buffer.{overAt, putAt, placeAfter}
 use Rattle.text.proofs.Buffer.{overAt-then, overAt-long, putAt-fits}
 use Rattle.case_text.specs.Texts.{afterTab, writtenText, writtenNumberText}
-use Rattle.case_text.specs.Answers.{Puts, PutsWithin}
+use Rattle.case_text.specs.Answers.{PutsText, PutsWithin}
 
 -- a put of the crate text, where there is room
-pub puts-fits : {at r : ℕ} (t : List ℕ) {l l' : List ℕ} → at + length t ≤ length l → (r ≡ placeAfter at t l) × (l' ≡ putAt at t l) → Puts at t l l' r
+pub puts-fits : {at r : ℕ} (t : List ℕ) {l l' : List ℕ} → at + length t ≤ length l → (r ≡ placeAfter at t l) × (l' ≡ putAt at t l) → PutsText at t l l' r
 puts-fits {at} t {l} h e =
     let f = putAt-fits at t l h in
     record { place = e .0 ∙ sym (f .0); buffer = e .1 ∙ sym (f .1) }
 
 -- one text after another
-pub puts-then : {at p q : ℕ} {a b l m n : List ℕ} → at ≤ length l → Puts at a l m p → Puts p b m n q → Puts at (a ++ b) l n q
+pub puts-then : {at p q : ℕ} {a b l m n : List ℕ} → at ≤ length l → PutsText at a l m p → PutsText p b m n q → PutsText at (a ++ b) l n q
 puts-then {at} {p} {q} {a} {b} {l} h x y =
     let xp = x .place in
     record {
@@ -26,7 +26,7 @@ puts-then {at} {p} {q} {a} {b} {l} h x y =
 -- two puts of the crate text, where there is room for a second text of at most k bytes
 pub puts-two : {at p q : ℕ} (a b : List ℕ) {l m n : List ℕ} (k : ℕ) → length b ≤ k → at + (length a + k) ≤ length l
     → (p ≡ placeAfter at a l) × (m ≡ putAt at a l) → (q ≡ placeAfter p b m) × (n ≡ putAt p b m)
-    → Puts at (a ++ b) l n q × (q ≤ at + (length a + k))
+    → PutsText at (a ++ b) l n q × (q ≤ at + (length a + k))
 puts-two {at} a b {l} {m} k few h e g =
     let x = puts-fits a (omega arith) e in
     let xp = x .place in
@@ -36,8 +36,8 @@ puts-two {at} a b {l} {m} k few h e g =
     (puts-then (omega arith) x y, omega (arith, y .place))
 
 -- a text after a tab
-pub puts-tab : {a l m n o : List ℕ} {p q r : ℕ} → Puts 0 a l m p → (t : List ℕ) → length a + (1 + length t) ≤ length l
-    → (q ≡ placeAfter p (9 ∷ []) m) × (n ≡ putAt p (9 ∷ []) m) → (r ≡ placeAfter q t n) × (o ≡ putAt q t n) → Puts 0 (a ++ afterTab t) l o r
+pub puts-tab : {a l m n o : List ℕ} {p q r : ℕ} → PutsText 0 a l m p → (t : List ℕ) → length a + (1 + length t) ≤ length l
+    → (q ≡ placeAfter p (9 ∷ []) m) × (n ≡ putAt p (9 ∷ []) m) → (r ≡ placeAfter q t n) × (o ≡ putAt q t n) → PutsText 0 (a ++ afterTab t) l o r
 puts-tab {a} {l} {m} x t h e f =
     let p = x .place in
     let b = x .buffer in
@@ -45,7 +45,7 @@ puts-tab {a} {l} {m} x t h e f =
     puts-then (omega arith) x (puts-two (9 ∷ []) t (length t) (omega arith) (omega arith) e f .0)
 
 -- a text put from the first byte on
-pub puts-first : {t l l' : List ℕ} {r : ℕ} → Puts 0 t l l' r → take r l' ≡ t
+pub puts-first : {t l l' : List ℕ} {r : ℕ} → PutsText 0 t l l' r → take r l' ≡ t
 unfolding overAt
 puts-first {t} {l} {l'} {r} p =
     let long : r ≡ length t = omega (arith, p .place) in
@@ -56,7 +56,7 @@ over-long : (at : ℕ) (t l : List ℕ) → at ≤ length l → length (overAt a
 unfolding overAt
 over-long at t l h = rw (length-append, length-append, length-drop, length-drop, length-take-le at l h)
 
-pub ends-inside : {at r : ℕ} {t l l' : List ℕ} → Puts at t l l' r → at ≤ length l → length l' ≡ length l → r ≤ length l'
+pub ends-inside : {at r : ℕ} {t l l' : List ℕ} → PutsText at t l l' r → at ≤ length l → length l' ≡ length l → r ≤ length l'
 ends-inside {at} {r} {t} {l} {l'} p h kept = omega (arith, p .place, ap length (p .buffer), over-long at t l h)
 
 -- ---- a text put where `room` bytes are free
@@ -65,13 +65,13 @@ module _ {room at : ℕ} {t l : List ℕ} where
   within-full h = record { place = rw (lt-leb _ _ h); buffer = rw (lt-leb _ _ h) }
 
   module _ {l' : List ℕ} {r : ℕ} where
-    pub within-fits : Puts at t l l' r → at + room ≤ length l → PutsWithin room at t l l' r
+    pub within-fits : PutsText at t l l' r → at + room ≤ length l → PutsWithin room at t l l' r
     within-fits p h = record { place = rw (le-leb _ _ h) (p .place); buffer = rw (le-leb _ _ h) (p .buffer) }
 
     pub within-same : {s : List ℕ} → s ≡ t → PutsWithin room at t l l' r → PutsWithin room at s l l' r
     within-same e p = rw e p
 
-    pub within-puts : PutsWithin room at t l l' r → at + room ≤ length l → Puts at t l l' r
+    pub within-puts : PutsWithin room at t l l' r → at + room ≤ length l → PutsText at t l l' r
     within-puts p h = record { place = rw (le-leb _ _ h) at (p .place); buffer = rw (le-leb _ _ h) at (p .buffer) }
 
 -- a number's refused writing has no tag

@@ -1,20 +1,23 @@
 -- What fields that were read say to whatever comes after them.
-use Rattle.codec.proofs.Prelude.{_≡_, sym, _∙_, List, _++_, Bool, true, false, ℕ, _≤_, eq-eqb, ne-eqb, length, take, drop, length-take-le, take-at}
+use Rattle.codec.proofs.Prelude.{_≡_, sym, _∙_, List, Bool, true, false, ℕ, _≤_, eq-eqb, ne-eqb, length, take, length-take-le}
 use Rattle.path.specs.Flat.{pathIn}
 use Rattle.path_text.specs.declared.PathField.{PathField}
 use Rattle.path_text.specs.declared.Found.the-variants as found
-use Rattle.path_text.specs.PathText.{readPathText}
+use Rattle.path_text.specs.PathText.{readPathText, Finds}
 use Rattle.text.specs.Parts.{parts, partAt}
-use Rattle.decimal.specs.Decimal.{readDecimal}
+use Rattle.decimal.specs.Decimal.{readDecimal, decimalAnswer}
 use Rattle.decimal.specs.declared.Decimal.{Decimal}
 use Rattle.decimal.specs.declared.Decimal.the-variants as decimal
 use Rattle.case_text.specs.declared.HexField.{HexField}
 use Rattle.case_text.specs.declared.HexField.the-variants as hex
-use Rattle.case_text.specs.declared.MessageField.{MessageField}
-use Rattle.case_text.specs.declared.MessageField.the-variants as message
+use Rattle.case_text.specs.declared.Output.{Output}
+use Rattle.case_text.specs.declared.Output.the-variants as output
+use Rattle.case_text.specs.declared.Asked.{Asked}
+use Rattle.case_text.specs.declared.Asked.the-variants as asked
 use Rattle.case_text.specs.Texts.{six}
-use Rattle.case_text.specs.Fields.{field, onField, Says, exactly, decimalField, hexFieldIn, messageFieldIn, pathField}
-use Rattle.case_text.specs.Answers.{ReadsHex, ReadsMessage}
+use Rattle.case_text.specs.Fields.{field, onField, Says, exactly, decimalField, hexFieldIn, pathField}
+use Rattle.case_text.specs.Answers.{ReadsHex}
+use Rattle.case_text.specs.Asking.{Rest, OutputInside, Asks}
 
 -- ---- the number of fields, which was counted
 module _ (line : List ℕ) {m : ℕ} (counted : m ≡ length (parts 9 line)) where
@@ -25,7 +28,7 @@ module _ (line : List ℕ) {m : ℕ} (counted : m ≡ length (parts 9 line)) whe
   fields-are n t h = rw (← counted, eq-eqb m n h)
 
 -- ---- the i-th field as a number in decimal, which was read
-module _ (i : ℕ) (line : List ℕ) {s : List ℕ} {r : Decimal} (part : s ≡ partAt 9 i line) (read : r ≡ readDecimal s) where
+module _ (i : ℕ) (line : List ℕ) {s : List ℕ} {r : Decimal} (part : s ≡ partAt 9 i line) (read : decimalAnswer r ≡ readDecimal s) where
   pub decimal-refused : r ≡ decimal.Refused → (k : ℕ → List ℕ) → decimalField i line k ≡ six
   decimal-refused e k = rw (← part, ← read, e)
 
@@ -33,17 +36,17 @@ module _ (i : ℕ) (line : List ℕ) {s : List ℕ} {r : Decimal} (part : s ≡ 
   decimal-value e k = rw (← part, ← read, e)
 
 module _ (i : ℕ) (line : List ℕ) where
-  pub decimal-says : {x : Decimal} {v : ℕ} → x ≡ decimal.Value v → x ≡ readDecimal (partAt 9 i line) → Says (decimalField i line) true v
+  pub decimal-says : {x : Decimal} {v : ℕ} → x ≡ decimal.Value v → decimalAnswer x ≡ readDecimal (partAt 9 i line) → Says (decimalField i line) true v
   decimal-says e read = record { said = λ k. rw (← read, e) }
 
-  pub decimal-says-no : readDecimal (partAt 9 i line) ≡ decimal.Refused → Says (decimalField i line) false 0
-  decimal-says-no e = record { said = λ k. rw e }
+  pub decimal-says-no : {x : Decimal} → x ≡ decimal.Refused → decimalAnswer x ≡ readDecimal (partAt 9 i line) → Says (decimalField i line) false 0
+  decimal-says-no e read = record { said = λ k. rw (← read, e) }
 
-  pub path-says : {x : PathField} → x .found ≡ found.Read → x ≡ readPathText (partAt 9 i line) → Says (pathField i line) true (pathIn (x .path .flat))
-  path-says e read = record { said = λ k. rw (← read, e) }
+  pub path-says : {x : PathField} → x .found ≡ found.Read → Finds x (readPathText (partAt 9 i line)) → Says (pathField i line) true (pathIn (x .path .flat))
+  path-says e read = record { said = λ k. rw (← (read .answer), e) }
 
-  pub path-says-no : {x : PathField} → x .found ≡ found.Refused → x ≡ readPathText (partAt 9 i line) → Says (pathField i line) false (pathIn (x .path .flat))
-  path-says-no e read = record { said = λ k. rw (← read, e) }
+  pub path-says-no : {x : PathField} → x .found ≡ found.Refused → Finds x (readPathText (partAt 9 i line)) → Says (pathField i line) false (pathIn (x .path .flat))
+  path-says-no e read = record { said = λ k. rw (← (read .answer), e) }
 
 -- ---- the i-th field as bytes in hex, which was read into a buffer
 module _ {room i : ℕ} {line buffer : List ℕ} {r : HexField} (read : ReadsHex room i line buffer r) where
@@ -61,25 +64,16 @@ module _ {room i : ℕ} {line buffer : List ℕ} {r : HexField} (read : ReadsHex
     pub hex-long : length (take n buffer) ≡ n
     hex-long = length-take-le n buffer hex-inside
 
-    -- the bytes, lent and come back as ys
-    pub lent-back : (ys : List ℕ) → length ys ≡ length (take n buffer) → take n (ys ++ drop n buffer) ≡ ys
-    lent-back ys kept = take-at ys (drop n buffer) n (kept ∙ hex-long)
+-- ---- what a line asks for, which was read into a buffer
+module _ {line : Rest → List ℕ} {buffer : List ℕ} {r : Asked} (asks : Asks line buffer r) where
+  pub read-inside : {canonic : Bool} {start n : ℕ} → r ≡ asked.Read canonic start n → n ≤ length buffer
+  read-inside e = rw e at (asks .inside)
 
--- ---- the i-th field and the next as a start and a message, which was read into a buffer
-module _ {room i : ℕ} {line buffer : List ℕ} {r : MessageField} (read : ReadsMessage room i line buffer r) where
-  pub message-refused : (k : ℕ → List ℕ → List ℕ) → r ≡ message.Refused → messageFieldIn room i line k ≡ six
-  message-refused k e = rw e at (sym (read .text k))
+  pub value-inside : {o : Output} → r ≡ asked.Value o → OutputInside (length buffer) o
+  value-inside e = rw e at (asks .inside)
 
-  module _ {s n : ℕ} (e : r ≡ message.Message s n) where
-    pub message-is : (k : ℕ → List ℕ → List ℕ) → messageFieldIn room i line k ≡ k s (take n buffer)
-    message-is k = rw e at (sym (read .text k))
-
-    pub message-inside : n ≤ length buffer
-    message-inside = rw e at (read .inside)
-
-    -- as long as it says
-    pub message-long : length (take n buffer) ≡ n
-    message-long = length-take-le n buffer message-inside
+pub lent-inside : {room n : ℕ} {o : Output} → OutputInside room o → o ≡ output.Buffer n → n ≤ room
+lent-inside h e = rw e at h
 
 -- ---- the i-th field read by a parser that says whether it is in its form
 module _ {R A : Type 0} (parse : List ℕ → R) (ok : R → Bool) (value : R → A) (i : ℕ) (line : List ℕ) {s : List ℕ} {r : R} (part : s ≡ partAt 9 i line) (read : r ≡ parse s) where

@@ -1,22 +1,29 @@
 -- The ways out of a line that reads, writes or measures a record, whatever the record: what was put is the text of the line.
-use Rattle.codec.proofs.Prelude.{_≡_, refl, ap, _∙_, List, _++_, Bool, not, true, false, ℕ, _+_, eq-eqb, ne-eqb, not-true, not-false, length, take, drop}
+use Rattle.codec.proofs.Prelude.{_≡_, refl, sym, ap, _∙_, List, _++_, Bool, not, true, false, cond, ℕ, _+_, _≤_, eq-eqb, ne-eqb, not-true, not-false, length, take, drop, take-at, length-take-le}
 use Rattle.codec.specs.declared.Decoded.{Decoded}
 use Rattle.codec.specs.declared.Decoded.the-variants as decoded
-use Rattle.codec.specs.Answers.{Outcome, Answer, answerOf}
+use Rattle.codec.specs.declared.Encoded.{Encoded}
+use Rattle.codec.specs.Answers.{Answer, answerOf, outcomeOf}
 use Rattle.codec.specs.Format.{Format, writeAnswer, writeBuffer, lengthAnswer}
 use Rattle.codec.specs.Reader.{Reader}
-use Rattle.text.specs.Parts.{parts, partAt}
+use Rattle.text.specs.Parts.{parts}
 use Rattle.case_text.specs.declared.HexField.{HexField}
 use Rattle.case_text.specs.declared.HexField.the-variants as hex
-use Rattle.case_text.specs.declared.MessageField.{MessageField}
-use Rattle.case_text.specs.declared.MessageField.the-variants as message
 use Rattle.case_text.specs.declared.Op.{Op}
+use Rattle.case_text.specs.declared.Op.the-variants as op
+use Rattle.case_text.specs.declared.Output.{Output}
+use Rattle.case_text.specs.declared.Output.the-variants as output
+use Rattle.case_text.specs.declared.Asked.{Asked}
+use Rattle.case_text.specs.declared.Asked.the-variants as asked
 use Rattle.case_text.specs.Texts.{six, ended, readText, writtenText, lengthText}
-use Rattle.case_text.specs.Fields.{Says, exactly, hexField, messageField, opOf}
-use Rattle.case_text.specs.Records.{readLine, writeLine, lengthLine}
-use Rattle.case_text.specs.Answers.{PutsWithin, ReadsHex, ReadsMessage}
+use Rattle.case_text.specs.Fields.{field, Says, exactly, hexField, opOf}
+use Rattle.case_text.specs.Records.{outputText, recordLine, lenientLine}
+use Rattle.case_text.specs.inside.Values.{valueText}
+use Rattle.case_text.specs.Answers.{PutsWithin, ReadsHex}
+use Rattle.case_text.specs.Asking.{Rest, asking, onOutput, onAsked, Asks}
 use Rattle.case_text.proofs.Puts.{within-same}
-use Rattle.case_text.proofs.Steps.{hex-refused, hex-bytes, lent-back, message-refused, message-is, says-value, says-refused}
+use Rattle.case_text.proofs.Steps.{hex-refused, hex-bytes, says-value, says-refused}
+use Rattle.case_text.proofs.Falls.{Falls, message-falls, hex-first}
 
 -- a text was put, with the line's end
 abbrev pub Put : ℕ → ℕ → List ℕ → List ℕ → ℕ → List ℕ → Type 0
@@ -46,18 +53,6 @@ module _ {room at r : ℕ} {l l' : List ℕ} where
     pub hex-not : x ≡ hex.Refused → Put room at l l' r six → Put room at l l' r (hexField i line k)
     hex-not e = puts (hex-refused read k e)
 
-    -- the buffer came back as ys
-    pub hex-back : {n : ℕ} (ys : List ℕ) (t : List ℕ → List ℕ) → x ≡ hex.Bytes n → length ys ≡ length (take n buffer) → k (take n buffer) ≡ t ys
-        → Put room at l l' r (t (take n (ys ++ drop n buffer))) → Put room at l l' r (hexField i line k)
-    hex-back ys t e kept same p = puts (hex-bytes read e k ∙ same) (rw (lent-back read e ys kept) at p)
-
-  module _ {i : ℕ} {line buffer : List ℕ} {x : MessageField} (read : ReadsMessage 8192 i line buffer x) (k : ℕ → List ℕ → List ℕ) where
-    pub message-not : x ≡ message.Refused → Put room at l l' r six → Put room at l l' r (messageField i line k)
-    message-not e = puts (message-refused read k e)
-
-    pub message-so : {s n : ℕ} → x ≡ message.Message s n → Put room at l l' r (k s (take n buffer)) → Put room at l l' r (messageField i line k)
-    message-so e = puts (message-is read e k)
-
   -- ---- what was read, with the value already printed
   pub printed : {A : Type 0} (print : A → List ℕ) (d : Decoded) (a : A) {y : Answer A} {t : List ℕ} → answerOf d a ≡ y → t ≡ print a
       → Put room at l l' r (readText (λ t. t) (answerOf d t)) → Put room at l l' r (readText print y)
@@ -74,56 +69,76 @@ module _ {room at r : ℕ} {l l' : List ℕ} where
       → Put room at l l' r (readText (λ t. t) (answerOf d t)) → Put room at l l' r (hexField i line (λ message. readText print (reader message)))
   hex-printed print reader d a read e h f p = puts (hex-bytes read e (λ message. readText print (reader message))) (printed print d a h f p)
 
-  -- ---- reading: start and message from the i-th field on
-  module _ {A : Type 0} (print : A → List ℕ) (reader : Reader A) (i : ℕ) (line : List ℕ) {buffer : List ℕ} {x : MessageField} (read : ReadsMessage 8192 i line buffer x) where
-    pub read-refused : x ≡ message.Refused → Put room at l l' r six → Put room at l l' r (readLine print reader i line)
-    read-refused e = message-not read _ e
+  -- a message of a record that is read leniently only
+  pub leniently : {canonic : Bool} (t : List ℕ) → canonic ≡ false → Put room at l l' r t → Put room at l l' r (cond canonic six t)
+  leniently t e p = rw e p
 
-    pub read-answer : {s n : ℕ} {y : Answer A} → x ≡ message.Message s n → y ≡ reader (drop s (take n buffer))
-        → Put room at l l' r (readText print y) → Put room at l l' r (readLine print reader i line)
-    read-answer e h p = message-so read _ e (rw (← h) p)
+  -- ---- a value that was read: it is written, or measured
+  module _ {A : Type 0} (f : ℕ → List ℕ → (A → List ℕ) → List ℕ) (format : Format A) (i : ℕ) (line buffer : List ℕ) {x : Output} {ok : Bool} {a : A} (value : Says (f i line) ok a) (e : not ok ≡ false) where
+    pub value-written : {n : ℕ} {a' b' : Encoded} {ys lent : List ℕ} {y : Output} → x ≡ output.Buffer n → n ≤ length buffer
+        → (outcomeOf a' ≡ writeAnswer format a (length (take n buffer))) × (ys ≡ writeBuffer format a (take n buffer)) → length ys ≡ length (take n buffer)
+        → y ≡ output.Buffer n → lent ≡ (ys ++ drop n buffer) → b' ≡ a' → Put room at l l' r (outputText y (outcomeOf b') lent) → Put room at l l' r (f i line (valueText format x buffer))
+    value-written {n} {ys = ys} h inside w kept asked after told p =
+        let back = take-at ys (drop n buffer) n (kept ∙ length-take-le n buffer inside) in
+        says-so f i line _ value e (rw (h, ← (w .0), ← (w .1)) (rw back at (rw (asked, after, told) at p)))
 
-    -- with the value already printed
-    pub read-printed : {s n : ℕ} (d : Decoded) (a : A) {t : List ℕ} → x ≡ message.Message s n → answerOf d a ≡ reader (drop s (take n buffer)) → t ≡ print a
-        → Put room at l l' r (readText (λ t. t) (answerOf d t)) → Put room at l l' r (readLine print reader i line)
-    read-printed d a e h f p = message-so read _ e (printed print d a h f p)
+    pub value-measured : {a' b' : Encoded} {lent : List ℕ} {y : Output} → x ≡ output.Length → outcomeOf a' ≡ lengthAnswer format a
+        → y ≡ x → lent ≡ buffer → b' ≡ a' → Put room at l l' r (outputText y (outcomeOf b') lent) → Put room at l l' r (f i line (valueText format x buffer))
+    value-measured h m asked after told p = says-so f i line _ value e (rw (h, ← m) (rw (asked ∙ h, told) at p))
 
-  module _ {A : Type 0} (parse : ℕ → List ℕ → (A → List ℕ) → List ℕ) (format : Format A) (i j : ℕ) (line : List ℕ) where
-    -- ---- writing: a value from the i-th field on, then the lent buffer
-    pub write-fields : (length (parts 9 line) ≡ j + 1 → ⊥) → Put room at l l' r six → Put room at l l' r (writeLine parse format i j line)
-    write-fields = not-counted (j + 1) line _
+-- ---- what a line asks for, which was told: this is left of it
+abbrev rest : {A : Type 0} → (Bool → ℕ → List ℕ → List ℕ) → (ℕ → List ℕ → (A → List ℕ) → List ℕ) → Format A → ℕ → List ℕ → Rest
+rest read parse format i line =
+    record {
+      read = read;
+      write = λ lent. parse i line (λ v. writtenText (writeAnswer format v (length lent)) (writeBuffer format v lent));
+      measure = parse i line (λ v. lengthText (lengthAnswer format v));
+    }
 
-    module _ (many : length (parts 9 line) ≡ j + 1) {ok : Bool} {a : A} (value : Says (parse i line) ok a) where
-      pub write-value : not ok ≡ true → Put room at l l' r six → Put room at l l' r (writeLine parse format i j line)
-      write-value e p = counted (j + 1) line _ many (says-not parse i line _ value e p)
+pub record Left {A : Type 0} (read : Bool → ℕ → List ℕ → List ℕ) (parse : ℕ → List ℕ → (A → List ℕ) → List ℕ) (format : Format A) (i : ℕ) (line buffer : List ℕ) (x : Asked) (t : List ℕ) : Type 0 where
+  pub text : t ≡ onAsked x buffer (rest read parse format i line)
 
-      module _ (e : not ok ≡ false) {buffer : List ℕ} {x : HexField} (read : ReadsHex 8192 j line buffer x) where
-        pub write-buffer : x ≡ hex.Refused → Put room at l l' r six → Put room at l l' r (writeLine parse format i j line)
-        write-buffer h p = counted (j + 1) line _ many (says-so parse i line _ value e (hex-not read _ h p))
+module _ {A : Type 0} (parse : ℕ → List ℕ → (A → List ℕ) → List ℕ) (print : A → List ℕ) (format : Format A) (i j : ℕ) (line : List ℕ) (falls : Falls (parse i line))
+    {buffer : List ℕ} {x : Asked} (asks : Asks (asking 8192 i j (opOf (field 1 line)) line) buffer x) where
+  pub record-left : (reader : Bool → Reader A)
+      → Left (λ canonic start message. readText print (reader canonic (drop start message))) parse format i line buffer x (recordLine parse print reader format i j (opOf (field 1 line)) line)
+  record-left reader = record { text = by (opOf (field 1 line)) ∙ sym (asks .said _) }
+    where
+      by : (x : Op) → recordLine parse print reader format i j x line ≡ asking 8192 i j x line (rest (λ canonic start message. readText print (reader canonic (drop start message))) parse format i line)
+      by op.Strict = refl
+      by op.Lenient = refl
+      by op.Write = ap (exactly (j + 1) line) (hex-first falls (λ v lent. writtenText (writeAnswer format v (length lent)) (writeBuffer format v lent)) 8192 j line)
+      by op.Length = refl
+      by op.Unknown = refl
 
-        pub write-answer : {n : ℕ} {o : Outcome} {ys : List ℕ} → x ≡ hex.Bytes n → (o ≡ writeAnswer format a (length (take n buffer))) × (ys ≡ writeBuffer format a (take n buffer))
-            → length ys ≡ length (take n buffer) → Put room at l l' r (writtenText o (take n (ys ++ drop n buffer))) → Put room at l l' r (writeLine parse format i j line)
-        write-answer {o = o} {ys} h w kept p = counted (j + 1) line _ many (says-so parse i line _ value e (hex-back read _ ys (writtenText o) h kept (rw (← (w .0), ← (w .1))) p))
+  -- a record that is read leniently only
+  pub lenient-left : (reader : Reader A)
+      → Left (λ canonic start message. cond canonic six (readText print (reader (drop start message)))) parse format i line buffer x (lenientLine parse print reader format i j (opOf (field 1 line)) line)
+  lenient-left reader = record { text = by (opOf (field 1 line)) ∙ sym (asks .said _) }
+    where
+      by : (x : Op) → lenientLine parse print reader format i j x line ≡ asking 8192 i j x line (rest (λ canonic start message. cond canonic six (readText print (reader (drop start message)))) parse format i line)
+      by op.Strict = sym (message-falls 8192 i line _ (λ start message. refl))
+      by op.Lenient = refl
+      by op.Write = ap (exactly (j + 1) line) (hex-first falls (λ v lent. writtenText (writeAnswer format v (length lent)) (writeBuffer format v lent)) 8192 j line)
+      by op.Length = refl
+      by op.Unknown = refl
 
-    -- ---- written length: a value from the i-th field on
-    pub length-fields : (length (parts 9 line) ≡ j → ⊥) → Put room at l l' r six → Put room at l l' r (lengthLine parse format i j line)
-    length-fields = not-counted j line _
+module _ {A : Type 0} {parse : ℕ → List ℕ → (A → List ℕ) → List ℕ} {read : Bool → ℕ → List ℕ → List ℕ} {format : Format A} {i : ℕ} {line buffer : List ℕ} {x : Asked} where
+  -- the reference, which was read, stands before the other fields
+  pub left-against : {B : Type 0} {f : (B → List ℕ) → List ℕ} {ok : Bool} {b : B} → Says f ok b → not ok ≡ false → (k : B → List ℕ) → Left read parse format i line buffer x (k b) → Left read parse format i line buffer x (f k)
+  left-against s e k left = record { text = says-value s (not-false _ e) k ∙ left .text }
 
-    module _ (many : length (parts 9 line) ≡ j) {ok : Bool} {a : A} (value : Says (parse i line) ok a) where
-      pub length-value : not ok ≡ true → Put room at l l' r six → Put room at l l' r (lengthLine parse format i j line)
-      length-value e p = counted j line _ many (says-not parse i line _ value e p)
+  -- ---- the ways out of it
+  module _ {t : List ℕ} (left : Left read parse format i line buffer x t) {room at r : ℕ} {l l' : List ℕ} where
+    pub left-read : {canonic : Bool} {start n : ℕ} → x ≡ asked.Read canonic start n → Put room at l l' r (read canonic start (take n buffer)) → Put room at l l' r t
+    left-read e p = puts (left .text) (rw e p)
 
-      pub length-answer : not ok ≡ false → {o : Outcome} → o ≡ lengthAnswer format a → Put room at l l' r (lengthText o) → Put room at l l' r (lengthLine parse format i j line)
-      length-answer e h p = counted j line _ many (says-so parse i line _ value e (rw (← h) p))
+    pub left-value : {o : Output} → x ≡ asked.Value o → Put room at l l' r (parse i line (valueText format o buffer)) → Put room at l l' r t
+    left-value {o} e p = puts (left .text) (rw e (puts (same o) p))
+      where
+        same : (o : Output) → onOutput o buffer (rest read parse format i line) ≡ parse i line (valueText format o buffer)
+        same (output.Buffer n) = refl
+        same output.Length = refl
 
--- ---- the operation, which was told from its field
-pub op-told : (f : Op → List ℕ → List ℕ) (line : List ℕ) (x : Op) → opOf (partAt 9 1 line) ≡ x → f (opOf (partAt 9 1 line)) line ≡ f x line
-op-told f line x e = ap (λ (x : Op). f x line) e
-
--- ---- the reference stands before the other fields, and the operation was told
-module _ {A : Type 0} {f : (A → List ℕ) → List ℕ} {ok : Bool} {a : A} (s : Says f ok a) (g : A → Op → List ℕ → List ℕ) (line : List ℕ) where
-  pub against-refused : not ok ≡ true → f (λ a. g a (opOf (partAt 9 1 line)) line) ≡ six
-  against-refused e = says-refused s (not-true _ e) _
-
-  pub against-told : not ok ≡ false → (x : Op) → opOf (partAt 9 1 line) ≡ x → f (λ a. g a (opOf (partAt 9 1 line)) line) ≡ g a x line
-  against-told e x told = says-value s (not-false _ e) _ ∙ op-told (g a) line x told
+    pub left-refused : x ≡ asked.Refused → Put room at l l' r six → Put room at l l' r t
+    left-refused e p = puts (left .text) (rw e p)

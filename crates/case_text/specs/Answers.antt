@@ -8,13 +8,11 @@ use lib.ListN.{length, take}
 use Rattle.text.specs.Buffer.{overAt}
 use Rattle.case_text.specs.declared.HexField.{HexField}
 use Rattle.case_text.specs.declared.HexField.the-variants as hex
-use Rattle.case_text.specs.declared.MessageField.{MessageField}
-use Rattle.case_text.specs.declared.MessageField.the-variants as message
 use Rattle.case_text.specs.Texts.{six}
-use Rattle.case_text.specs.Fields.{hexFieldIn, messageFieldIn}
+use Rattle.case_text.specs.Fields.{hexFieldIn}
 
 -- a text was put into the buffer l from a place on; it is now l', and r is the next place
-pub record Puts (at : ℕ) (t l l' : List ℕ) (r : ℕ) : Type 0 where
+pub record PutsText (at : ℕ) (t l l' : List ℕ) (r : ℕ) : Type 0 where
   pub place : r ≡ at + length t
   pub buffer : l' ≡ overAt at t l
 
@@ -36,16 +34,3 @@ HexInside room hex.Refused = Unit {0}
 pub record ReadsHex (room i : ℕ) (line buffer : List ℕ) (r : HexField) : Type 0 where
   pub text : (k : List ℕ → List ℕ) → onHex r buffer k ≡ hexFieldIn room i line k
   pub inside : HexInside (length buffer) r
-
-abbrev pub onMessage : MessageField → List ℕ → (ℕ → List ℕ → List ℕ) → List ℕ
-onMessage (message.Message start n) buffer k = k start (take n buffer)
-onMessage message.Refused buffer k = six
-
-abbrev pub MessageInside : ℕ → MessageField → Type 0
-MessageInside room (message.Message start n) = n ≤ room
-MessageInside room message.Refused = Unit {0}
-
--- the i-th field and the next as a start and a message of at most `room` bytes, read into a buffer
-pub record ReadsMessage (room i : ℕ) (line buffer : List ℕ) (r : MessageField) : Type 0 where
-  pub text : (k : ℕ → List ℕ → List ℕ) → onMessage r buffer k ≡ messageFieldIn room i line k
-  pub inside : MessageInside (length buffer) r

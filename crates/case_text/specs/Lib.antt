@@ -2,3 +2,5 @@ pub mod Texts
 pub mod Fields
 pub mod Records
 pub mod Answers
+pub mod Asking
+pub mod inside

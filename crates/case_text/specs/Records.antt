@@ -2,11 +2,14 @@
 use mathlib.Core.List.{List}
 use mathlib.Core.Bool.{Bool, true, false}
 use Prim.Native.Nat.{ℕ, _+_}
-use lib.ListN.{length, drop}
+use lib.ListN.{length, take, drop}
+use Rattle.codec.specs.Answers.{Outcome}
 use Rattle.codec.specs.Format.{Format, writeAnswer, writeBuffer, lengthAnswer}
 use Rattle.codec.specs.Reader.{Reader}
 use Rattle.case_text.specs.declared.Op.{Op}
 use Rattle.case_text.specs.declared.Op.the-variants as op
+use Rattle.case_text.specs.declared.Output.{Output}
+use Rattle.case_text.specs.declared.Output.the-variants as output
 use Rattle.case_text.specs.Texts.{six, readText, lengthText, writtenText}
 use Rattle.case_text.specs.Fields.{exactly, hexField, messageField}
 
@@ -30,6 +33,11 @@ lengthLine parse format i j line =
     exactly j line (
     parse i line (λ v.
     lengthText (lengthAnswer format v)))
+
+-- what a writer answered that was asked for this, with the bytes of the lent buffer afterwards
+abbrev pub outputText : Output → Outcome → List ℕ → List ℕ
+outputText (output.Buffer n) o buffer = writtenText o (take n buffer)
+outputText output.Length o buffer = lengthText o
 
 -- by the operation; `parse` reads a value from a field on, `print` prints one, and j is the field after the value
 abbrev pub recordLine : {A : Type 0} → (ℕ → List ℕ → (A → List ℕ) → List ℕ) → (A → List ℕ) → (Bool → Reader A) → Format A → ℕ → ℕ → Op → List ℕ → List ℕ

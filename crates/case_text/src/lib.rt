@@ -17,9 +17,16 @@ pub enum HexField {
     Refused,
 }
 
-// Where a message is read from, and how many bytes it put into a buffer.
-pub enum MessageField {
-    Message(usize, usize),
+// What becomes of a value: it is written into a lent buffer of so many bytes, or measured.
+pub enum Output {
+    Buffer(usize),
+    Length,
+}
+
+// What a line asks for: a message read (strictly or not, from which byte on, how many bytes it has), or a value written or measured.
+pub enum Asked {
+    Read(bool, usize, usize),
+    Value(Output),
     Refused,
 }
 

@@ -7,10 +7,12 @@ ghost use Rattle.codec.specs.Answers.{answerOf, outcomeOf};
 ghost use Rattle.compact_u64.specs.Answers.{numberAnswer};
 ghost use Rattle.text.specs.Decimal.{decimalText};
 ghost use Rattle.text.specs.Hex.{hexText};
-ghost use Rattle.case_text.specs.Texts.{six, noText, afterTab, ended, readText, lengthText, writtenText, writtenNumberText};
-ghost use Rattle.case_text.specs.Answers.{Puts, PutsWithin};
+ghost use Rattle.case_text.specs.Texts.{six, noText, afterTab, ended, readText, lengthText, writtenNumberText};
+ghost use Rattle.case_text.specs.Records.{outputText};
+ghost use Rattle.case_text.specs.Answers.{PutsText, PutsWithin};
 use crate::MAX_ANSWER;
 use crate::MAX_BYTES;
+use crate::Output;
 use codec::Decoded;
 use codec::Encoded;
 use compact_u64::DecodedU64;
@@ -38,7 +40,7 @@ pub fn refuse(out: &mut [u8], at: usize) -> usize
 // A word, then a number.
 fn worded(out: &mut [u8], at: usize, word: &[u8], n: u64) -> usize
     requires { ⌜ at + (length (now word) + 20) ≤ length (now out) ⌝ }
-    ensures { λ r. ⌜ Puts at (now (word .entry) ++ decimalText n) (now (out .entry)) (now (out .exit)) r × (r ≤ at + (length (now (word .entry)) + 20)) ⌝ }
+    ensures { λ r. ⌜ PutsText at (now (word .entry) ++ decimalText n) (now (out .entry)) (now (out .exit)) r × (r ≤ at + (length (now (word .entry)) + 20)) ⌝ }
 {
     let p = text::put_bytes(out, at, word);
     text::put_decimal(out, p, n)
@@ -47,7 +49,7 @@ fn worded(out: &mut [u8], at: usize, word: &[u8], n: u64) -> usize
 // The first n bytes of a buffer in hex; all of them where it has no more.
 fn tab_hex(out: &mut [u8], at: usize, buffer: &[u8], n: usize) -> usize
     requires { ⌜ (at + 16385 ≤ length (now out)) × (length (now buffer) ≤ 8192) ⌝ }
-    ensures { λ r. ⌜ Puts at (afterTab (hexText (take n (now (buffer .entry))))) (now (out .entry)) (now (out .exit)) r × (r ≤ at + 16385) ⌝ }
+    ensures { λ r. ⌜ PutsText at (afterTab (hexText (take n (now (buffer .entry))))) (now (out .entry)) (now (out .exit)) r × (r ≤ at + 16385) ⌝ }
 {
     let p = text::put_bytes(out, at, b"\t");
     if buffer.len() < n {
@@ -59,7 +61,7 @@ fn tab_hex(out: &mut [u8], at: usize, buffer: &[u8], n: usize) -> usize
 // The first n bytes of a text; all of them where it has no more.
 fn tab_bytes(out: &mut [u8], at: usize, bytes: &[u8], n: usize) -> usize
     requires { ⌜ (at + 8193 ≤ length (now out)) × (length (now bytes) ≤ 8192) ⌝ }
-    ensures { λ r. ⌜ Puts at (afterTab (take n (now (bytes .entry)))) (now (out .entry)) (now (out .exit)) r × (r ≤ at + 8193) ⌝ }
+    ensures { λ r. ⌜ PutsText at (afterTab (take n (now (bytes .entry)))) (now (out .entry)) (now (out .exit)) r × (r ≤ at + 8193) ⌝ }
 {
     let p = text::put_bytes(out, at, b"\t");
     if bytes.len() < n {
@@ -70,7 +72,7 @@ fn tab_bytes(out: &mut [u8], at: usize, bytes: &[u8], n: usize) -> usize
 
 fn end(out: &mut [u8], at: usize) -> usize
     requires { ⌜ at + 1 ≤ length (now out) ⌝ }
-    ensures { λ r. ⌜ Puts at (10 ∷ []) (now (out .entry)) (now (out .exit)) r ⌝ }
+    ensures { λ r. ⌜ PutsText at (10 ∷ []) (now (out .entry)) (now (out .exit)) r ⌝ }
 {
     text::put_bytes(out, at, b"\n")
 }
@@ -78,7 +80,7 @@ fn end(out: &mut [u8], at: usize) -> usize
 // A refusal's number, and no more.
 fn no(out: &mut [u8], at: usize, k: u64) -> usize
     requires { ⌜ at + 24 ≤ length (now out) ⌝ }
-    ensures { λ r. ⌜ Puts at (ended (noText k)) (now (out .entry)) (now (out .exit)) r ⌝ }
+    ensures { λ r. ⌜ PutsText at (ended (noText k)) (now (out .entry)) (now (out .exit)) r ⌝ }
 {
     let p = worded(out, at, b"no\t", k);
     end(out, p)
@@ -87,7 +89,7 @@ fn no(out: &mut [u8], at: usize, k: u64) -> usize
 // The length that a writer answered, or the number of its refusal.
 fn outcome(out: &mut [u8], at: usize, answer: Encoded) -> usize
     requires { ⌜ at + 23 ≤ length (now out) ⌝ }
-    ensures { λ r. ⌜ Puts at (lengthText (outcomeOf answer)) (now (out .entry)) (now (out .exit)) r × (r ≤ at + 23) ⌝ }
+    ensures { λ r. ⌜ PutsText at (lengthText (outcomeOf answer)) (now (out .entry)) (now (out .exit)) r × (r ≤ at + 23) ⌝ }
 {
     match answer {
         Encoded::Length(n) => worded(out, at, b"ok\t", n as u64),
@@ -108,16 +110,19 @@ pub fn length(out: &mut [u8], at: usize, answer: Encoded) -> usize
     end(out, p)
 }
 
-// What a writer answered, and the first n bytes of a buffer, which it was lent, afterwards.
-pub fn written(
+// What a writer answered: the length that it was asked for, or what it wrote, with the bytes of the lent buffer afterwards.
+pub fn output(
     out: &mut [u8],
     at: usize,
+    output: Output,
     answer: Encoded,
     buffer: &[u8; MAX_BYTES],
-    n: usize,
 ) -> usize
-    ensures { λ r. ⌜ PutsWithin 16640 at (ended (writtenText (outcomeOf answer) (take n (now (buffer .entry))))) (now (out .entry)) (now (out .exit)) r ⌝ }
+    ensures { λ r. ⌜ PutsWithin 16640 at (ended (outputText output (outcomeOf answer) (now (buffer .entry)))) (now (out .entry)) (now (out .exit)) r ⌝ }
 {
+    let Output::Buffer(n) = output else {
+        return length(out, at, answer);
+    };
     if free(out, at) < MAX_ANSWER {
         return at;
     }
@@ -126,7 +131,7 @@ pub fn written(
     end(out, q)
 }
 
-// The same of a number after its tag, with the tag.
+// The same of a number written after its tag, with the tag.
 pub fn written_number(
     out: &mut [u8],
     at: usize,
@@ -138,7 +143,7 @@ pub fn written_number(
     ensures { λ r. ⌜ PutsWithin 16640 at (ended (writtenNumberText (outcomeOf answer) tag (take n (now (buffer .entry))))) (now (out .entry)) (now (out .exit)) r ⌝ }
 {
     let Encoded::Length(k) = answer else {
-        return written(out, at, answer, buffer, n);
+        return output(out, at, Output::Buffer(n), answer, buffer);
     };
     if free(out, at) < MAX_ANSWER {
         return at;

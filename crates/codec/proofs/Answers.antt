@@ -4,7 +4,7 @@ use denote.Enum.Declared as declared
 use Rattle.codec.specs.declared.Decoded.{Decoded}
 use Rattle.codec.specs.declared.Decoded.the-variants as decoded
 use Rattle.codec.specs.Answers.{Answer, accepted, refused, answerOf, Gives}
-use Rattle.codec.specs.Reader.{bind, shift}
+use Rattle.codec.specs.Reader.{bind, shift, named}
 
 pub gives-refused : {A : Type 0} {blank : A} {d : Decoded} {x : Answer A} (k : ℕ) → answerOf d blank ≡ refused k → x ≡ refused k → Gives blank d blank x
 gives-refused k e f = record { answer = e ∙ sym f; value = rw f }
@@ -50,3 +50,14 @@ no-value (decoded.Consumed m) h = absurd (⊎-elim (λ e. omega arith) (⊎-elim
 no-value decoded.EndOfInput h = record { why = 1; beside = λ a. refl }
 no-value decoded.TheirFault h = record { why = 2; beside = λ a. refl }
 no-value decoded.Malformed h = record { why = 5; beside = λ a. refl }
+
+-- an answer's refusal is the same beside any value
+module _ {A : Type 0} (a : A) where
+  beside-any : (d : Decoded) → answerOf d a ≡ named (λ x. a) (answerOf {A = Unit {0}} d tt)
+  beside-any (decoded.Consumed n) = refl
+  beside-any decoded.EndOfInput = refl
+  beside-any decoded.TheirFault = refl
+  beside-any decoded.Malformed = refl
+
+  pub unvalued-refused : (d : Decoded) (k : ℕ) → answerOf {A = Unit {0}} d tt ≡ refused k → answerOf d a ≡ refused k
+  unvalued-refused d k e = beside-any d ∙ rw e

@@ -1,12 +1,13 @@
 -- The laws that all headers share. None knows a place: a layout's own laws are computed over all bytes (`same-bytes`) or told by `omega`.
 use Rattle.codec.proofs.Prelude.{_≡_, refl, sym, ap, _∙_, [], _∷_, Bool, true, false, cond, ℕ, zero, suc, _-_, _/_, _^_, _≤_, _<_, arith, mod-lt, eqb, pow-mono, eqb-true, eqb-false}
 use Rattle.codec.specs.Reader.{oneByte}
-use Rattle.codec.specs.Reads.{Reads, OneByte}
-use Rattle.codec.specs.Header.{field, flag, bit, Layout, readHeader, HeaderAs, every}
+use Rattle.codec.specs.Reads.{Reads}
+use Rattle.codec.proofs.Relations.{OneByte, HeaderAs}
+use Rattle.codec.specs.Header.{bitsAt, flag, bit, Layout, readHeader, every}
 use Rattle.codec.proofs.Readers.{reads-as, mapped-reads, oneByte-reads}
 
 -- a number from a header fits its bits
-pub field-fits : (at wide b : ℕ) → field at wide b < 2 ^ wide
+pub field-fits : (at wide b : ℕ) → bitsAt at wide b < 2 ^ wide
 field-fits at wide b = mod-lt (b / 2 ^ (8 - at - wide)) (omega (arith, pow-mono {i = 0} {j = wide} (omega arith)))
 
 pub bit-small : (x : Bool) → bit x ≤ 1
@@ -14,7 +15,7 @@ bit-small true = omega arith
 bit-small false = omega arith
 
 -- a flag that was packed
-pub flag-of : (at b : ℕ) (x : Bool) → field at 1 b ≡ bit x → flag at b ≡ x
+pub flag-of : (at b : ℕ) (x : Bool) → bitsAt at 1 b ≡ bit x → flag at b ≡ x
 flag-of at b true e = rw e
 flag-of at b false e = rw e
 

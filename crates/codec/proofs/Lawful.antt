@@ -3,7 +3,8 @@ use Rattle.codec.proofs.Prelude.{_≡_, refl, sym, ap, _∙_, _↔_, Bo
 use Rattle.codec.specs.Answers.{accepted, refused, AllBytes}
 use Rattle.codec.specs.Format.{Format, Verdict, allowed, verdictBy, Valid, Writes, reshaped}
 use Rattle.codec.specs.Reader.{Reader, mapped}
-use Rattle.codec.specs.Reads.{Reads, Mapped}
+use Rattle.codec.specs.Reads.{Reads}
+use Rattle.codec.proofs.Relations.{Mapped}
 use Rattle.codec.specs.Lawful.{Begins, Lawful}
 use Rattle.codec.proofs.Readers.{mapped-reads, reads-as}
 

@@ -3,18 +3,18 @@ use Rattle.codec.proofs.Prelude.{_≡_, refl, sym, ap, _∙_, List, [],
 use denote.Enum.Declared as declared
 use Rattle.codec.specs.declared.Encoded.{Encoded}
 use Rattle.codec.specs.declared.Encoded.the-variants as encoded
-use Rattle.codec.specs.Answers.{Outcome, wrote, denied, outcomeOf}
+use Rattle.codec.specs.Answers.{Outcome, wrote, refusedWriting, outcomeOf}
 use Rattle.codec.specs.Bytes.{zeroId}
-use Rattle.codec.specs.Format.{Format, Verdict, allowed, barred, over, lengthBy, inRoom, putAnswer, putBuffer, writeAnswer, writeBuffer, lengthAnswer, WritesInto}
+use Rattle.codec.specs.Format.{Format, Verdict, allowed, refusedValue, over, lengthBy, inRoom, putAnswer, putBuffer, writeAnswer, writeBuffer, lengthAnswer, WritesInto}
 
 -- ---- the exits of a writer, by the tests 5, 3 and 4
 module _ (d : Verdict) (bs l : List ℕ) where
-  pub put-barred : (k : ℕ) → d ≡ barred k → (denied k ≡ putAnswer d bs (length l)) × (l ≡ putBuffer d bs l)
+  pub put-refused-value : (k : ℕ) → d ≡ refusedValue k → (refusedWriting k ≡ putAnswer d bs (length l)) × (l ≡ putBuffer d bs l)
   unfolding putAnswer putBuffer
-  put-barred k e = (rw e, rw e)
+  put-refused-value k e = (rw e, rw e)
 
   module _ (e : d ≡ allowed) (n : ℕ) (long : n ≡ length bs) where
-    pub put-full : length l < n → (denied 4 ≡ putAnswer d bs (length l)) × (l ≡ putBuffer d bs l)
+    pub put-full : length l < n → (refusedWriting 4 ≡ putAnswer d bs (length l)) × (l ≡ putBuffer d bs l)
     unfolding putAnswer putBuffer
     put-full h =
         let k : leb (length bs) (length l) ≡ false = lt-leb (length bs) (length l) (omega arith) in
@@ -27,9 +27,9 @@ module _ (d : Verdict) (bs l : List ℕ) where
         (rw (e, k) (ap wrote long), rw (e, k))
 
   -- and what an answer tells
-  pub put-denied : (k : ℕ) → putAnswer d bs (length l) ≡ denied k → l ≡ putBuffer d bs l
+  pub put-refused-writing : (k : ℕ) → putAnswer d bs (length l) ≡ refusedWriting k → l ≡ putBuffer d bs l
   unfolding putBuffer
-  put-denied k e = rw e
+  put-refused-writing k e = rw e
 
 -- what a writing that was not refused says
 pub record Wrote (d : Verdict) (bs : List ℕ) (room n : ℕ) : Type 0 where
@@ -39,10 +39,10 @@ pub record Wrote (d : Verdict) (bs : List ℕ) (room n : ℕ) : Type 0 where
 
 pub put-wrote : (d : Verdict) (bs : List ℕ) (room n : ℕ) → putAnswer d bs room ≡ wrote n → Wrote d bs room n
 unfolding putAnswer
-put-wrote (barred k) bs room n e = let z : _≡_ {A = ℕ} 0 1 = cc in absurd (omega arith)
+put-wrote (refusedValue k) bs room n e = let z : _≡_ {A = ℕ} 0 1 = cc in absurd (omega arith)
 put-wrote allowed bs room n e = go (leb (length bs) room) refl e
   where
-    go : (b : Bool) → leb (length bs) room ≡ b → cond b (wrote (length bs)) (denied 4) ≡ wrote n → Wrote allowed bs room n
+    go : (b : Bool) → leb (length bs) room ≡ b → cond b (wrote (length bs)) (refusedWriting 4) ≡ wrote n → Wrote allowed bs room n
     go true p q = let l : n ≡ length bs = cc in record { allows = refl; long = l; fits = omega (arith, leb-true, l) }
     go false p q = let z : _≡_ {A = ℕ} 0 1 = cc in absurd (omega arith)
 
@@ -52,13 +52,13 @@ put-over bs l h = sym (put-fits allowed bs l refl (length bs) refl h .1)
 
 pub record NoLength (x : Encoded) : Type 0 where
   pub why : ℕ
-  pub is : outcomeOf x ≡ denied why
+  pub is : outcomeOf x ≡ refusedWriting why
 
 -- the exits of a written length
 module _ {A : Type 0} (f : Format A) (v : A) where
-  pub length-barred : (k : ℕ) → f .check v ≡ barred k → denied k ≡ lengthAnswer f v
+  pub length-refused-value : (k : ℕ) → f .check v ≡ refusedValue k → refusedWriting k ≡ lengthAnswer f v
   unfolding lengthAnswer
-  length-barred k e = rw e
+  length-refused-value k e = rw e
 
   pub length-allowed : (n : ℕ) → f .check v ≡ allowed → n ≡ length (f .encode v) → wrote n ≡ lengthAnswer f v
   unfolding lengthAnswer
@@ -71,25 +71,25 @@ module _ {A : Type 0} (f : Format A) (v : A) where
     where
       go : (d : Verdict) → f .check v ≡ d → lengthBy d (length (f .encode v)) ≡ wrote n → (f .check v ≡ allowed) × (n ≡ length (f .encode v))
       go allowed p q = (p, cc)
-      go (barred k) p q = let z : _≡_ {A = ℕ} 0 1 = cc in absurd (omega arith)
+      go (refusedValue k) p q = let z : _≡_ {A = ℕ} 0 1 = cc in absurd (omega arith)
 
-  pub length-denied : (k : ℕ) → lengthAnswer f v ≡ denied k → f .check v ≡ barred k
+  pub length-refused-writing : (k : ℕ) → lengthAnswer f v ≡ refusedWriting k → f .check v ≡ refusedValue k
   unfolding lengthAnswer
-  length-denied k e = go (f .check v) refl e
+  length-refused-writing k e = go (f .check v) refl e
     where
-      go : (d : Verdict) → f .check v ≡ d → lengthBy d (length (f .encode v)) ≡ denied k → f .check v ≡ barred k
+      go : (d : Verdict) → f .check v ≡ d → lengthBy d (length (f .encode v)) ≡ refusedWriting k → f .check v ≡ refusedValue k
       go allowed p q = let z : _≡_ {A = ℕ} 0 1 = cc in absurd (omega arith)
-      go (barred j) p q = let same : j ≡ k = cc in p ∙ ap barred same
+      go (refusedValue j) p q = let same : j ≡ k = cc in p ∙ ap refusedValue same
 
   -- a length that is held to the room is what writing answers
   pub length-in-room : (whole r : Encoded) (room : ℕ) → outcomeOf whole ≡ lengthAnswer f v → outcomeOf r ≡ inRoom (outcomeOf whole) room → outcomeOf r ≡ writeAnswer f v room
   unfolding lengthAnswer putAnswer
   length-in-room whole r room long e = e ∙ ap (λ (o : Outcome). inRoom o room) long
 
-  pub length-not-denied : (k : ℕ) → f .check v ≡ allowed → lengthAnswer f v ≡ denied k → ⊥
-  length-not-denied k e d = go (sym e ∙ length-denied k d)
+  pub length-not-refused-writing : (k : ℕ) → f .check v ≡ allowed → lengthAnswer f v ≡ refusedWriting k → ⊥
+  length-not-refused-writing k e d = go (sym e ∙ length-refused-writing k d)
     where
-      go : allowed ≡ barred k → ⊥
+      go : allowed ≡ refusedValue k → ⊥
       go h = let z : _≡_ {A = ℕ} 0 1 = cc in omega arith
 
   -- two formats that agree on a value
@@ -116,8 +116,8 @@ no-length encoded.Malformed h = record { why = 5; is = refl }
 pub written-is : (n m : ℕ) → wrote n ≡ wrote m → n ≡ m
 written-is n m e = cc
 
-pub wrote-not-denied : (n k : ℕ) → wrote n ≡ denied k → ⊥
-wrote-not-denied n k e = let z : _≡_ {A = ℕ} 0 1 = cc in omega arith
+pub wrote-not-refused-writing : (n k : ℕ) → wrote n ≡ refusedWriting k → ⊥
+wrote-not-refused-writing n k e = let z : _≡_ {A = ℕ} 0 1 = cc in omega arith
 
 -- ---- a part that goes to the end, lent and come back as ys
 pub to-end : (n : ℕ) (l : List ℕ) → take (length l - n) (drop n l) ≡ drop n l

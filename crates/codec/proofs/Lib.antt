@@ -13,3 +13,4 @@ pub mod Header
 pub mod Lending
 pub mod Tests
 pub mod SameBytes
+pub mod Relations

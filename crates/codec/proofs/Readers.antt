@@ -3,7 +3,8 @@
 use Rattle.codec.proofs.Prelude.{_≡_, refl, sym, ap, _∙_, List, [], _∷_, _++_, append-assoc, Bool, true, false, ℕ, zero, suc, _+_, _-_, _≤_, _<_, arith, leb, leb-true, leb-false, le-leb, lt-leb, length, take, drop, length-append, length-take, length-drop, drop-append-seam, take-append-add, take-append-le, length-take-le, take-add, take-at}
 use Rattle.codec.specs.Answers.{Answer, accepted, refused, AllBytes}
 use Rattle.codec.specs.Reader.{Reader, bind, shift, named, passed, enough, give, oneByte, someBytes, andThen, guard, checked, mapped, choose}
-use Rattle.codec.specs.Reads.{ReadsBack, Reads, Nothing, OneByte, SomeBytes, Joined, Tested, Mapped, Either}
+use Rattle.codec.specs.Reads.{ReadsBack, Reads}
+use Rattle.codec.proofs.Relations.{Given, OneByte, SomeBytes, Joined, Tested, Mapped, Chosen}
 use Rattle.codec.proofs.Bytes.{AllBytes·drop, AllBytes·take}
 
 -- ---- what an accepted answer came from
@@ -36,10 +37,10 @@ pub reads-as : {A : Type 0} (r : Reader A) (W U : A → List ℕ → Type 0) →
 reads-as r W U R f g = record { sound = λ s a n h e. let x = R .sound s a n h e in (x .0, f a (take n s) (x .1)); back = back-as r W U (R .back) g }
 
 -- ---- a value that takes no bytes
-pub give-back : {A : Type 0} (a : A) → ReadsBack (give a) (Nothing a)
+pub give-back : {A : Type 0} (a : A) → ReadsBack (give a) (Given a)
 give-back a = record { complete = λ b e w t. cc; cut = λ b e w k l. absurd (omega (arith, ap length (w .1))) }
 
-pub give-reads : {A : Type 0} (a : A) → Reads (give a) (Nothing a)
+pub give-reads : {A : Type 0} (a : A) → Reads (give a) (Given a)
 give-reads a = record { sound = λ s b n h e. let z : n ≡ 0 = cc in (omega arith, (cc, rw z refl)); back = give-back a }
 
 -- ---- one byte
@@ -178,10 +179,10 @@ mapped-reads f r W R = record {
 }
 
 -- ---- a choice by a flag
-pub choose-back : {A : Type 0} (b : Bool) (p q : Reader A) (W U : A → List ℕ → Type 0) → ReadsBack p W → ReadsBack q U → ReadsBack (choose b p q) (Either b W U)
+pub choose-back : {A : Type 0} (b : Bool) (p q : Reader A) (W U : A → List ℕ → Type 0) → ReadsBack p W → ReadsBack q U → ReadsBack (choose b p q) (Chosen b W U)
 choose-back true p q W U P Q = record { complete = P .complete; cut = P .cut }
 choose-back false p q W U P Q = record { complete = Q .complete; cut = Q .cut }
 
-pub choose-reads : {A : Type 0} (b : Bool) (p q : Reader A) (W U : A → List ℕ → Type 0) → Reads p W → Reads q U → Reads (choose b p q) (Either b W U)
+pub choose-reads : {A : Type 0} (b : Bool) (p q : Reader A) (W U : A → List ℕ → Type 0) → Reads p W → Reads q U → Reads (choose b p q) (Chosen b W U)
 choose-reads true p q W U P Q = record { sound = P .sound; back = choose-back true p q W U (P .back) (Q .back) }
 choose-reads false p q W U P Q = record { sound = Q .sound; back = choose-back false p q W U (P .back) (Q .back) }

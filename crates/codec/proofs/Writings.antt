@@ -1,6 +1,6 @@
 -- The theorem about lists of writings, from the four laws alone.
 use Rattle.codec.proofs.Prelude.{_≡_, refl, sym, ap, _∙_, List, [], _∷_, _++_, map, append-assoc, append-nil, ℕ, _+_, _-_, _≤_, arith, zero-add, add-zero, suc-add, add-assoc, length, take, drop, length-append, length-drop, take-append-drop, take-append-seam, drop-append-seam, take-at, drop-at, drop-drop, drop-length}
-use Rattle.codec.specs.Answers.{Answer, accepted, refused, Outcome, wrote, denied}
+use Rattle.codec.specs.Answers.{Answer, accepted, refused, Outcome, wrote, refusedWriting}
 use Rattle.codec.specs.Format.{Format, Valid, putBuffer, writeAnswer}
 use Rattle.codec.specs.Reader.{Reader}
 use Rattle.codec.specs.Lawful.{Lawful}
@@ -22,9 +22,9 @@ module _ {A : Type 0} (f : Format A) where
       go : (o : Outcome) → writeAnswer f v (length b) ≡ o
           → ((p b : List ℕ) (at : ℕ) (buf : List ℕ) → length p ≡ at → take at buf ≡ p → drop at buf ≡ b → Run vs p b (writeAll f vs at buf))
           → Run (v ∷ vs) p b (writeAll f (v ∷ vs) at buf)
-      go (denied k) e ih =
+      go (refusedWriting k) e ih =
           let r = ih p b at (p ++ b) l (take-at p b at l) (drop-at p b at l) in
-          rw (tp, db, e) (record { answers = rw e (ap (λ (x : List Outcome). denied k ∷ x) (r .answers)); place = rw e (r .place); buffer = rw e (r .buffer) })
+          rw (tp, db, e) (record { answers = rw e (ap (λ (x : List Outcome). refusedWriting k ∷ x) (r .answers)); place = rw e (r .place); buffer = rw e (r .buffer) })
       go (wrote n) e ih =
           let w = put-wrote (f .check v) (f .encode v) (length b) n e in
           let long : n ≡ length (f .encode v) = w .long in
@@ -45,7 +45,7 @@ module _ {A : Type 0} (f : Format A) where
   accepted-fits (v ∷ vs) room = go (writeAnswer f v room) refl (accepted-fits vs)
     where
       go : (o : Outcome) → writeAnswer f v room ≡ o → ((room : ℕ) → length (bytesOf f (acceptedOf f vs room)) ≤ room) → length (bytesOf f (acceptedOf f (v ∷ vs) room)) ≤ room
-      go (denied k) e ih = rw e (ih room)
+      go (refusedWriting k) e ih = rw e (ih room)
       go (wrote n) e ih = rw e (simp length-append (omega (arith, ih (room - n), put-wrote (f .check v) (f .encode v) room n e)))
 
   module _ (Typed : A → Type 0) where
@@ -54,7 +54,7 @@ module _ {A : Type 0} (f : Format A) where
     accepted-valid (v ∷ vs) h room = go (writeAnswer f v room) refl (accepted-valid vs (h .1))
       where
         go : (o : Outcome) → writeAnswer f v room ≡ o → ((room : ℕ) → All (Valid Typed f) (acceptedOf f vs room)) → All (Valid Typed f) (acceptedOf f (v ∷ vs) room)
-        go (denied k) e ih = rw e (ih room)
+        go (refusedWriting k) e ih = rw e (ih room)
         go (wrote n) e ih = rw e (record { typed = h .0; allows = put-wrote (f .check v) (f .encode v) room n e .allows }, ih (room - n))
 
     module _ (strict : Reader A) (L : Lawful Typed f strict) where

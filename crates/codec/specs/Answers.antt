@@ -1,4 +1,4 @@
--- What readers and writers answer, with the numbers of docs/FORMAT.md, "Refusals".
+-- What functions answer, with the numbers of docs/FORMAT.md, "Refusals".
 use mathlib.Core.Path.{_≡_}
 use mathlib.Core.List.{List}
 use Prim.Native.Nat.{ℕ, _<_}
@@ -16,7 +16,12 @@ pub data Answer (A : Type 0) : Type 0 where
 -- a writing: the length written, or a refusal's number
 pub data Outcome : Type 0 where
   wrote : ℕ → Outcome
-  denied : ℕ → Outcome
+  refusedWriting : ℕ → Outcome
+
+-- what any other function says, or a refusal's number
+pub data Said (A : Type 0) : Type 0 where
+  said : A → Said A
+  unsaid : ℕ → Said A
 
 -- every element is a byte: the form in which a slice of u8 gives it
 abbrev pub AllBytes : List ℕ → Type 0
@@ -41,6 +46,6 @@ pub record Gives {A : Type 0} (blank : A) (d : Decoded) (a : A) (x : Answer A) :
 
 abbrev pub outcomeOf : Encoded → Outcome
 outcomeOf (encoded.Length n) = wrote n
-outcomeOf encoded.Outside = denied 3
-outcomeOf encoded.NoRoom = denied 4
-outcomeOf encoded.Malformed = denied 5
+outcomeOf encoded.Outside = refusedWriting 3
+outcomeOf encoded.NoRoom = refusedWriting 4
+outcomeOf encoded.Malformed = refusedWriting 5

@@ -10,6 +10,7 @@ use Rattle.codec.specs.Reader.{Reader}
 use Rattle.codec.specs.Lawful.{Begins}
 use Rattle.codec.specs.Writings.{All, writeAll, bytesOf, Made}
 
+-- the third of the operator's demands, which head docs/STATEMENTS.md
 pub record Demand3 {A : Type 0} (Typed : A → Type 0) (f : Format A) (strict : Reader A) : Type 0 where
   -- at any start in any message, also past its end: accepted exactly when the bytes there begin with a writing of the value
   pub accepts : (s : List ℕ) (at : ℕ) (v : A) (n : ℕ) → AllBytes s → strict (drop at s) ≡ accepted v n ↔ Begins Typed f (drop at s) v n

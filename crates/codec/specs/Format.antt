@@ -5,18 +5,18 @@ use mathlib.Core.Bool.{Bool, true, false, cond}
 use Prim.Native.Nat.{ℕ}
 use lib.Dec.{leb}
 use lib.ListN.{length, drop}
-use Rattle.codec.specs.Answers.{Outcome, wrote, denied, outcomeOf}
+use Rattle.codec.specs.Answers.{Outcome, wrote, refusedWriting, outcomeOf}
 use Rattle.codec.specs.declared.Encoded.{Encoded}
 
 -- what the tests before the length say of a value: 5, then 3
 pub data Verdict : Type 0 where
   allowed : Verdict
-  barred : ℕ → Verdict
+  refusedValue : ℕ → Verdict
 
 -- well formed, else 5; inside the reference, else 3
 abbrev pub verdictBy : Bool → Bool → Verdict
-verdictBy false inside = barred 5
-verdictBy true false = barred 3
+verdictBy false inside = refusedValue 5
+verdictBy true false = refusedValue 3
 verdictBy true true = allowed
 
 -- how values of a type are written, against one reference
@@ -41,17 +41,17 @@ over bs lent = bs ++ drop (length bs) lent
 
 -- the length of what is written after the verdict
 abbrev pub lengthBy : Verdict → ℕ → Outcome
-lengthBy (barred k) n = denied k
+lengthBy (refusedValue k) n = refusedWriting k
 lengthBy allowed n = wrote n
 
 -- a length that has to fit into the room, else 4
 abbrev pub inRoom : Outcome → ℕ → Outcome
-inRoom (denied k) room = denied k
-inRoom (wrote n) room = cond (leb n room) (wrote n) (denied 4)
+inRoom (refusedWriting k) room = refusedWriting k
+inRoom (wrote n) room = cond (leb n room) (wrote n) (refusedWriting 4)
 
 abbrev pub bufferBy : Outcome → List ℕ → List ℕ → List ℕ
 bufferBy (wrote n) bs lent = over bs lent
-bufferBy (denied k) bs lent = lent
+bufferBy (refusedWriting k) bs lent = lent
 
 -- writing the bytes bs into a lent buffer, after the verdict on their value: the answer, and the buffer afterwards
 unfoldable pub putAnswer : Verdict → List ℕ → ℕ → Outcome

@@ -1,18 +1,18 @@
 -- docs/FORMAT.md, "Headers": a header byte by the places of its parts: bit 0 is the highest.
 use mathlib.Core.Path.{_≡_}
-use mathlib.Core.List.{List, [], _∷_}
+use mathlib.Core.List.{[]}
 use mathlib.Core.Bool.{Bool, true, false, cond}
 use Prim.Native.Nat.{ℕ, zero, suc, _-_, _*_, _/_, _%_, _^_, _<_}
 use lib.Dec.{eqb}
 use Rattle.codec.specs.Reader.{Reader, mapped, oneByte}
 
 -- the number in `wide` bits from place `at` on
-abbrev pub field : ℕ → ℕ → ℕ → ℕ
-field at wide b = b / 2 ^ (8 - at - wide) % 2 ^ wide
+abbrev pub bitsAt : ℕ → ℕ → ℕ → ℕ
+bitsAt at wide b = b / 2 ^ (8 - at - wide) % 2 ^ wide
 
 -- the flag at a place
 abbrev pub flag : ℕ → ℕ → Bool
-flag at b = eqb (field at 1 b) 1
+flag at b = eqb (bitsAt at 1 b) 1
 
 -- what a number adds to the byte whose bits from place `at` on hold it
 abbrev pub placed : ℕ → ℕ → ℕ → ℕ
@@ -31,9 +31,6 @@ pub record Layout {H : Type 0} (Fits : H → Type 0) (unpack : ℕ → H) (pack 
 -- reading a header, and the bytes that stand for one
 abbrev pub readHeader : {H : Type 0} → (ℕ → H) → Reader H
 readHeader unpack = mapped unpack oneByte
-
-abbrev pub HeaderAs : {H : Type 0} → (H → Type 0) → (H → ℕ) → H → List ℕ → Type 0
-HeaderAs Fits pack h e = Fits h × (e ≡ pack h ∷ [])
 
 -- a test of every number below n: a law about every byte is computed by it
 abbrev pub every : ℕ → (ℕ → Bool) → Bool

@@ -27,6 +27,10 @@ abbrev pub named : {A B : Type 0} → (A → B) → Answer A → Answer B
 named f (accepted a n) = accepted (f a) n
 named f (refused k) = refused k
 
+-- the answer without its value
+abbrev pub unvalued : {A : Type 0} → Answer A → Answer Unit
+unvalued x = named (λ a. tt) x
+
 -- 2 unless the test passed
 abbrev pub passed : {A : Type 0} → Bool → Answer A → Answer A
 passed true x = x

@@ -1,7 +1,6 @@
 -- What a reader's laws say. They are relative to a relation W: `W a e` says that the bytes e stand for the value a.
 use mathlib.Core.Path.{_≡_}
-use mathlib.Core.List.{List, [], _∷_, _++_}
-use mathlib.Core.Bool.{Bool, true, false}
+use mathlib.Core.List.{List, [], _++_}
 use Prim.Native.Nat.{ℕ, _≤_, _<_}
 use lib.ListN.{length, take}
 use Rattle.codec.specs.Answers.{accepted, refused, AllBytes}
@@ -36,39 +35,3 @@ pub record Yields {A : Type 0} (r : Reader A) (P : A → Type 0) : Type 0 where
   pub holds : (s : List ℕ) (a : A) (n : ℕ) → AllBytes s → r s ≡ accepted a n → P a
 
 -- ---- the relations of the readers of specs/Reader.antt
-
--- `give a`
-abbrev pub Nothing : {A : Type 0} → A → A → List ℕ → Type 0
-Nothing a b e = (a ≡ b) × (e ≡ [])
-
--- `oneByte`
-abbrev pub OneByte : ℕ → List ℕ → Type 0
-OneByte b e = (b < 256) × (e ≡ b ∷ [])
-
--- `someBytes n`
-abbrev pub SomeBytes : ℕ → List ℕ → List ℕ → Type 0
-SomeBytes n l e = (length l ≡ n) × AllBytes l × (e ≡ l)
-
--- `andThen`: bytes for the first value, then bytes for the second
-pub record Joined {A B : Type 0} (W : A → List ℕ → Type 0) (U : A → B → List ℕ → Type 0) (b : B) (e : List ℕ) : Type 0 where
-  pub value : A
-  pub front : List ℕ
-  pub rear : List ℕ
-  pub whole : e ≡ front ++ rear
-  pub first : W value front
-  pub second : U value b rear
-
--- `guard` and `checked`
-abbrev pub Tested : {A : Type 0} → (A → Bool) → (A → List ℕ → Type 0) → A → List ℕ → Type 0
-Tested t W a e = (t a ≡ true) × W a e
-
--- `mapped`
-pub record Mapped {A B : Type 0} (f : A → B) (W : A → List ℕ → Type 0) (b : B) (e : List ℕ) : Type 0 where
-  pub value : A
-  pub named : f value ≡ b
-  pub stands : W value e
-
--- `choose`
-abbrev pub Either : {A : Type 0} → Bool → (A → List ℕ → Type 0) → (A → List ℕ → Type 0) → A → List ℕ → Type 0
-Either true W U a e = W a e
-Either false W U a e = U a e

@@ -3,7 +3,7 @@ use mathlib.Core.Path.{_≡_}
 use mathlib.Core.List.{List, [], _∷_, _++_, map}
 use Prim.Native.Nat.{ℕ, zero, suc, _+_, _-_, _≤_}
 use lib.ListN.{length, take, drop}
-use Rattle.codec.specs.Answers.{Answer, accepted, refused, Outcome, wrote, denied}
+use Rattle.codec.specs.Answers.{Answer, accepted, refused, Outcome, wrote, refusedWriting}
 use Rattle.codec.specs.Format.{Format, writeAnswer, writeBuffer}
 use Rattle.codec.specs.Reader.{Reader}
 
@@ -15,15 +15,15 @@ All P (v ∷ vs) = P v × All P vs
 -- what one writing's answer does to the place, to the room that is left, and to the values accepted so far
 abbrev pub moved : Outcome → ℕ → ℕ
 moved (wrote n) at = at + n
-moved (denied k) at = at
+moved (refusedWriting k) at = at
 
 abbrev pub left : Outcome → ℕ → ℕ
 left (wrote n) room = room - n
-left (denied k) room = room
+left (refusedWriting k) room = room
 
-abbrev pub kept {ℓ} : {A : Type ℓ} → Outcome → A → List A → List A
-kept (wrote n) v vs = v ∷ vs
-kept (denied k) v vs = vs
+abbrev pub addWritten {ℓ} : {A : Type ℓ} → Outcome → A → List A → List A
+addWritten (wrote n) v vs = v ∷ vs
+addWritten (refusedWriting k) v vs = vs
 
 -- what a list of writings leaves
 pub record Writings : Type 0 where
@@ -47,7 +47,7 @@ module _ {A : Type 0} (f : Format A) where
 
   abbrev pub acceptedOf : List A → ℕ → List A
   acceptedOf [] room = []
-  acceptedOf (v ∷ vs) room = kept (writeAnswer f v room) v (acceptedOf vs (left (writeAnswer f v room) room))
+  acceptedOf (v ∷ vs) room = addWritten (writeAnswer f v room) v (acceptedOf vs (left (writeAnswer f v room) room))
 
   -- the bytes that values make, end to end
   abbrev pub bytesOf : List A → List ℕ

@@ -3,11 +3,13 @@ use Rattle.codec.proofs.Prelude.{_≡_, refl, ap, _∙_, sym, List, [], _∷_, 
 use denote.Enum.Declared as declared
 use Rattle.codec.specs.Answers.{accepted, refused, answerOf}
 use Rattle.codec.specs.Format.{allowed, over, putBuffer}
-use Rattle.codec.specs.Reader.{shift, passed}
+use Rattle.codec.specs.Reader.{shift, passed, unvalued}
+use Rattle.codec.specs.declared.Decoded.{Decoded}
+use Rattle.codec.proofs.Answers.{unvalued-refused}
 use Rattle.codec.proofs.Lending.{put-over}
 use Rattle.compact_u64.specs.BigEndian.{bigEndian, valueOf, readBigEndian}
 use Rattle.compact_u64.specs.Number.{inlineLimit, widthExponent, minTag, encodingWidth, numberBytes, numberSaid, standaloneBytes, readNumber, readStandalone}
-use Rattle.compact_u64.specs.Answers.{bits, numberAnswer, refusalOf}
+use Rattle.compact_u64.specs.Answers.{bits, numberAnswer}
 use Rattle.compact_u64.specs.declared.TagWidth.{TagWidth}
 use Rattle.compact_u64.specs.declared.TagWidth.the-variants as width
 use Rattle.compact_u64.specs.declared.DecodedU64.{DecodedU64}
@@ -106,16 +108,16 @@ refusal-shifted (decoded.Value n u) k h = absurd (⊎-elim (λ e. omega arith) (
 refusal-shifted decoded.EndOfInput k h = refl
 refusal-shifted decoded.TheirFault k h = refl
 
--- a number that is no value, and its refusal as a record's
-pub record Refused {A : Type 0} (blank : A) (x : DecodedU64) : Type 0 where
+-- a number that is no value: its refusal, and the same whatever stands beside it
+pub record Refused (x : DecodedU64) : Type 1 where
   pub why : ℕ
   pub number : numberAnswer x ≡ refused why
-  pub whole : answerOf (refusalOf x) blank ≡ refused why
+  pub whole : {A : Type 0} (a : A) (d : Decoded) → answerOf d tt ≡ unvalued (numberAnswer x) → answerOf d a ≡ refused why
 
-pub refused-number : {A : Type 0} (blank : A) (x : DecodedU64) → OneOf (1 ∷ 2 ∷ []) (declared.tagOf Rattle.compact_u64.proofs.DecodedU64.the-type x) → Refused blank x
-refused-number blank (decoded.Value n u) h = absurd (⊎-elim (λ e. omega arith) (λ e. omega arith) h)
-refused-number blank decoded.EndOfInput h = record { why = 1; number = refl; whole = refl }
-refused-number blank decoded.TheirFault h = record { why = 2; number = refl; whole = refl }
+pub refused-number : (x : DecodedU64) → OneOf (1 ∷ 2 ∷ []) (declared.tagOf Rattle.compact_u64.proofs.DecodedU64.the-type x) → Refused x
+refused-number (decoded.Value n u) h = absurd (⊎-elim (λ e. omega arith) (λ e. omega arith) h)
+refused-number decoded.EndOfInput h = record { why = 1; number = refl; whole = λ a d e. unvalued-refused a d 1 e }
+refused-number decoded.TheirFault h = record { why = 2; number = refl; whole = λ a d e. unvalued-refused a d 2 e }
 
 -- a standalone number that was read lies within the bytes
 pub standalone-inside : (canonic : Bool) (s : List ℕ) (i v n : ℕ) → readStandalone canonic (drop i s) ≡ accepted v n → i + n ≤ length s

@@ -3,3 +3,4 @@ pub mod Tags
 pub mod Number
 pub mod Standalone
 pub mod Exits
+pub mod Relations

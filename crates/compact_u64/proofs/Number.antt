@@ -2,7 +2,8 @@
 use Rattle.codec.proofs.Prelude.{_≡_, refl, sym, ap, _∙_, List, [], _∷_, Bool, true, false, cond, _-_, ℕ, _^_, _≤_, _<_, mod-eq-of-lt, arith, ltb, eqb, pow-mono, length, take, length-take-le, ltb-true, ltb-false, eqb-true, lt-ltb, le-ltb, eq-eqb}
 use Rattle.codec.specs.Answers.{accepted}
 use Rattle.codec.specs.Reader.{someBytes, mapped}
-use Rattle.codec.specs.Reads.{Reads, ReadsBack, Relaxes, Bounded, SomeBytes, Tested, Mapped}
+use Rattle.codec.specs.Reads.{Reads, ReadsBack, Relaxes, Bounded}
+use Rattle.codec.proofs.Relations.{SomeBytes, Tested, Mapped}
 use Rattle.codec.proofs.Readers.{reads-as, someBytes-reads, mapped-reads, checked-reads, guard-reads}
 use Rattle.codec.proofs.Relaxes.{relaxes-back, relaxes-self, guard-relaxes, checked-relaxes}
 use Rattle.codec.proofs.Bounded.{someBytes-bounded, mapped-bounded, checked-bounded, guard-bounded}

@@ -1,7 +1,8 @@
 -- The laws of standalone numbers: they are a lawful format, so all of demand 3 holds of them.
 use Rattle.codec.proofs.Prelude.{refl, [], _∷_, Bool, true, false, ℕ, _≤_, arith, length}
 use Rattle.codec.specs.Reader.{oneByte}
-use Rattle.codec.specs.Reads.{Reads, ReadsBack, Relaxes, Bounded, OneByte}
+use Rattle.codec.specs.Reads.{Reads, ReadsBack, Relaxes, Bounded}
+use Rattle.codec.proofs.Relations.{OneByte}
 use Rattle.codec.specs.Lawful.{Lawful}
 use Rattle.codec.specs.Demand3.{Demand3}
 use Rattle.codec.proofs.Readers.{reads-as, then-reads, oneByte-reads}
@@ -10,7 +11,8 @@ use Rattle.codec.proofs.Bounded.{then-bounded, oneByte-bounded}
 use Rattle.codec.proofs.Lawful.{lawful-of}
 use Rattle.codec.proofs.Demand3.{demand3}
 use Rattle.compact_u64.specs.Number.{minTag, numberBytes, readNumber, standaloneBytes, readStandalone, U64, standalone}
-use Rattle.compact_u64.specs.Laws.{NumberAs, StandaloneAs}
+use Rattle.compact_u64.specs.Laws.{NumberAs}
+use Rattle.compact_u64.proofs.Relations.{StandaloneAs}
 use Rattle.compact_u64.proofs.Tags.{min-tag-fits, numberBytes-short}
 use Rattle.compact_u64.proofs.Number.{number-reads, number-relaxes, number-bounded}
 

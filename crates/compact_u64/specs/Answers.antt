@@ -1,8 +1,6 @@
 -- What the enums of the code stand for.
 use Prim.Native.Nat.{ℕ}
 use Rattle.codec.specs.Answers.{Answer, accepted, refused}
-use Rattle.codec.specs.declared.Decoded.{Decoded}
-use Rattle.codec.specs.declared.Decoded.the-variants as whole
 use Rattle.compact_u64.specs.declared.TagWidth.{TagWidth}
 use Rattle.compact_u64.specs.declared.TagWidth.the-variants as width
 use Rattle.compact_u64.specs.declared.DecodedU64.{DecodedU64}
@@ -19,9 +17,3 @@ abbrev pub numberAnswer : DecodedU64 → Answer ℕ
 numberAnswer (decoded.Value v n) = accepted v n
 numberAnswer decoded.EndOfInput = refused 1
 numberAnswer decoded.TheirFault = refused 2
-
--- a number's refusal as a record's
-abbrev pub refusalOf : DecodedU64 → Decoded
-refusalOf (decoded.Value v n) = whole.TheirFault
-refusalOf decoded.EndOfInput = whole.EndOfInput
-refusalOf decoded.TheirFault = whole.TheirFault

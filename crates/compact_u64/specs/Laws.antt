@@ -6,7 +6,7 @@ use Prim.Native.Nat.{ℕ, _≤_, _<_, _^_}
 use lib.ListN.{length, take}
 use Rattle.codec.specs.Answers.{accepted, refused, AllBytes}
 use Rattle.compact_u64.specs.BigEndian.{bigEndian}
-use Rattle.compact_u64.specs.Number.{inlineLimit, minTag, encodingWidth, numberBytes, readNumber, standaloneBytes, U64}
+use Rattle.compact_u64.specs.Number.{inlineLimit, minTag, encodingWidth, numberBytes, readNumber, U64}
 
 -- a tag that can carry the value: the value itself, or so many bytes that they hold it
 pub data Carries (w tag v : ℕ) : Type 0 where
@@ -24,10 +24,6 @@ pub record NumberAs (w tag v : ℕ) (e : List ℕ) : Type 0 where
   pub small : U64 v
   pub tagged : minTag w v ≡ tag
   pub bytes : e ≡ numberBytes w v
-
-pub record StandaloneAs (v : ℕ) (e : List ℕ) : Type 0 where
-  pub small : U64 v
-  pub bytes : e ≡ standaloneBytes v
 
 pub record NumberLaws (w : ℕ) : Type 0 where
   -- what is written: a tag that fits its bits, and bytes, at most 8

@@ -3,11 +3,12 @@ ghost use mathlib.Core.Path.{_≡_};
 ghost use mathlib.Core.List.{_++_};
 ghost use Prim.Native.Nat.{_+_, _≤_, _<_, _^_};
 ghost use lib.ListN.{length, drop};
-ghost use Rattle.codec.specs.Answers.{outcomeOf};
+ghost use Rattle.codec.specs.Answers.{answerOf, outcomeOf};
 ghost use Rattle.codec.specs.Format.{allowed, putAnswer, putBuffer, writeAnswer, writeBuffer};
+ghost use Rattle.codec.specs.Reader.{unvalued};
 ghost use Rattle.compact_u64.specs.BigEndian.{bigEndian, readBigEndian};
 ghost use Rattle.compact_u64.specs.Number.{inlineLimit, widthExponent, minTag, numberBytes, standaloneBytes, readNumber, readStandalone, standalone};
-ghost use Rattle.compact_u64.specs.Answers.{bits, numberAnswer, refusalOf};
+ghost use Rattle.compact_u64.specs.Answers.{bits, numberAnswer};
 use codec::Decoded;
 use codec::Encoded;
 
@@ -137,13 +138,13 @@ pub fn relative_decode(
     DecodedU64::Value(v, n)
 }
 
-// A number's refusal as a record's; a value, which is none, counts as a fault.
-pub fn refusal(number: DecodedU64) -> Decoded
-    ensures { λ r. ⌜ r ≡ refusalOf number ⌝ }
+// A number's answer without its value.
+pub fn unvalued(number: DecodedU64) -> Decoded
+    ensures { λ r. ⌜ answerOf r tt ≡ unvalued (numberAnswer number) ⌝ }
 {
     match number {
+        DecodedU64::Value(_, n) => Decoded::Consumed(n),
         DecodedU64::EndOfInput => Decoded::EndOfInput,
-        DecodedU64::Value(_, _) => Decoded::TheirFault,
         DecodedU64::TheirFault => Decoded::TheirFault,
     }
 }

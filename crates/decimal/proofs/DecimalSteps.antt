@@ -9,8 +9,8 @@ use lib.Dec.{ltb}
 use borrow.Author.Tests.{ne-eqb, lt-ltb, le-ltb}
 use lib.ListN.{length, drop, getD, drop-of-length-le}
 use lib.Seq.{drop-cons}
+use Rattle.codec.specs.Answers.{Said, said, unsaid}
 use Rattle.decimal.specs.Decimal.{decimalValue, allDigits, isDecimal, digitsAfter, readDecimal}
-use Rattle.decimal.specs.declared.Decimal.the-variants.{Value, Refused}
 
 -- ---- one digit
 pub digits-next : (v : ℕ) (s : List ℕ) (i : ℕ) → i < length s → digitsAfter v (drop i s) ≡ digitsAfter (v * 10 + decimalValue (getD s i 0)) (drop (i + 1) s)
@@ -36,18 +36,18 @@ unfolding allDigits
 allDigits-end s i h = rw (drop-of-length-le s h)
 
 -- ---- the exits
-pub read-empty : (s : List ℕ) → length s ≡ 0 → readDecimal s ≡ Refused
+pub read-empty : (s : List ℕ) → length s ≡ 0 → readDecimal s ≡ unsaid 6
 unfolding readDecimal isDecimal
 read-empty [] h = refl
 read-empty (b ∷ s) h = absurd (omega arith)
 
-pub read-zero : (s : List ℕ) → getD s 0 0 ≡ 48 → length s ≡ 1 → readDecimal s ≡ Value 0
+pub read-zero : (s : List ℕ) → getD s 0 0 ≡ 48 → length s ≡ 1 → readDecimal s ≡ said 0
 unfolding readDecimal isDecimal digitsAfter decimalValue
 read-zero [] e h = absurd (omega arith)
 read-zero (b ∷ []) e h = rw e
 read-zero (b ∷ a ∷ s) e h = absurd (omega arith)
 
-pub read-leading-zero : (s : List ℕ) → 1 < length s → getD s 0 0 ≡ 48 → readDecimal s ≡ Refused
+pub read-leading-zero : (s : List ℕ) → 1 < length s → getD s 0 0 ≡ 48 → readDecimal s ≡ unsaid 6
 unfolding readDecimal isDecimal
 read-leading-zero [] h e = absurd (omega arith)
 read-leading-zero (b ∷ s) h e = rw (e, ne-eqb (length s) 0 (λ z. omega arith))
@@ -58,18 +58,18 @@ other-start [] h e = absurd (omega arith)
 other-start (b ∷ s) h e = rw (ne-eqb b 48 e)
 
 module _ (s : List ℕ) where
-  pub read-no-decimal : isDecimal s ≡ false → readDecimal s ≡ Refused
+  pub read-no-decimal : isDecimal s ≡ false → readDecimal s ≡ unsaid 6
   unfolding readDecimal
   read-no-decimal h = rw h
 
-  pub read-too-large : 2 ^ 64 ≤ digitsAfter 0 s → readDecimal s ≡ Refused
+  pub read-too-large : 2 ^ 64 ≤ digitsAfter 0 s → readDecimal s ≡ unsaid 6
   unfolding readDecimal
   read-too-large h = rw (le-ltb (digitsAfter 0 s) (2 ^ 64) h) (same (isDecimal s))
     where
-      same : (b : Bool) → cond b Refused Refused ≡ Refused
+      same : (b : Bool) → cond {A = Said ℕ} b (unsaid 6) (unsaid 6) ≡ unsaid 6
       same true = refl
       same false = refl
 
-  pub read-value : (v : ℕ) → isDecimal s ≡ true → digitsAfter 0 s ≡ v → v < 2 ^ 64 → readDecimal s ≡ Value v
+  pub read-value : (v : ℕ) → isDecimal s ≡ true → digitsAfter 0 s ≡ v → v < 2 ^ 64 → readDecimal s ≡ said v
   unfolding readDecimal
   read-value v d e h = rw (d, e, lt-ltb v (2 ^ 64) h)

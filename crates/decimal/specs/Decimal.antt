@@ -4,6 +4,7 @@ use mathlib.Core.Bool.{Bool, true, false, cond}
 use Prim.Native.Nat.{ℕ, _+_, _-_, _*_, _^_}
 use lib.Dec.{ltb, eqb}
 use lib.ListN.{length}
+use Rattle.codec.specs.Answers.{Said, said, unsaid}
 use Rattle.decimal.specs.declared.Decimal.{Decimal}
 use Rattle.decimal.specs.declared.Decimal.the-variants.{Value, Refused}
 
@@ -25,6 +26,11 @@ unfoldable pub digitsAfter : ℕ → List ℕ → ℕ
 digitsAfter v [] = v
 digitsAfter v (b ∷ s) = digitsAfter (v * 10 + decimalValue b) s
 
--- a number in decimal, below 2 ^ 64
-unfoldable pub readDecimal : List ℕ → Decimal
-readDecimal s = cond (isDecimal s) (cond (ltb (digitsAfter 0 s) (2 ^ 64)) (Value (digitsAfter 0 s)) Refused) Refused
+-- a number in decimal, below 2 ^ 64; any other text is 6
+unfoldable pub readDecimal : List ℕ → Said ℕ
+readDecimal s = cond (isDecimal s) (cond (ltb (digitsAfter 0 s) (2 ^ 64)) (said (digitsAfter 0 s)) (unsaid 6)) (unsaid 6)
+
+-- the number of the code's refusal
+abbrev pub decimalAnswer : Decimal → Said ℕ
+decimalAnswer (Value v) = said v
+decimalAnswer Refused = unsaid 6

@@ -1,6 +1,6 @@
 // Numbers in decimal, read.
 ghost use mathlib.Core.Path.{_≡_};
-ghost use Rattle.decimal.specs.Decimal.{decimalValue, readDecimal};
+ghost use Rattle.decimal.specs.Decimal.{decimalValue, readDecimal, decimalAnswer};
 
 // What reading a number finds. Refused: no digits, another byte, a leading zero, or 2^64 and above.
 pub enum Decimal {
@@ -23,7 +23,7 @@ fn decimal_value(b: u8) -> u64
 
 // Reads a number in decimal, without leading zeros.
 pub fn read_decimal(s: &[u8]) -> Decimal
-    ensures { λ r. ⌜ r ≡ readDecimal (now (s .entry)) ⌝ }
+    ensures { λ r. ⌜ decimalAnswer r ≡ readDecimal (now (s .entry)) ⌝ }
 {
     if s.len() == 0 {
         return Decimal::Refused;

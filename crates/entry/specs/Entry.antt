@@ -28,8 +28,8 @@ pub record TypedEntryValue (v : EntryValue) : Type 0 where
   pub digest : TypedId (v .digest)
 
 -- an entry lies inside a namespace and an area: the same namespace, a subspace and a path that the area includes, and a time in its range
-unfoldable pub liesInsideArea : List ℕ → AreaValue → EntryValue → Bool
-liesInsideArea n r v =
+unfoldable pub entryLiesInside : List ℕ → AreaValue → EntryValue → Bool
+entryLiesInside n r v =
     sameBytes n (v .namespace)
     && (includesSubspace (r .subspace) (some (v .subspace))
     && (isPrefix (r .path) (v .path)

@@ -5,14 +5,15 @@ use mathlib.Core.Option.{some}
 use Prim.Native.Nat.{ℕ}
 use Rattle.codec.specs.Bytes.{sameBytes, TypedId}
 use Rattle.compact_u64.specs.Number.{U64}
-use Rattle.path.specs.Record.{Path, componentsOf, pathFrom, sized, wellFormed, TypedPath}
-use Rattle.path.specs.Answers.{Said, saidIf}
+use Rattle.path.specs.Record.{Path, componentsOf, pathFrom, wellFormed, TypedPath}
+use Rattle.codec.specs.Answers.{Said}
+use Rattle.path.specs.Answers.{saidIf}
 use Rattle.grouping.specs.Record.{Area, subspaceOf, areaOf, wellFormedArea}
 use Rattle.grouping.specs.declared.AreaHead.{AreaHead}
 use Rattle.grouping.specs.Range.{includesTime}
 use Rattle.grouping.specs.Area.{includesSubspace}
 use Rattle.entry.specs.declared.EntryFields.{EntryFields}
-use Rattle.entry.specs.Entry.{EntryValue, liesInsideArea}
+use Rattle.entry.specs.Entry.{EntryValue, entryLiesInside}
 
 pub record Entry : Type 0 where
   pub «namespace_id» : List ℕ
@@ -67,10 +68,6 @@ entryWith f path = record {
 unfoldable pub wellFormedEntry : Entry → Bool
 wellFormedEntry e = wellFormed (e .path)
 
--- the sizes of its path alone
-unfoldable pub sizedEntry : Entry → Bool
-sizedEntry e = sized (e .path)
-
 -- what the language says of a record
 pub record TypedEntry (e : Entry) : Type 0 where
   pub namespace : TypedId (e .«namespace_id»)
@@ -81,12 +78,12 @@ pub record TypedEntry (e : Entry) : Type 0 where
   pub digest : TypedId (e .«payload_digest»)
 
 -- what lying inside asks of all but the paths
-unfoldable pub fieldsInside : List ℕ → AreaHead → EntryFields → Bool
-fieldsInside n h f =
+unfoldable pub fieldsLieInside : List ℕ → AreaHead → EntryFields → Bool
+fieldsLieInside n h f =
     sameBytes n (f .«namespace_id»)
     && (includesSubspace (subspaceOf (h .subspace)) (some (f .«subspace_id»))
     && includesTime (h .times) (f .timestamp))
 
 -- 5 unless both are well formed
-unfoldable pub entryInside : List ℕ → Area → Entry → Said Bool
-entryInside n r e = saidIf (wellFormedArea r && wellFormedEntry e) (liesInsideArea n (areaOf r) (entryOf e))
+unfoldable pub saysEntryInside : List ℕ → Area → Entry → Said Bool
+saysEntryInside n r e = saidIf (wellFormedArea r && wellFormedEntry e) (entryLiesInside n (areaOf r) (entryOf e))

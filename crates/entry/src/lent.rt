@@ -3,7 +3,7 @@ ghost use mathlib.Core.Path.{_≡_};
 ghost use Rattle.path.specs.Flat.{pathIn};
 ghost use Rattle.path.specs.Answers.{comparedAnswer};
 ghost use Rattle.grouping.specs.Record.{areaWith};
-ghost use Rattle.entry.specs.Record.{entryWith, entryInside};
+ghost use Rattle.entry.specs.Record.{entryWith, saysEntryInside};
 use crate::EntryFields;
 use grouping::AreaHead;
 use path::Compared;
@@ -16,7 +16,7 @@ pub fn lies_inside<'a>(
     area: AreaHead,
     area_path: &'a [u8],
 ) -> Compared
-    ensures { λ r. ⌜ comparedAnswer r ≡ entryInside namespace (areaWith area (pathIn (now («area_path» .entry)))) (entryWith fields (pathIn (now (path .entry)))) ⌝ }
+    ensures { λ r. ⌜ comparedAnswer r ≡ saysEntryInside namespace (areaWith area (pathIn (now («area_path» .entry)))) (entryWith fields (pathIn (now (path .entry)))) ⌝ }
 {
     let area_well = grouping::lent::well_formed(area, area_path);
     if !area_well {

@@ -1,6 +1,6 @@
 // Entries: docs/FORMAT.md, "Entries". A port of entry.rs, as far as the codecs use it.
 ghost use mathlib.Core.Path.{_≡_};
-ghost use Rattle.entry.specs.Record.{fieldsInside};
+ghost use Rattle.entry.specs.Record.{fieldsLieInside};
 ghost use Rattle.entry.specs.Answers.{fieldsRefusal};
 use codec::Decoded;
 use grouping::AreaHead;
@@ -42,7 +42,7 @@ pub fn refuse_fields(answer: Decoded) -> DecodedFields
 impl EntryFields {
     // Whether what an entry has beside its path lies inside a namespace and what an area has beside its own.
     pub fn lies_inside(self, namespace: [u8; 32], reference: AreaHead) -> bool
-        ensures { λ r. ⌜ r ≡ fieldsInside namespace reference self ⌝ }
+        ensures { λ r. ⌜ r ≡ fieldsLieInside namespace reference self ⌝ }
     {
         let id = self.namespace_id;
         let same = byte_codec::same_bytes(&namespace, &id);

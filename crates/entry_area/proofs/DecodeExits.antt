@@ -24,7 +24,7 @@ use Rattle.entry_area.proofs.Id.{id-bounded}
 use Rattle.entry_area_end.specs.declared.EntryAreaHeader.{EntryAreaHeader}
 use Rattle.entry_area_end.specs.declared.End.{End}
 use Rattle.entry_area_end.specs.Header.{unpackHeader}
-use Rattle.entry_area_end.specs.End.{readEnd}
+use Rattle.entry_area_end.specs.End.{readAfterPath}
 use Rattle.entry_area_end.proofs.Reading.{end-bounded}
 use Rattle.entry_area.specs.Entry.{readId, readRest, readParts, readEntry}
 use Rattle.entry_area.specs.Records.{readAgainstNamespaceArea}
@@ -77,13 +77,13 @@ module _ (canonic : Bool) (n i : List ℕ) (r : Path) (w : wellFormed r ≡ true
     pub within-inside : b ≤ length s
     within-inside = checked-bounded (isPrefix (componentsOf r)) _ (against-bounded (componentsOf r) canonic) .bound s _ _ (read .1)
 
-    pub within-end : (k : ℕ) → readEnd canonic times h (drop b s) ≡ refused k → mapped entryFrom (readRest canonic n i (componentsOf r) times h) s ≡ refused k
+    pub within-end : (k : ℕ) → readAfterPath canonic times h (drop b s) ≡ refused k → mapped entryFrom (readRest canonic n i (componentsOf r) times h) s ≡ refused k
     unfolding readRest
     within-end k g =
         let (cs, f, q) = read in
         rw (f, g)
 
-    module _ (z : End) (c : ℕ) (g : readEnd canonic times h (drop b s) ≡ accepted z c) where
+    module _ (z : End) (c : ℕ) (g : readAfterPath canonic times h (drop b s) ≡ accepted z c) where
       pub within-whole : b + c ≤ length s
       within-whole = omega (arith, within-inside, end-bounded times h canonic .bound (drop b s) z c g, length-drop b s)
 

@@ -2,9 +2,10 @@
 use Rattle.codec.proofs.Prelude.{_≡_, refl, _∙_, List, [], _∷_, _++_, Bool, true, false, some, ℕ, arith, eqb, eqb-true}
 use Rattle.codec.specs.Answers.{refused}
 use Rattle.codec.specs.Bytes.{sameBytes, TypedId}
-use Rattle.codec.specs.Header.{readHeader, HeaderAs}
+use Rattle.codec.specs.Header.{readHeader}
+use Rattle.codec.proofs.Relations.{HeaderAs, Tested, Mapped, Joined}
 use Rattle.codec.specs.Reader.{checked}
-use Rattle.codec.specs.Reads.{Reads, ReadsBack, Relaxes, Tested, Mapped, Joined}
+use Rattle.codec.specs.Reads.{Reads, ReadsBack, Relaxes}
 use Rattle.codec.proofs.Tests.{and-left, and-right}
 use Rattle.codec.proofs.SameBytes.{same-eq, same-refl}
 use Rattle.codec.proofs.Header.{header-reads}
@@ -13,20 +14,26 @@ use Rattle.codec.proofs.Relaxes.{relaxes-back, relaxes-self, then-relaxes, guar
 use Rattle.path.specs.Limits.{PathOk}
 use Rattle.path.specs.Prefix.{isPrefix}
 use Rattle.path.proofs.Limits.{typed-of}
-use Rattle.path_relative.specs.Against.{againstBytes, readAgainst, AgainstAs}
+use Rattle.path_relative.specs.Against.{againstBytes, readAgainst}
+use Rattle.path_relative.proofs.Relations.{AgainstAs}
 use Rattle.path_relative.proofs.Against.{against-reads, against-relaxes}
 use Rattle.grouping.specs.Range.{TypedRange, includesTime}
 use Rattle.grouping.specs.Area.{AreaValue, TypedSubspace, includesSubspace}
-use Rattle.entry.specs.Entry.{EntryValue, liesInsideArea}
+use Rattle.entry.specs.Entry.{EntryValue, entryLiesInside}
 use Rattle.entry_area_end.specs.declared.EntryAreaHeader.{EntryAreaHeader}
-use Rattle.entry_area_end.specs.Header.{unpackHeader, packHeader, HeaderFits}
+use Rattle.entry_area_end.specs.Header.{unpackHeader, packHeader}
+use Rattle.entry_area_end.specs.inside.Header.{HeaderFits}
 use Rattle.entry_area_end.specs.End.{headerOf, endFrom}
-use Rattle.entry_area_end.specs.Relations.{EndAs}
+use Rattle.entry_area_end.proofs.Relations.{EndAs}
 use Rattle.entry_area_end.proofs.HeaderLayout.{header-layout, header-fits}
 use Rattle.entry_area_end.proofs.Reading.{end-reads, end-relaxes}
-use Rattle.entry_area.specs.Entry.{isAny, entryHeader, idBytes, endBytes, restBytes, entryBytes, readId, valueFrom, readRest, readParts, readEntry}
-use Rattle.entry_area.specs.Relations.{IdAs, EntryAs}
+use Rattle.entry_area.specs.Entry.{isAny, idBytes, afterPathBytes, restBytes, entryBytes, readId, valueFrom, readRest, readParts, readEntry}
+use Rattle.entry_area.specs.Relations.{EntryAs}
+use Rattle.entry_area.proofs.Relations.{IdAs}
 use Rattle.entry_area.proofs.Id.{id-reads}
+
+abbrev entryHeader : AreaValue → EntryValue → EntryAreaHeader
+entryHeader r v = headerOf (isAny (r .subspace)) (r .times) (v .time) (v .size)
 
 -- ---- lies inside, part by part
 pub record Inside (n : List ℕ) (r : AreaValue) (v : EntryValue) : Type 0 where
@@ -35,15 +42,15 @@ pub record Inside (n : List ℕ) (r : AreaValue) (v : EntryValue) : Type 0 where
   pub prefix : isPrefix (r .path) (v .path) ≡ true
   pub time : includesTime (r .times) (v .time) ≡ true
 
-pub inside : (n : List ℕ) (r : AreaValue) (v : EntryValue) → liesInsideArea n r v ≡ true → Inside n r v
-unfolding liesInsideArea
+pub inside : (n : List ℕ) (r : AreaValue) (v : EntryValue) → entryLiesInside n r v ≡ true → Inside n r v
+unfolding entryLiesInside
 inside n r v e =
     let s = and-right (sameBytes n (v .namespace)) _ e in
     let p = and-right (includesSubspace (r .subspace) (some (v .subspace))) _ s in
     record { namespace = and-left _ _ e; subspace = and-left _ _ s; prefix = and-left _ _ p; time = and-right (isPrefix (r .path) (v .path)) _ p }
 
-inside-of : (n : List ℕ) (r : AreaValue) (v : EntryValue) → Inside n r v → liesInsideArea n r v ≡ true
-unfolding liesInsideArea
+inside-of : (n : List ℕ) (r : AreaValue) (v : EntryValue) → Inside n r v → entryLiesInside n r v ≡ true
+unfolding entryLiesInside
 inside-of n r v i = rw (i .namespace, i .subspace, i .prefix, i .time)
 
 -- ---- reading
@@ -102,7 +109,7 @@ module _ (n : List ℕ) (r : AreaValue) where
             second = record {
               value = v .path;
               front = againstBytes (r .path) (v .path);
-              rear = endBytes (r .times) v;
+              rear = afterPathBytes (r .times) v;
               whole = refl;
               first = (i .prefix, record { ok = x .path; bytes = refl });
               second = record {

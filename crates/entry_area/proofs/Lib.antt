@@ -3,3 +3,5 @@ pub mod Entry
 pub mod Records
 pub mod Writing
 pub mod DecodeExits
+pub mod Relations
+pub mod Orders

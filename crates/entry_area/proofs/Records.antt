@@ -14,7 +14,7 @@ use Rattle.grouping.specs.Record.{Area, areaOf, wellFormedArea, TypedArea}
 use Rattle.grouping.specs.Area.{AreaValue}
 use Rattle.grouping.proofs.Record.{apart-area}
 use Rattle.entry.specs.Record.{Entry, entryOf, entryFrom, wellFormedEntry, TypedEntry}
-use Rattle.entry.specs.Entry.{EntryValue, TypedEntryValue, liesInsideArea}
+use Rattle.entry.specs.Entry.{EntryValue, TypedEntryValue, entryLiesInside}
 use Rattle.entry.proofs.Record.{apart-entry, made-entry}
 use Rattle.entry_area.specs.Entry.{entryBytes, readEntry}
 use Rattle.entry_area.specs.Records.{againstNamespaceArea, readAgainstNamespaceArea}
@@ -24,32 +24,32 @@ use Rattle.entry_area.proofs.Entry.{entry-reads, entry-reads-back, entr
 -- ---- on values
 module _ (n : List ℕ) (r : AreaValue) where
   abbrev onValues : Format EntryValue
-  onValues = record { check = λ v. verdictBy (pathOk (v .path)) (liesInsideArea n r v); encode = entryBytes r }
+  onValues = record { check = λ v. verdictBy (pathOk (v .path)) (entryLiesInside n r v); encode = entryBytes r }
 
   entry-writes : (v : EntryValue) (e : List ℕ) → EntryAs n r v e → Writes TypedEntryValue onValues v e
   entry-writes v e x = record { valid = record { typed = x .typed; allows = rw (ok-path (v .path) (x .path), x .inside) }; bytes = x .bytes }
 
   writes-entry : (v : EntryValue) (e : List ℕ) → Writes TypedEntryValue onValues v e → EntryAs n r v e
   writes-entry v e w =
-      let k = verdict-allowed (pathOk (v .path)) (liesInsideArea n r v) (w .valid .allows) in
+      let k = verdict-allowed (pathOk (v .path)) (entryLiesInside n r v) (w .valid .allows) in
       record { typed = w .valid .typed; path = path-ok (v .path) (w .valid .typed .path) (k .0); inside = k .1; bytes = w .bytes }
 
 -- ---- on records
 module _ (n : List ℕ) (id : TypedId n) (r : Area) (t : TypedArea r) (w : wellFormedArea r ≡ true) where
   abbrev onRecords : Format Entry
-  onRecords = record { check = λ e. verdictBy (wellFormedEntry e) (liesInsideArea n (areaOf r) (entryOf e)); encode = λ e. entryBytes (areaOf r) (entryOf e) }
+  onRecords = record { check = λ e. verdictBy (wellFormedEntry e) (entryLiesInside n (areaOf r) (entryOf e)); encode = λ e. entryBytes (areaOf r) (entryOf e) }
 
   record-out : (e : Entry) → Valid TypedEntry onRecords e → Valid TypedEntryValue (onValues n (areaOf r)) (entryOf e) × (entryFrom (entryOf e) ≡ e)
   record-out e v =
-      let ok = verdict-allowed (wellFormedEntry e) (liesInsideArea n (areaOf r) (entryOf e)) (v .allows) in
+      let ok = verdict-allowed (wellFormedEntry e) (entryLiesInside n (areaOf r) (entryOf e)) (v .allows) in
       let x = apart-entry e (v .typed) (ok .0) in
       (record { typed = x .typed; allows = rw (ok-path (entryOf e .path) (x .ok), ok .1) }, x .made)
 
   record-in : (v : EntryValue) → Valid TypedEntryValue (onValues n (areaOf r)) v → Valid TypedEntry onRecords (entryFrom v) × (entryOf (entryFrom v) ≡ v)
   record-in v a =
-      let ok = verdict-allowed (pathOk (v .path)) (liesInsideArea n (areaOf r) v) (a .allows) in
+      let ok = verdict-allowed (pathOk (v .path)) (entryLiesInside n (areaOf r) v) (a .allows) in
       let x = made-entry v (a .typed) (path-ok (v .path) (a .typed .path) (ok .0)) in
-      (record { typed = x .typed; allows = rw (x .well) (ap (verdictBy true) (ap (liesInsideArea n (areaOf r)) (x .back) ∙ ok .1)) }, x .back)
+      (record { typed = x .typed; allows = rw (x .well) (ap (verdictBy true) (ap (entryLiesInside n (areaOf r)) (x .back) ∙ ok .1)) }, x .back)
 
   pub entry-lawful : Lawful TypedEntry (againstNamespaceArea n r) (readAgainstNamespaceArea true n r)
   unfolding readAgainstNamespaceArea

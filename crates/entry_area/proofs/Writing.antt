@@ -1,31 +1,34 @@
 -- What the writers' definitions say at each step of the code.
-use Rattle.codec.proofs.Prelude.{_≡_, refl, sym, ap, _∙_, List, [], _∷_, Bool, true, false, cond, _&&_, and-false, none, some, ℕ, _≤_, arith, eqb, eq-eqb, ne-eqb, length, length-append}
-use Rattle.codec.specs.Format.{Format, allowed, barred, verdictBy}
-use Rattle.codec.proofs.Tests.{and-left, and-right}
+use Rattle.codec.proofs.Prelude.{_≡_, refl, sym, ap, _∙_, List, [], _∷_, Bool, true, false, cond, _&&_, none, some, ℕ, _≤_, arith, eqb-true, length, length-append}
+use Rattle.codec.specs.Format.{Format, allowed, refusedValue}
 use Rattle.compact_u64.specs.Number.{standaloneBytes}
 use Rattle.compact_u64.proofs.Standalone.{standalone-short}
 use Rattle.path.specs.Record.{Path, componentsOf, sized, wellFormed}
 use Rattle.path.specs.Flat.{pathIn, lent}
 use Rattle.path.specs.Prefix.{shared, isPrefix}
-use Rattle.path.specs.Answers.{said, unsaid, saidIf}
+use Rattle.codec.specs.Answers.{Said, said, unsaid}
+use Rattle.codec.proofs.Tests.{and-left, and-right}
 use Rattle.path.proofs.Verdicts.{said-known, unsaid-known}
-use Rattle.path.proofs.Components.{sized-formed, well-sized}
-use Rattle.path.proofs.Compare.{prefix-told}
+use Rattle.path.proofs.Components.{Formed, sized-formed, parts-formed, count-is}
+use Rattle.path.proofs.Records.{lent-known}
 use Rattle.path_suffix.specs.Suffix.{suffixBy}
 use Rattle.path_relative.specs.Records.{sharedBy}
 use Rattle.path_relative.proofs.Writing.{within-by}
+use Rattle.path_relative.proofs.Lent.{rest-allowed}
 use Rattle.grouping.specs.declared.TimeRange.{TimeRange}
 use Rattle.grouping.specs.declared.AreaSubspace.{AreaSubspace}
-use Rattle.grouping.specs.Record.{Area, subspaceOf, areaWith, sizedArea, wellFormedSubspace, wellFormedArea}
+use Rattle.grouping.specs.Record.{Area, subspaceOf, areaOf, areaWith, wellFormedSubspace, wellFormedArea}
 use Rattle.grouping.specs.declared.AreaHead.{AreaHead}
-use Rattle.entry.specs.Record.{Entry, entryWith, sizedEntry, wellFormedEntry, fieldsInside}
+use Rattle.entry.specs.Record.{Entry, entryOf, entryWith, wellFormedEntry, fieldsLieInside, saysEntryInside}
+use Rattle.entry.specs.Entry.{entryLiesInside}
 use Rattle.entry.specs.declared.EntryFields.{EntryFields}
 use Rattle.entry.proofs.Compare.{inside-by}
 use Rattle.entry_area_end.specs.declared.End.{End}
 use Rattle.entry_area_end.specs.Header.{packHeader}
 use Rattle.entry_area_end.specs.End.{headerOf}
 use Rattle.entry_area.specs.Entry.{isAny, idBytes, entryBytes, startOf}
-use Rattle.entry_area.specs.Records.{knownBytes, againstNamespaceAreaBy, againstNamespaceArea}
+use Rattle.entry_area.specs.Records.{againstNamespaceArea}
+use Rattle.entry_area.specs.inside.Writing.{knownBytes}
 
 -- ---- the id
 pub any-is : (s : AreaSubspace) → isAny (subspaceOf s) ≡ s .any
@@ -53,61 +56,56 @@ pub shared-short : (p : Path) (k : ℕ) → sharedBy sized k .check p ≡ allowe
 shared-short p k ok =
     omega (arith, length-append (standaloneBytes k) (suffixBy sized k .encode p), standalone-short k .1, within-by sized p k sized-formed ok)
 
--- ---- what comparing the paths, and all beside them, tells of an entry with a path p against an area whose path is lent as s
+-- ---- what is told of an entry with a path p against an area whose path is lent as s
 module _ (n : List ℕ) (h : AreaHead) (f : EntryFields) (s : List ℕ) (p : Path) where
   abbrev against : Format Entry
-  against = againstNamespaceAreaBy sizedArea sizedEntry n (areaWith h (pathIn s))
+  against = againstNamespaceArea n (areaWith h (pathIn s))
+
+  abbrev inside : Said Bool
+  inside = saysEntryInside n (areaWith h (pathIn s)) (entryWith f p)
 
   abbrev both : Bool
-  both = sized (pathIn s) && sized p
+  both = wellFormedArea (areaWith h (pathIn s)) && wellFormedEntry (entryWith f p)
 
-  abbrev common : ℕ
-  common = shared (componentsOf (pathIn s)) (componentsOf p)
+  abbrev lies : Bool
+  lies = entryLiesInside n (areaOf (areaWith h (pathIn s))) (entryOf (entryWith f p))
 
-  pub unformed : unsaid 5 ≡ saidIf both common → against .check (entryWith f p) ≡ barred 5
-  unfolding sizedArea sizedEntry
-  unformed e = rw (unsaid-known both common 5 e .0)
+  pub unformed : unsaid 5 ≡ inside → against .check (entryWith f p) ≡ refusedValue 5
+  unfolding saysEntryInside
+  unformed e = rw (unsaid-known both lies 5 e .0)
 
-  module _ (k : ℕ) (e : said k ≡ saidIf both common) where
-    told : (c : ℕ) → c ≡ lent 0 (λ x. x .count) s → against .check (entryWith f p) ≡ verdictBy true (eqb k c && fieldsInside n h f)
-    unfolding sizedArea sizedEntry
-    told c count =
-        let prefix = isPrefix (componentsOf (pathIn s)) (componentsOf p) in
-        let x = said-known both prefix (eqb k c) (prefix-told (pathIn s) p s refl k c e count) in
-        rw (x .0, inside-by n h f (pathIn s) p, x .1)
+  pub outside : said false ≡ inside → against .check (entryWith f p) ≡ refusedValue 3
+  unfolding saysEntryInside
+  outside e = let x = said-known both lies false e in rw (x .0, x .1)
 
-    module _ (c : ℕ) (count : c ≡ lent 0 (λ x. x .count) s) where
-      pub not-prefix : (k ≡ c → ⊥) → against .check (entryWith f p) ≡ barred 3
-      not-prefix ne = told c count ∙ rw (ne-eqb k c ne)
+  module _ (e : said true ≡ inside) where
+    known : (both ≡ true) × (lies ≡ true)
+    unfolding saysEntryInside
+    known = said-known both lies true e
 
-      pub not-inside : fieldsInside n h f ≡ false → against .check (entryWith f p) ≡ barred 3
-      not-inside i = told c count ∙ rw (i, and-false (eqb k c))
+    pub contained : against .check (entryWith f p) ≡ allowed
+    contained = rw (known .0, known .1)
 
-      pub contained : k ≡ c → fieldsInside n h f ≡ true → against .check (entryWith f p) ≡ allowed
-      contained same i = told c count ∙ rw (eq-eqb k c same, i)
-
-    pub entry-bytes : against .encode (entryWith f p) ≡ knownBytes h f p k
-    unfolding entryBytes
-    entry-bytes = rw (said-known both common k e .1)
-
--- ---- tested whole
-module _ (n : List ℕ) (r : Area) (e : Entry) where
-  entry-whole : wellFormedArea r ≡ true → wellFormedEntry e ≡ true → againstNamespaceAreaBy sizedArea sizedEntry n r .check e ≡ againstNamespaceArea n r .check e
-  unfolding wellFormedArea wellFormedEntry sizedArea sizedEntry
-  entry-whole v w =
-      let x = well-sized (r .path) (and-right (wellFormedSubspace (r .subspace)) (wellFormed (r .path)) v) in
-      rw (v, w, x, well-sized (e .path) w)
-
-  -- part by part
-  pub subspace-malformed : wellFormedSubspace (r .subspace) ≡ false → againstNamespaceArea n r .check e ≡ barred 5
-  unfolding wellFormedArea
-  subspace-malformed v = rw v
-
-  module _ (v : wellFormedSubspace (r .subspace) ≡ true) where
-    pub paths-malformed : (wellFormed (r .path) && wellFormed (e .path)) ≡ false → againstNamespaceArea n r .check e ≡ barred 5
+    paths : (wellFormed (pathIn s) && wellFormed p) ≡ true
     unfolding wellFormedArea wellFormedEntry
-    paths-malformed w = rw (v, w)
+    paths =
+        let area = and-left (wellFormedArea (areaWith h (pathIn s))) (wellFormed p) (known .0) in
+        rw (and-right (wellFormedSubspace (h .subspace)) (wellFormed (pathIn s)) area) (and-right (wellFormedArea (areaWith h (pathIn s))) (wellFormed p) (known .0))
 
-    pub paths-whole : (wellFormed (r .path) && wellFormed (e .path)) ≡ true → againstNamespaceAreaBy sizedArea sizedEntry n r .check e ≡ againstNamespaceArea n r .check e
-    unfolding wellFormedArea wellFormedEntry
-    paths-whole w = entry-whole (rw (v, and-left (wellFormed (r .path)) (wellFormed (e .path)) w)) (and-right (wellFormed (r .path)) (wellFormed (e .path)) w)
+    prefixed : shared (componentsOf (pathIn s)) (componentsOf p) ≡ length (componentsOf (pathIn s))
+    unfolding isPrefix
+    prefixed = eqb-true _ _ (and-left (isPrefix (componentsOf (pathIn s)) (componentsOf p)) (fieldsLieInside n h f) (sym (inside-by n h f (pathIn s) p) ∙ known .1))
+
+    -- all components of the area's path are shared
+    module _ (k : ℕ) (count : k ≡ lent 0 (λ x. x .count) s) where
+      all-shared : shared (componentsOf (pathIn s)) (componentsOf p) ≡ k
+      all-shared =
+          let w : Formed (pathIn s) = parts-formed (and-left (wellFormed (pathIn s)) (wellFormed p) paths) in
+          prefixed ∙ count-is (pathIn s) w ∙ sym (count ∙ lent-known s w 0 (λ x. x .count))
+
+      pub shared-allowed : sharedBy sized k .check p ≡ allowed
+      shared-allowed = rest-allowed (pathIn s) p k (rw (paths, all-shared))
+
+      pub entry-bytes : against .encode (entryWith f p) ≡ knownBytes h f p k
+      unfolding entryBytes
+      entry-bytes = rw all-shared

@@ -14,15 +14,12 @@ use Rattle.entry.specs.Entry.{EntryValue}
 use Rattle.entry_area_end.specs.declared.EntryAreaHeader.{EntryAreaHeader}
 use Rattle.entry_area_end.specs.declared.End.{End}
 use Rattle.entry_area_end.specs.Header.{unpackHeader, packHeader}
-use Rattle.entry_area_end.specs.End.{headerOf, endOf, endFrom, readEnd}
+use Rattle.entry_area_end.specs.End.{headerOf, endOf, endFrom, readAfterPath}
 
 -- ---- writing: header, id, path against the area's, time difference, payload length, digest. The id is written where the area has any subspace
 abbrev pub isAny : Option (List ℕ) → Bool
 isAny none = true
 isAny (some id) = false
-
-abbrev pub entryHeader : AreaValue → EntryValue → EntryAreaHeader
-entryHeader r v = headerOf (isAny (r .subspace)) (r .times) (v .time) (v .size)
 
 abbrev pub idBytes : Option (List ℕ) → List ℕ → List ℕ
 idBytes none id = id
@@ -39,11 +36,11 @@ startOf r s id e = packHeader (headerOf (isAny s) r (e .timestamp) (e .«payload
 abbrev pub startBytes : AreaValue → EntryValue → List ℕ
 startBytes r v = startOf (r .times) (r .subspace) (v .subspace) (valueEnd v)
 
-abbrev pub endBytes : TimeRange → EntryValue → List ℕ
-endBytes r v = endOf r (valueEnd v)
+abbrev pub afterPathBytes : TimeRange → EntryValue → List ℕ
+afterPathBytes r v = endOf r (valueEnd v)
 
 abbrev pub restBytes : AreaValue → EntryValue → List ℕ
-restBytes r v = againstBytes (r .path) (v .path) ++ endBytes (r .times) v
+restBytes r v = againstBytes (r .path) (v .path) ++ afterPathBytes (r .times) v
 
 unfoldable pub entryBytes : AreaValue → EntryValue → List ℕ
 entryBytes r v = startBytes r v ++ restBytes r v
@@ -70,7 +67,7 @@ unfoldable pub readRest : Bool → List ℕ → List ℕ → List (List ℕ) →
 readRest canonic n subspace r times h =
     andThen (checked (isPrefix r) (readAgainst canonic r)) (λ path.
     mapped (valueFrom n subspace path) (
-    readEnd canonic times h))
+    readAfterPath canonic times h))
 
 unfoldable pub readParts : Bool → List ℕ → AreaValue → EntryAreaHeader → Reader EntryValue
 readParts canonic n r h =

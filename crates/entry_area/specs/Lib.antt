@@ -1,3 +1,4 @@
 pub mod Entry
 pub mod Records
 pub mod Relations
+pub mod inside

@@ -3,14 +3,14 @@ ghost use mathlib.Core.Path.{_≡_};
 ghost use mathlib.Core.List.{List};
 ghost use Prim.Native.Nat.{ℕ, _+_, _≤_};
 ghost use lib.ListN.{length};
-ghost use Rattle.codec.specs.Answers.{outcomeOf};
+ghost use Rattle.codec.specs.Answers.{wrote, outcomeOf};
 ghost use Rattle.codec.specs.Format.{allowed, over, putAnswer, putBuffer};
 ghost use Rattle.path.specs.Record.{sized};
 ghost use Rattle.path.specs.Flat.{pathIn};
 ghost use Rattle.path_relative.specs.Records.{sharedBy};
 ghost use Rattle.grouping.specs.Record.{subspaceOf};
 ghost use Rattle.entry_area.specs.Entry.{idBytes, startOf};
-ghost use Rattle.entry_area.specs.Records.{endIn, tailBytes, knownBytes};
+ghost use Rattle.entry_area.specs.inside.Writing.{endIn, tailBytes, knownBytes};
 use codec::Encoded;
 use entry::EntryFields;
 use entry_area_end::End;
@@ -19,7 +19,7 @@ use grouping::AreaSubspace;
 use grouping::TimeRange;
 
 // What stands after the path.
-pub(crate) fn end_of(fields: EntryFields) -> End
+fn end_of(fields: EntryFields) -> End
     ensures { λ r. ⌜ r ≡ endIn fields ⌝ }
 {
     let digest = fields.payload_digest;
@@ -31,13 +31,27 @@ pub(crate) fn end_of(fields: EntryFields) -> End
 }
 
 // How many bytes the header and the id of an entry take.
-pub(crate) fn start_len(subspace: AreaSubspace) -> usize
+fn start_len(subspace: AreaSubspace) -> usize
     ensures { λ r. ⌜ ((id : List ℕ) → length id ≡ 32 → r ≡ 1 + length (idBytes (subspaceOf subspace) id)) × (r ≤ 33) ⌝ }
 {
     if subspace.any {
         return 33;
     }
     1
+}
+
+// How many bytes an entry takes whose path shares `k` components with the area's.
+pub(crate) fn entry_len(fields: EntryFields, path: &[u8], reference: AreaHead, k: usize) -> Encoded
+    requires { ⌜ sharedBy sized k .check (pathIn (now path)) ≡ allowed ⌝ }
+    ensures { λ r. ⌜ outcomeOf r ≡ wrote (length (knownBytes reference fields (pathIn (now (path .entry))) k)) ⌝ }
+{
+    let shared = path_relative_encode::sized::shared_len(path, k);
+    let Encoded::Length(n) = shared else {
+        return shared;
+    };
+    let a = start_len(reference.subspace);
+    let end = end_of(fields);
+    Encoded::Length(a + n + entry_area_end::relative_len_of_encoding(end, reference.times))
 }
 
 // The header and the id.

@@ -9,9 +9,9 @@ ghost use Rattle.entry_area.specs.Records.{againstNamespaceArea};
 use codec::Encoded;
 use entry::EntryFields;
 use grouping::AreaHead;
+use path::Compared;
 
 mod entry_encode;
-pub mod sized;
 
 // How many bytes an entry against a namespace and an area takes.
 pub fn relative_len_of_encoding<'a>(
@@ -23,15 +23,17 @@ pub fn relative_len_of_encoding<'a>(
 ) -> Encoded
     ensures { λ r. ⌜ outcomeOf r ≡ lengthAnswer (againstNamespaceArea namespace (areaWith reference (pathIn (now («reference_path» .entry))))) (entryWith fields (pathIn (now (path .entry)))) ⌝ }
 {
-    let well = reference.subspace.well_formed();
-    if !well {
-        return Encoded::Malformed;
+    let inside = entry::lent::lies_inside(fields, path, namespace, reference, reference_path);
+    match inside {
+        Compared::Yes => entry_encode::entry_len(
+            fields,
+            path,
+            reference,
+            path::lent::count(reference_path),
+        ),
+        Compared::No => Encoded::Outside,
+        Compared::Malformed => Encoded::Malformed,
     }
-    let formed = path::lent::both_formed(reference_path, path);
-    if !formed {
-        return Encoded::Malformed;
-    }
-    sized::relative_len_of_encoding(fields, path, namespace, reference, reference_path)
 }
 
 // Writes an entry against a namespace and an area.
@@ -45,13 +47,16 @@ pub fn relative_encode<'a>(
 ) -> Encoded
     ensures { λ r. ⌜ WritesInto (againstNamespaceArea namespace (areaWith reference (pathIn (now («reference_path» .entry))))) (entryWith fields (pathIn (now (path .entry)))) r (now (buffer .entry)) (now (buffer .exit)) ⌝ }
 {
-    let well = reference.subspace.well_formed();
-    if !well {
-        return Encoded::Malformed;
+    let inside = entry::lent::lies_inside(fields, path, namespace, reference, reference_path);
+    match inside {
+        Compared::Yes => entry_encode::put_entry(
+            buffer,
+            fields,
+            path,
+            reference,
+            path::lent::count(reference_path),
+        ),
+        Compared::No => Encoded::Outside,
+        Compared::Malformed => Encoded::Malformed,
     }
-    let formed = path::lent::both_formed(reference_path, path);
-    if !formed {
-        return Encoded::Malformed;
-    }
-    sized::relative_encode(buffer, fields, path, namespace, reference, reference_path)
 }

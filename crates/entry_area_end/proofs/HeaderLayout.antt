@@ -1,11 +1,12 @@
 -- The header of an entry: packing and taking apart undo each other. No law here knows a place.
 use Rattle.codec.proofs.Prelude.{_≡_, refl, Bool, ℕ, _+_, _≤_, _<_, arith}
-use Rattle.codec.specs.Header.{field, placed, bit, Layout}
+use Rattle.codec.specs.Header.{bitsAt, placed, bit, Layout}
 use Rattle.codec.proofs.Header.{field-fits, bit-small, flag-of, same-bytes}
 use Rattle.compact_u64.proofs.Tags.{min-tag-fits}
 use Rattle.grouping.specs.declared.TimeRange.{TimeRange}
 use Rattle.entry_area_end.specs.declared.EntryAreaHeader.{EntryAreaHeader}
-use Rattle.entry_area_end.specs.Header.{idWrittenAt, timeAddedAt, timeTagAt, lengthTagAt, spareAt, unpackHeader, packHeader, HeaderFits}
+use Rattle.entry_area_end.specs.Header.{idWrittenAt, timeAddedAt, timeTagAt, lengthTagAt, spareAt, unpackHeader, packHeader}
+use Rattle.entry_area_end.specs.inside.Header.{HeaderFits}
 use Rattle.entry_area_end.specs.End.{headerOf}
 
 -- the sum of the parts, each a number that fits its bits
@@ -14,11 +15,11 @@ sum id added s t u = placed idWrittenAt 1 id + placed timeAddedAt 1 added + plac
 
 record Parts (p id added s t u : ℕ) : Type 0 where
   byte : p < 256
-  id-is : field idWrittenAt 1 p ≡ id
-  added-is : field timeAddedAt 1 p ≡ added
-  s-is : field timeTagAt 2 p ≡ s
-  t-is : field lengthTagAt 2 p ≡ t
-  u-is : field spareAt 2 p ≡ u
+  id-is : bitsAt idWrittenAt 1 p ≡ id
+  added-is : bitsAt timeAddedAt 1 p ≡ added
+  s-is : bitsAt timeTagAt 2 p ≡ s
+  t-is : bitsAt lengthTagAt 2 p ≡ t
+  u-is : bitsAt spareAt 2 p ≡ u
 
 parts : (id added s t u : ℕ) → id ≤ 1 → added ≤ 1 → s < 4 → t < 4 → u < 4 → Parts (sum id added s t u) id added s t u
 parts id added s t u a b c d e = record { byte = omega arith; id-is = omega arith; added-is = omega arith; s-is = omega arith; t-is = omega arith; u-is = omega arith }

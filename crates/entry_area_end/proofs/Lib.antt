@@ -1,3 +1,4 @@
 pub mod HeaderLayout
 pub mod Reading
 pub mod Writing
+pub mod Relations

@@ -2,7 +2,8 @@
 use Rattle.codec.proofs.Prelude.{_≡_, refl, _∙_, List, _++_, Bool, true, false, ℕ, _+_, _≤_, arith, length, drop, length-drop, drop-drop}
 use Rattle.codec.specs.Answers.{accepted, refused}
 use Rattle.codec.specs.Reader.{someBytes}
-use Rattle.codec.specs.Reads.{Reads, Relaxes, Bounded, SomeBytes, Mapped, Joined}
+use Rattle.codec.specs.Reads.{Reads, Relaxes, Bounded}
+use Rattle.codec.proofs.Relations.{SomeBytes, Mapped, Joined}
 use Rattle.codec.proofs.Readers.{reads-as, then-reads, mapped-reads, someBytes-reads}
 use Rattle.codec.proofs.Relaxes.{relaxes-self, then-relaxes, mapped-relaxes}
 use Rattle.codec.proofs.Bounded.{then-bounded, mapped-bounded, someBytes-bounded}
@@ -11,12 +12,13 @@ use Rattle.compact_u64.specs.Laws.{NumberAs}
 use Rattle.compact_u64.proofs.Number.{number-reads, number-relaxes, number-bounded}
 use Rattle.grouping.specs.declared.TimeRange.{TimeRange}
 use Rattle.grouping.specs.Range.{TypedRange}
-use Rattle.time_relative.specs.Difference.{differenceOf, readIncluded, IncludedAs}
+use Rattle.time_relative.specs.Difference.{differenceOf, readIncluded}
+use Rattle.time_relative.proofs.Relations.{IncludedAs}
 use Rattle.time_relative.proofs.Included.{included-reads, included-relaxes, included-bounded}
 use Rattle.entry_area_end.specs.declared.EntryAreaHeader.{EntryAreaHeader}
 use Rattle.entry_area_end.specs.declared.End.{End}
-use Rattle.entry_area_end.specs.End.{endFrom, readEnd}
-use Rattle.entry_area_end.specs.Relations.{EndAs}
+use Rattle.entry_area_end.specs.End.{endFrom, readAfterPath}
+use Rattle.entry_area_end.proofs.Relations.{EndAs}
 
 -- ---- the laws
 module _ (r : TimeRange) (h : EntryAreaHeader) where
@@ -58,23 +60,23 @@ module _ (r : TimeRange) (h : EntryAreaHeader) where
     };
   }
 
-  pub end-reads : TypedRange r → Reads (readEnd true r h) (EndAs r h)
-  unfolding Rel readEnd
+  pub end-reads : TypedRange r → Reads (readAfterPath true r h) (EndAs r h)
+  unfolding Rel readAfterPath
   end-reads ty = reads-as _ _ _
       (then-reads (readIncluded true r (h .«time_added») (h .«time_tag»)) _ _ _ (included-reads r (h .«time_added») (h .«time_tag») ty) (λ time e x.
       then-reads (readNumber true 2 (h .«length_tag»)) _ _ _ (number-reads 2 (h .«length_tag») (omega arith) (omega arith)) (λ size e y.
       mapped-reads (endFrom time size) _ _ (someBytes-reads 32))))
       end-there end-back
 
-  pub end-relaxes : Relaxes (readEnd true r h) (readEnd false r h)
-  unfolding readEnd
+  pub end-relaxes : Relaxes (readAfterPath true r h) (readAfterPath false r h)
+  unfolding readAfterPath
   end-relaxes =
       then-relaxes (readIncluded true r (h .«time_added») (h .«time_tag»)) (readIncluded false r (h .«time_added») (h .«time_tag»)) _ _ (included-relaxes r (h .«time_added») (h .«time_tag»)) (λ time.
       then-relaxes (readNumber true 2 (h .«length_tag»)) (readNumber false 2 (h .«length_tag»)) _ _ (number-relaxes 2 (h .«length_tag»)) (λ size.
       mapped-relaxes (endFrom time size) _ _ (relaxes-self (someBytes 32))))
 
-  pub end-bounded : (canonic : Bool) → Bounded (readEnd canonic r h)
-  unfolding readEnd
+  pub end-bounded : (canonic : Bool) → Bounded (readAfterPath canonic r h)
+  unfolding readAfterPath
   end-bounded canonic =
       then-bounded (readIncluded canonic r (h .«time_added») (h .«time_tag»)) _ (included-bounded r (h .«time_added») (h .«time_tag») canonic) (λ time.
       then-bounded (readNumber canonic 2 (h .«length_tag»)) _ (number-bounded 2 (h .«length_tag») canonic) (λ size.
@@ -82,13 +84,13 @@ module _ (r : TimeRange) (h : EntryAreaHeader) where
 
 -- ---- the exits
 module _ (canonic : Bool) (r : TimeRange) (h : EntryAreaHeader) (s : List ℕ) where
-  pub end-time : (k : ℕ) → readIncluded canonic r (h .«time_added») (h .«time_tag») s ≡ refused k → readEnd canonic r h s ≡ refused k
-  unfolding readEnd
+  pub end-time : (k : ℕ) → readIncluded canonic r (h .«time_added») (h .«time_tag») s ≡ refused k → readAfterPath canonic r h s ≡ refused k
+  unfolding readAfterPath
   end-time k e = rw e
 
   module _ (x a : ℕ) (e : readIncluded canonic r (h .«time_added») (h .«time_tag») s ≡ accepted x a) where
-    pub end-size : (k : ℕ) → readNumber canonic 2 (h .«length_tag») (drop a s) ≡ refused k → readEnd canonic r h s ≡ refused k
-    unfolding readEnd
+    pub end-size : (k : ℕ) → readNumber canonic 2 (h .«length_tag») (drop a s) ≡ refused k → readAfterPath canonic r h s ≡ refused k
+    unfolding readAfterPath
     end-size k f = rw (e, f)
 
     module _ (y b : ℕ) (f : readNumber canonic 2 (h .«length_tag») (drop a s) ≡ accepted y b) where
@@ -96,13 +98,13 @@ module _ (canonic : Bool) (r : TimeRange) (h : EntryAreaHeader) (s : List ℕ) w
       end-inside =
           omega (arith, included-bounded r (h .«time_added») (h .«time_tag») canonic .bound s x a e, number-bounded 2 (h .«length_tag») canonic .bound (drop a s) y b f, length-drop a s)
 
-      pub end-digest : (k : ℕ) → someBytes 32 (drop (a + b) s) ≡ refused k → readEnd canonic r h s ≡ refused k
-      unfolding readEnd
+      pub end-digest : (k : ℕ) → someBytes 32 (drop (a + b) s) ≡ refused k → readAfterPath canonic r h s ≡ refused k
+      unfolding readAfterPath
       end-digest k g = rw (e, f, drop-drop, g)
 
       module _ (d : List ℕ) (n : ℕ) (g : someBytes 32 (drop (a + b) s) ≡ accepted d n) where
-        pub end-read : readEnd canonic r h s ≡ accepted (endFrom x y d) (a + (b + n))
-        unfolding readEnd
+        pub end-read : readAfterPath canonic r h s ≡ accepted (endFrom x y d) (a + (b + n))
+        unfolding readAfterPath
         end-read = rw (e, f, drop-drop, g)
 
         pub digest-inside : a + (b + n) ≤ length s

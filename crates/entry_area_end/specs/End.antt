@@ -30,8 +30,8 @@ endFrom time size digest = record { timestamp = time; «payload_length» = size;
 abbrev pub noEnd : End
 noEnd = endFrom 0 0 (replicate 32 0)
 
-unfoldable pub readEnd : Bool → TimeRange → EntryAreaHeader → Reader End
-readEnd canonic r h =
+unfoldable pub readAfterPath : Bool → TimeRange → EntryAreaHeader → Reader End
+readAfterPath canonic r h =
     andThen (readIncluded canonic r (h .«time_added») (h .«time_tag»)) (λ time.
     andThen (readNumber canonic 2 (h .«length_tag»)) (λ size.
     mapped (endFrom time size) (

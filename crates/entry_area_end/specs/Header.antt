@@ -1,6 +1,6 @@
 -- docs/FORMAT.md, "Entries": the header byte of an entry in an area.
-use Prim.Native.Nat.{ℕ, _+_, _<_}
-use Rattle.codec.specs.Header.{field, flag, placed, bit}
+use Prim.Native.Nat.{ℕ, _+_}
+use Rattle.codec.specs.Header.{bitsAt, flag, placed, bit}
 use Rattle.entry_area_end.specs.declared.EntryAreaHeader.{EntryAreaHeader}
 
 -- where each part stands
@@ -24,9 +24,9 @@ abbrev pub unpackHeader : ℕ → EntryAreaHeader
 unpackHeader b = record {
   «id_written» = flag idWrittenAt b;
   «time_added» = flag timeAddedAt b;
-  «time_tag» = field timeTagAt 2 b;
-  «length_tag» = field lengthTagAt 2 b;
-  spare = field spareAt 2 b;
+  «time_tag» = bitsAt timeTagAt 2 b;
+  «length_tag» = bitsAt lengthTagAt 2 b;
+  spare = bitsAt spareAt 2 b;
 }
 
 abbrev pub packHeader : EntryAreaHeader → ℕ
@@ -36,8 +36,3 @@ packHeader h =
     + placed timeTagAt 2 (h .«time_tag»)
     + placed lengthTagAt 2 (h .«length_tag»)
     + placed spareAt 2 (h .spare)
-
-pub record HeaderFits (h : EntryAreaHeader) : Type 0 where
-  pub time : h .«time_tag» < 4
-  pub length : h .«length_tag» < 4
-  pub spare : h .spare < 4

@@ -1,6 +1,7 @@
 // The header byte of an entry in an area.
 ghost use mathlib.Core.Path.{_≡_};
-ghost use Rattle.entry_area_end.specs.Header.{unpackHeader, packHeader, HeaderFits};
+ghost use Rattle.entry_area_end.specs.Header.{unpackHeader, packHeader};
+ghost use Rattle.entry_area_end.specs.inside.Header.{HeaderFits};
 use crate::EntryAreaHeader;
 
 // What one of each part adds to the byte.

@@ -6,7 +6,7 @@ ghost use lib.ListN.{length};
 ghost use Rattle.codec.specs.Answers.{outcomeOf, Gives};
 ghost use Rattle.codec.specs.Format.{allowed, putAnswer, putBuffer};
 ghost use Rattle.entry_area_end.specs.Header.{packHeader};
-ghost use Rattle.entry_area_end.specs.End.{headerOf, endOf, noEnd, readEnd};
+ghost use Rattle.entry_area_end.specs.End.{headerOf, endOf, noEnd, readAfterPath};
 use codec::Decoded;
 use codec::Encoded;
 use compact_u64::DecodedU64;
@@ -77,7 +77,7 @@ pub fn relative_decode(
     times: TimeRange,
     header: EntryAreaHeader,
 ) -> DecodedEnd
-    ensures { λ r. ⌜ Gives noEnd (r .answer) (r .end) (readEnd canonic times header (now (message .entry))) ⌝ }
+    ensures { λ r. ⌜ Gives noEnd (r .answer) (r .end) (readAfterPath canonic times header (now (message .entry))) ⌝ }
 {
     let first = time_relative::decode_included(
         message,
@@ -88,7 +88,7 @@ pub fn relative_decode(
         header.time_tag,
     );
     let DecodedU64::Value(time, a) = first else {
-        return refuse(compact_u64::refusal(first));
+        return refuse(compact_u64::unvalued(first));
     };
     let second = compact_u64::relative_decode(
         message,
@@ -98,7 +98,7 @@ pub fn relative_decode(
         canonic,
     );
     let DecodedU64::Value(size, b) = second else {
-        return refuse(compact_u64::refusal(second));
+        return refuse(compact_u64::unvalued(second));
     };
     let at = a + b;
     let third = byte_codec::decode_id(message, at);

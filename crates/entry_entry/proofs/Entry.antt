@@ -14,12 +14,13 @@ use Rattle.path_relative.specs.Against.{readAgainst}
 use Rattle.path_relative.proofs.Against.{against-back}
 use Rattle.entry.specs.Entry.{EntryValue, TypedEntryValue}
 use Rattle.entry_numbers.specs.declared.EntryHeader.{EntryHeader}
-use Rattle.entry_numbers.specs.Header.{unpackHeader, packHeader, HeaderFits}
+use Rattle.entry_numbers.specs.Header.{unpackHeader, packHeader}
+use Rattle.entry_numbers.specs.inside.Header.{HeaderFits}
 use Rattle.entry_numbers.specs.Numbers.{headerOf, numbersFrom, numbersBytes, readNumbers}
 use Rattle.entry_numbers.proofs.HeaderLayout.{header-layout, header-fits}
 use Rattle.entry_numbers.proofs.Reading.{numbers-as, numbers-bounded}
 use Rattle.entry_entry.specs.declared.Head.{Head}
-use Rattle.entry_entry.specs.Entry.{idWritten, entryHeader, idBytes, idsBytes, endBytes, entryBytes, readId, idsFrom, readIds, headFrom, readHead, valueFrom, readEntry}
+use Rattle.entry_entry.specs.Entry.{idWritten, entryHeader, idBytes, idsBytes, afterPathBytes, entryBytes, readId, idsFrom, readIds, headFrom, readHead, valueFrom, readEntry}
 
 -- ---- what was written is read back, part by part
 id-as : (r id : List ℕ) → TypedId id → ReadsAs (readId (idWritten r id) r) id (idBytes r id)
@@ -48,14 +49,14 @@ module _ (r v : EntryValue) (t : TypedEntryValue v) where
       (then-as ids-as (λ i. mapped (headFrom i) (readNumbers (r .time) (entryHeader r v)))
       (mapped-as (numbers-as (r .time) (v .time) (v .size) k (t .time) (t .size) _ _) (headFrom (idsFrom (v .namespace) (v .subspace)))))
 
-  end-as : PathOk (v .path) → PathOk (r .path) → ReadsAs (andThen (readAgainst false (r .path)) (λ p. mapped (valueFrom head p) (someBytes 32))) v (endBytes r v)
+  end-as : PathOk (v .path) → PathOk (r .path) → ReadsAs (andThen (readAgainst false (r .path)) (λ p. mapped (valueFrom head p) (someBytes 32))) v (afterPathBytes r v)
   end-as p q = then-as (one-of (against-back (r .path) q false) (record { ok = p; bytes = refl })) (λ path. mapped (valueFrom head path) (someBytes 32))
       (mapped-as (bytes-as 32 (v .digest) (t .digest .0) (t .digest .1)) (valueFrom head (v .path)))
 
   pub entry-as : PathOk (v .path) → U64 (r .time) → PathOk (r .path) → ReadsAs (readEntry r) v (entryBytes r v)
   unfolding readEntry entryBytes
   entry-as p k q =
-      rw (← append-assoc (idsBytes r v) (numbersBytes (r .time) (v .time) (v .size)) (endBytes r v))
+      rw (← append-assoc (idsBytes r v) (numbersBytes (r .time) (v .time) (v .size)) (afterPathBytes r v))
       (then-as (head-as k) (λ h. andThen (readAgainst false (r .path)) (λ p. mapped (valueFrom h p) (someBytes 32))) (end-as p q))
 
 -- ---- no more bytes are consumed than there are

@@ -27,11 +27,11 @@ idBytes r id = cond (idWritten r id) id []
 abbrev pub idsBytes : EntryValue → EntryValue → List ℕ
 idsBytes r v = idBytes (r .namespace) (v .namespace) ++ idBytes (r .subspace) (v .subspace)
 
-abbrev pub endBytes : EntryValue → EntryValue → List ℕ
-endBytes r v = againstBytes (r .path) (v .path) ++ v .digest
+abbrev pub afterPathBytes : EntryValue → EntryValue → List ℕ
+afterPathBytes r v = againstBytes (r .path) (v .path) ++ v .digest
 
 abbrev pub partsBytes : EntryValue → EntryValue → List ℕ
-partsBytes r v = idsBytes r v ++ (numbersBytes (r .time) (v .time) (v .size) ++ endBytes r v)
+partsBytes r v = idsBytes r v ++ (numbersBytes (r .time) (v .time) (v .size) ++ afterPathBytes r v)
 
 unfoldable pub entryBytes : EntryValue → EntryValue → List ℕ
 entryBytes r v = packHeader (entryHeader r v) ∷ partsBytes r v

@@ -10,7 +10,7 @@ ghost use Rattle.path_relative.specs.Records.{sharedBy};
 ghost use Rattle.entry_numbers.specs.Header.{packHeader};
 ghost use Rattle.entry_numbers.specs.Numbers.{numbersBytes};
 ghost use Rattle.entry_entry.specs.Entry.{idWritten, idBytes};
-ghost use Rattle.entry_entry.specs.Records.{headerWith, idsWith, restWith, partsWith};
+ghost use Rattle.entry_entry.specs.inside.Writing.{headerWith, idsWith, restWith, partsWith};
 use codec::Encoded;
 use entry::EntryFields;
 

@@ -7,9 +7,9 @@ ghost use Rattle.entry.specs.Record.{entryWith};
 ghost use Rattle.entry_entry.specs.Records.{againstEntry};
 use codec::Encoded;
 use entry::EntryFields;
+use path::ComponentCount;
 
 mod entry_encode;
-pub mod sized;
 
 // How many bytes an entry against a reference takes.
 pub fn relative_len_of_encoding<'a>(
@@ -20,11 +20,11 @@ pub fn relative_len_of_encoding<'a>(
 ) -> Encoded
     ensures { λ r. ⌜ outcomeOf r ≡ lengthAnswer (againstEntry (entryWith reference (pathIn (now («reference_path» .entry))))) (entryWith fields (pathIn (now (path .entry)))) ⌝ }
 {
-    let formed = path::lent::both_formed(reference_path, path);
-    if !formed {
-        return Encoded::Malformed;
-    }
-    sized::relative_len_of_encoding(fields, path, reference, reference_path)
+    let len = path_relative_encode::relative_len_of_encoding(path, reference_path);
+    let Encoded::Length(n) = len else {
+        return len;
+    };
+    Encoded::Length(entry_encode::entry_len(fields, reference, n))
 }
 
 // Writes an entry against a reference.
@@ -37,9 +37,18 @@ pub fn relative_encode<'a>(
 ) -> Encoded
     ensures { λ r. ⌜ WritesInto (againstEntry (entryWith reference (pathIn (now («reference_path» .entry))))) (entryWith fields (pathIn (now (path .entry)))) r (now (buffer .entry)) (now (buffer .exit)) ⌝ }
 {
-    let formed = path::lent::both_formed(reference_path, path);
-    if !formed {
+    let common = path::longest_common_prefix(reference_path, path);
+    let ComponentCount::Components(k) = common else {
         return Encoded::Malformed;
+    };
+    let shared = path_relative_encode::sized::shared_len(path, k);
+    let Encoded::Length(n) = shared else {
+        return shared;
+    };
+    let len = entry_encode::entry_len(fields, reference, n);
+    if buffer.len() < len {
+        return Encoded::NoRoom;
     }
-    sized::relative_encode(buffer, fields, path, reference, reference_path)
+    entry_encode::put_entry(buffer, fields, reference, path, k);
+    Encoded::Length(len)
 }

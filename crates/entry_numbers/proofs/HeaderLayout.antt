@@ -1,10 +1,11 @@
 -- The header of an entry against an entry: packing and taking apart undo each other, and the header that writing gives fits. No law here knows a place.
 use Rattle.codec.proofs.Prelude.{_≡_, refl, Bool, ℕ, _+_, _≤_, _<_, arith}
-use Rattle.codec.specs.Header.{field, placed, bit, Layout}
+use Rattle.codec.specs.Header.{bitsAt, placed, bit, Layout}
 use Rattle.codec.proofs.Header.{field-fits, bit-small, flag-of, same-bytes}
 use Rattle.compact_u64.proofs.Tags.{min-tag-fits}
 use Rattle.entry_numbers.specs.declared.EntryHeader.{EntryHeader}
-use Rattle.entry_numbers.specs.Header.{namespaceWrittenAt, subspaceWrittenAt, timeAddedAt, timeTagAt, lengthTagAt, unpackHeader, packHeader, HeaderFits}
+use Rattle.entry_numbers.specs.Header.{namespaceWrittenAt, subspaceWrittenAt, timeAddedAt, timeTagAt, lengthTagAt, unpackHeader, packHeader}
+use Rattle.entry_numbers.specs.inside.Header.{HeaderFits}
 use Rattle.entry_numbers.specs.Numbers.{headerOf}
 
 -- the sum of the parts, each a number that fits its bits
@@ -13,11 +14,11 @@ sum n s added t l = placed namespaceWrittenAt 1 n + placed subspaceWrittenAt 1 s
 
 record Parts (p n s added t l : ℕ) : Type 0 where
   byte : p < 256
-  n-is : field namespaceWrittenAt 1 p ≡ n
-  s-is : field subspaceWrittenAt 1 p ≡ s
-  added-is : field timeAddedAt 1 p ≡ added
-  t-is : field timeTagAt 2 p ≡ t
-  l-is : field lengthTagAt 3 p ≡ l
+  n-is : bitsAt namespaceWrittenAt 1 p ≡ n
+  s-is : bitsAt subspaceWrittenAt 1 p ≡ s
+  added-is : bitsAt timeAddedAt 1 p ≡ added
+  t-is : bitsAt timeTagAt 2 p ≡ t
+  l-is : bitsAt lengthTagAt 3 p ≡ l
 
 parts : (n s added t l : ℕ) → n ≤ 1 → s ≤ 1 → added ≤ 1 → t < 4 → l < 8 → Parts (sum n s added t l) n s added t l
 parts n s added t l a b c d e = record { byte = omega arith; n-is = omega arith; s-is = omega arith; added-is = omega arith; t-is = omega arith; l-is = omega arith }

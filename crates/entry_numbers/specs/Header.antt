@@ -1,6 +1,6 @@
 -- docs/FORMAT.md, "Entries against an entry": the header byte.
-use Prim.Native.Nat.{ℕ, _+_, _<_}
-use Rattle.codec.specs.Header.{field, flag, placed, bit}
+use Prim.Native.Nat.{ℕ, _+_}
+use Rattle.codec.specs.Header.{bitsAt, flag, placed, bit}
 use Rattle.entry_numbers.specs.declared.EntryHeader.{EntryHeader}
 
 -- where each part stands
@@ -24,8 +24,8 @@ unpackHeader b = record {
   «namespace_written» = flag namespaceWrittenAt b;
   «subspace_written» = flag subspaceWrittenAt b;
   «time_added» = flag timeAddedAt b;
-  «time_tag» = field timeTagAt 2 b;
-  «length_tag» = field lengthTagAt 3 b;
+  «time_tag» = bitsAt timeTagAt 2 b;
+  «length_tag» = bitsAt lengthTagAt 3 b;
 }
 
 abbrev pub packHeader : EntryHeader → ℕ
@@ -35,7 +35,3 @@ packHeader h =
     + placed timeAddedAt 1 (bit (h .«time_added»))
     + placed timeTagAt 2 (h .«time_tag»)
     + placed lengthTagAt 3 (h .«length_tag»)
-
-pub record HeaderFits (h : EntryHeader) : Type 0 where
-  pub time : h .«time_tag» < 4
-  pub length : h .«length_tag» < 8

@@ -1,6 +1,7 @@
 // The header byte of an entry against an entry.
 ghost use mathlib.Core.Path.{_≡_};
-ghost use Rattle.entry_numbers.specs.Header.{unpackHeader, packHeader, HeaderFits};
+ghost use Rattle.entry_numbers.specs.Header.{unpackHeader, packHeader};
+ghost use Rattle.entry_numbers.specs.inside.Header.{HeaderFits};
 use crate::EntryHeader;
 
 // What one of each part adds to the byte.

@@ -93,7 +93,7 @@ pub fn relative_decode(message: &[u8], header: EntryHeader, reference: u64) -> D
         header.time_tag,
     );
     let DecodedU64::Value(time, a) = first else {
-        return refuse(compact_u64::refusal(first));
+        return refuse(compact_u64::unvalued(first));
     };
     let second = compact_u64::relative_decode(
         message,
@@ -103,7 +103,7 @@ pub fn relative_decode(message: &[u8], header: EntryHeader, reference: u64) -> D
         false,
     );
     let DecodedU64::Value(size, b) = second else {
-        return refuse(compact_u64::refusal(second));
+        return refuse(compact_u64::unvalued(second));
     };
     DecodedNumbers {
         answer: Decoded::Consumed(a + b),

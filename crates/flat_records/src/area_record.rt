@@ -1,6 +1,5 @@
 // An area: the mark of any subspace, the id, the path, the times.
 ghost use mathlib.Core.Path.{_≡_};
-ghost use mathlib.Core.Bool.{_&&_};
 ghost use Prim.Native.Nat.{_≤_};
 ghost use lib.ListN.{length, take, drop};
 ghost use Rattle.path.specs.Flat.{pathSize, pathIn};
@@ -9,7 +8,6 @@ ghost use Rattle.flat.specs.AreaRecord.{subspaceFlat, areaMarked, areaIn, areaF
 ghost use Rattle.path.specs.Puts.{Puts};
 use grouping::AreaHead;
 use grouping::AreaSubspace;
-use grouping::TimeRange;
 
 // How many bytes an area has, and where its parts start.
 pub const SIZE: usize = 691;
@@ -22,16 +20,6 @@ const PATH: usize = 33;
 
 const TIMES: usize = 674;
 
-fn marked(flat: &[u8]) -> bool
-    requires { ⌜ 691 ≤ length (now flat) ⌝ }
-    ensures { λ r. ⌜ r ≡ areaMarked (now (flat .entry)) ⌝ }
-{
-    if 1 < flat[ANY] {
-        return false;
-    }
-    crate::times::marked(&flat[TIMES..])
-}
-
 fn subspace_in(flat: &[u8]) -> AreaSubspace
     requires { ⌜ 691 ≤ length (now flat) ⌝ }
     ensures { λ r. ⌜ r ≡ areaIn (now (flat .entry)) .subspace ⌝ }
@@ -42,13 +30,6 @@ fn subspace_in(flat: &[u8]) -> AreaSubspace
         any: flat[ANY] == 1,
         id: id,
     }
-}
-
-fn times_in(flat: &[u8]) -> TimeRange
-    requires { ⌜ 691 ≤ length (now flat) ⌝ }
-    ensures { λ r. ⌜ r ≡ areaIn (now (flat .entry)) .times ⌝ }
-{
-    crate::times::times_in(&flat[TIMES..])
 }
 
 fn put_subspace(flat: &mut [u8], subspace: AreaSubspace)
@@ -70,54 +51,32 @@ fn put_area(flat: &mut [u8], head: AreaHead, path: &[u8])
     crate::times::put_times(&mut flat[TIMES..], head.times);
 }
 
-fn head_in(flat: &[u8]) -> AreaHead
-    requires { ⌜ 691 ≤ length (now flat) ⌝ }
+// What an area has beside its path, and the record of its path.
+pub fn head(flat: &[u8; SIZE]) -> AreaHead
     ensures { λ r. ⌜ r ≡ headOf (areaIn (now (flat .entry))) ⌝ }
 {
     let subspace = subspace_in(flat);
-    let times = times_in(flat);
+    let times = crate::times::times_in(flat, TIMES);
     AreaHead {
         subspace: subspace,
         times: times,
     }
 }
 
-fn path_in<'a>(flat: &'a [u8]) -> &'a [u8]
-    requires { ⌜ 691 ≤ length (now flat) ⌝ }
-    ensures { λ r. ⌜ (now r ≡ take pathSize (drop 33 (now (flat .entry)))) × (length (now r) ≡ pathSize) ⌝ }
-{
-    &flat[PATH..TIMES]
-}
-
-// What an area has beside its path, and the record of its path.
-pub fn head(flat: &[u8; SIZE]) -> AreaHead
-    ensures { λ r. ⌜ r ≡ headOf (areaIn (now (flat .entry))) ⌝ }
-{
-    head_in(flat)
-}
-
 pub fn path<'a>(flat: &'a [u8; SIZE]) -> &'a [u8]
     ensures { λ r. ⌜ (now r ≡ take pathSize (drop 33 (now (flat .entry)))) × (length (now r) ≡ pathSize) ⌝ }
 {
-    path_in(flat)
+    crate::path_at(flat, PATH)
 }
 
 // Whether the marks are 0 or 1.
 pub fn is_marked(flat: &[u8; SIZE]) -> bool
     ensures { λ r. ⌜ r ≡ areaMarked (now (flat .entry)) ⌝ }
 {
-    marked(flat)
-}
-
-// Whether those of two areas are.
-pub fn both_marked<'a>(flat: &'a [u8; SIZE], other: &'a [u8; SIZE]) -> bool
-    ensures { λ r. ⌜ r ≡ (areaMarked (now (flat .entry)) && areaMarked (now (other .entry))) ⌝ }
-{
-    let first = marked(flat);
-    if !first {
+    if 1 < flat[ANY] {
         return false;
     }
-    marked(other)
+    crate::times::marked(flat, TIMES)
 }
 
 pub fn store(flat: &mut [u8; SIZE], head: AreaHead, path: &[u8; 641])

@@ -77,18 +77,11 @@ pub fn fields(flat: &[u8; SIZE]) -> EntryFields
     fields_in(flat)
 }
 
-fn path_in<'a>(flat: &'a [u8]) -> &'a [u8]
-    requires { ⌜ 753 ≤ length (now flat) ⌝ }
-    ensures { λ r. ⌜ (now r ≡ take pathSize (drop 64 (now (flat .entry)))) × (length (now r) ≡ pathSize) ⌝ }
-{
-    &flat[PATH..TIMESTAMP]
-}
-
 // The record of its path.
 pub fn path<'a>(flat: &'a [u8; SIZE]) -> &'a [u8]
     ensures { λ r. ⌜ (now r ≡ take pathSize (drop 64 (now (flat .entry)))) × (length (now r) ≡ pathSize) ⌝ }
 {
-    path_in(flat)
+    crate::path_at(flat, PATH)
 }
 
 pub fn store(flat: &mut [u8; SIZE], fields: EntryFields, path: &[u8; 641])

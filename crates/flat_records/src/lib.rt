@@ -24,6 +24,15 @@ pub(crate) fn number_at(flat: &[u8], at: usize) -> u64
     value
 }
 
+// The record of a path from a place on.
+pub(crate) fn path_at<'a>(flat: &'a [u8], at: usize) -> &'a [u8]
+    requires { ⌜ at + pathSize ≤ length (now flat) ⌝ }
+    ensures { λ r. ⌜ (now r ≡ take pathSize (drop at (now (flat .entry)))) × (length (now r) ≡ pathSize) ⌝ }
+{
+    let end = at + path::lent::SIZE;
+    &flat[at..end]
+}
+
 // Writes the record of a path from the first byte on.
 pub(crate) fn put_path(flat: &mut [u8], path: &[u8])
     requires { ⌜ (pathSize ≤ length (now flat)) × (length (now path) ≡ pathSize) ⌝ }

@@ -1,13 +1,11 @@
 // A 3d range: subspace start, mark, end; path start, mark, end; times. The marks say that an end is open.
 ghost use mathlib.Core.Path.{_≡_};
-ghost use mathlib.Core.Bool.{_&&_};
 ghost use Prim.Native.Nat.{_≤_};
 ghost use lib.ListN.{length, take, drop};
 ghost use Rattle.path.specs.Flat.{pathSize, pathIn};
 ghost use Rattle.range_3d.specs.Record.{headOf, rangeWith};
 ghost use Rattle.flat.specs.RangeRecord.{subspacesFlat, pathsFlat, subspacesIn, rangeMarked, rangeIn, rangeFlat};
 ghost use Rattle.path.specs.Puts.{Puts};
-use grouping::TimeRange;
 use range_3d::Range3dHead;
 use range_3d::SubspaceRange;
 
@@ -28,20 +26,6 @@ const PATH_END: usize = 707;
 
 const TIMES: usize = 1348;
 
-// Whether every mark is one.
-fn marked(flat: &[u8]) -> bool
-    requires { ⌜ 1365 ≤ length (now flat) ⌝ }
-    ensures { λ r. ⌜ r ≡ rangeMarked (now (flat .entry)) ⌝ }
-{
-    if 1 < flat[SUBSPACE_OPEN] {
-        return false;
-    }
-    if 1 < flat[PATH_OPEN] {
-        return false;
-    }
-    crate::times::marked(&flat[TIMES..])
-}
-
 fn subspaces_in(flat: &[u8]) -> SubspaceRange
     requires { ⌜ 65 ≤ length (now flat) ⌝ }
     ensures { λ r. ⌜ r ≡ subspacesIn (now (flat .entry)) ⌝ }
@@ -55,20 +39,6 @@ fn subspaces_in(flat: &[u8]) -> SubspaceRange
         end_open: flat[SUBSPACE_OPEN] == 1,
         end: end,
     }
-}
-
-fn end_open_in(flat: &[u8]) -> bool
-    requires { ⌜ 1365 ≤ length (now flat) ⌝ }
-    ensures { λ r. ⌜ r ≡ rangeIn (now (flat .entry)) .paths .«end_open» ⌝ }
-{
-    flat[PATH_OPEN] == 1
-}
-
-fn times_in(flat: &[u8]) -> TimeRange
-    requires { ⌜ 1365 ≤ length (now flat) ⌝ }
-    ensures { λ r. ⌜ r ≡ rangeIn (now (flat .entry)) .times ⌝ }
-{
-    crate::times::times_in(&flat[TIMES..])
 }
 
 fn put_subspaces(flat: &mut [u8], subspaces: SubspaceRange)
@@ -104,69 +74,42 @@ fn put_range<'a>(flat: &mut [u8], head: Range3dHead, start: &'a [u8], end: &'a [
     crate::times::put_times(&mut flat[TIMES..], head.times);
 }
 
-fn head_in(flat: &[u8]) -> Range3dHead
-    requires { ⌜ 1365 ≤ length (now flat) ⌝ }
-    ensures { λ r. ⌜ r ≡ headOf (rangeIn (now (flat .entry))) ⌝ }
-{
-    let subspaces = subspaces_in(flat);
-    let end_open = end_open_in(flat);
-    let times = times_in(flat);
-    Range3dHead {
-        subspaces: subspaces,
-        end_open: end_open,
-        times: times,
-    }
-}
-
-fn path_start_in<'a>(flat: &'a [u8]) -> &'a [u8]
-    requires { ⌜ 1365 ≤ length (now flat) ⌝ }
-    ensures { λ r. ⌜ (now r ≡ take pathSize (drop 65 (now (flat .entry)))) × (length (now r) ≡ pathSize) ⌝ }
-{
-    &flat[PATH_START..PATH_OPEN]
-}
-
-fn path_end_in<'a>(flat: &'a [u8]) -> &'a [u8]
-    requires { ⌜ 1365 ≤ length (now flat) ⌝ }
-    ensures { λ r. ⌜ (now r ≡ take pathSize (drop 707 (now (flat .entry)))) × (length (now r) ≡ pathSize) ⌝ }
-{
-    &flat[PATH_END..TIMES]
-}
-
 // What a 3d range has beside its paths, and the records of its paths.
 pub fn head(flat: &[u8; SIZE]) -> Range3dHead
     ensures { λ r. ⌜ r ≡ headOf (rangeIn (now (flat .entry))) ⌝ }
 {
-    head_in(flat)
+    let subspaces = subspaces_in(flat);
+    let times = crate::times::times_in(flat, TIMES);
+    Range3dHead {
+        subspaces: subspaces,
+        end_open: flat[PATH_OPEN] == 1,
+        times: times,
+    }
 }
 
 pub fn path_start<'a>(flat: &'a [u8; SIZE]) -> &'a [u8]
     ensures { λ r. ⌜ (now r ≡ take pathSize (drop 65 (now (flat .entry)))) × (length (now r) ≡ pathSize) ⌝ }
 {
-    path_start_in(flat)
+    crate::path_at(flat, PATH_START)
 }
 
 pub fn path_end<'a>(flat: &'a [u8; SIZE]) -> &'a [u8]
     ensures { λ r. ⌜ (now r ≡ take pathSize (drop 707 (now (flat .entry)))) × (length (now r) ≡ pathSize) ⌝ }
 {
-    path_end_in(flat)
+    crate::path_at(flat, PATH_END)
 }
 
 // Whether the marks of a 3d range are 0 or 1.
 pub fn is_marked(flat: &[u8; SIZE]) -> bool
     ensures { λ r. ⌜ r ≡ rangeMarked (now (flat .entry)) ⌝ }
 {
-    marked(flat)
-}
-
-// The same of two.
-pub fn both_marked<'a>(flat: &'a [u8; SIZE], other: &'a [u8; SIZE]) -> bool
-    ensures { λ r. ⌜ r ≡ (rangeMarked (now (flat .entry)) && rangeMarked (now (other .entry))) ⌝ }
-{
-    let first = marked(flat);
-    if !first {
+    if 1 < flat[SUBSPACE_OPEN] {
         return false;
     }
-    marked(other)
+    if 1 < flat[PATH_OPEN] {
+        return false;
+    }
+    crate::times::marked(flat, TIMES)
 }
 
 // Stores a 3d range by its head and the records of its paths.

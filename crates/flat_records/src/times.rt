@@ -1,7 +1,7 @@
 // A range of times: its start, the mark of an open end, its end, which is zero beside the mark.
 ghost use mathlib.Core.Path.{_≡_};
-ghost use Prim.Native.Nat.{_≤_};
-ghost use lib.ListN.{length};
+ghost use Prim.Native.Nat.{_+_, _≤_};
+ghost use lib.ListN.{length, drop};
 ghost use Rattle.flat.specs.Times.{endTime, timesMarked, timesIn, timesFlat};
 ghost use Rattle.path.specs.Puts.{Puts};
 use grouping::RangeEnd;
@@ -12,26 +12,28 @@ const MARK: usize = 8;
 
 const END: usize = 9;
 
-// Whether the bytes from the first on are a range's: the mark is 0 or 1, and the end beside 1 is zero.
-pub(crate) fn marked(flat: &[u8]) -> bool
-    requires { ⌜ 17 ≤ length (now flat) ⌝ }
-    ensures { λ r. ⌜ r ≡ timesMarked (now (flat .entry)) ⌝ }
+// Whether the bytes from a place on are a range's: the mark is 0 or 1, and the end beside 1 is zero.
+pub(crate) fn marked(flat: &[u8], at: usize) -> bool
+    requires { ⌜ at + 17 ≤ length (now flat) ⌝ }
+    ensures { λ r. ⌜ r ≡ timesMarked (drop at (now (flat .entry))) ⌝ }
 {
-    if flat[MARK] == 0 {
+    let times = &flat[at..];
+    if times[MARK] == 0 {
         return true;
     }
-    if flat[MARK] != 1 {
+    if times[MARK] != 1 {
         return false;
     }
-    crate::number_at(flat, END) == 0
+    crate::number_at(times, END) == 0
 }
 
-pub(crate) fn times_in(flat: &[u8]) -> TimeRange
-    requires { ⌜ 17 ≤ length (now flat) ⌝ }
-    ensures { λ r. ⌜ r ≡ timesIn (now (flat .entry)) ⌝ }
+pub(crate) fn times_in(flat: &[u8], at: usize) -> TimeRange
+    requires { ⌜ at + 17 ≤ length (now flat) ⌝ }
+    ensures { λ r. ⌜ r ≡ timesIn (drop at (now (flat .entry))) ⌝ }
 {
-    let start = crate::number_at(flat, 0);
-    if flat[MARK] == 1 {
+    let times = &flat[at..];
+    let start = crate::number_at(times, 0);
+    if times[MARK] == 1 {
         return TimeRange {
             start: start,
             end: RangeEnd::Open,
@@ -39,7 +41,7 @@ pub(crate) fn times_in(flat: &[u8]) -> TimeRange
     }
     TimeRange {
         start: start,
-        end: RangeEnd::Closed(crate::number_at(flat, END)),
+        end: RangeEnd::Closed(crate::number_at(times, END)),
     }
 }
 

@@ -3,11 +3,12 @@ use Rattle.codec.proofs.Prelude.{_≡_, refl, Bool, true, false, _&&_}
 use Rattle.codec.proofs.Tests.{and-left, and-right}
 use Rattle.path.specs.Record.{componentsOf, sized}
 use Rattle.path.specs.Prefix.{isPrefix}
-use Rattle.path.specs.Answers.{Said, said, unsaid, saidIf}
+use Rattle.codec.specs.Answers.{Said, said, unsaid}
+use Rattle.path.specs.Answers.{saidIf}
 use Rattle.path.proofs.Components.{well-sized}
-use Rattle.grouping.specs.Record.{Area, areaOf, subspaceOf, wellFormedSubspace, wellFormedArea, areaIncludes, areaInside}
+use Rattle.grouping.specs.Record.{Area, areaOf, subspaceOf, wellFormedSubspace, wellFormedArea, areaIncludes, saysAreaInside}
 use Rattle.grouping.specs.Range.{includesRange}
-use Rattle.grouping.specs.Area.{includesSubspace, includesArea, headInside}
+use Rattle.grouping.specs.Area.{includesSubspace, includesArea, headLiesInside}
 use Rattle.grouping.proofs.Heads.{head-outside, head-inside}
 
 module _ (r a : Area) (w : (wellFormedArea r && wellFormedArea a) ≡ true) where
@@ -44,12 +45,12 @@ module _ (r a : Area) (w : (wellFormedArea r && wellFormedArea a) ≡ true) wher
       go false = refl
 
   -- ---- contains
-  pub outside-said : headInside (subspaceOf (r .subspace)) (r .times) (subspaceOf (a .subspace)) (a .times) ≡ false → areaInside r a ≡ said false
-  unfolding areaInside
+  pub outside-said : headLiesInside (subspaceOf (r .subspace)) (r .times) (subspaceOf (a .subspace)) (a .times) ≡ false → saysAreaInside r a ≡ said false
+  unfolding saysAreaInside
   outside-said e = rw (w, head-outside (areaOf r) (areaOf a) e)
 
-  pub inside-by : headInside (subspaceOf (r .subspace)) (r .times) (subspaceOf (a .subspace)) (a .times) ≡ true → areaInside r a ≡ said (isPrefix (componentsOf (r .path)) (componentsOf (a .path)))
-  unfolding areaInside
+  pub inside-by : headLiesInside (subspaceOf (r .subspace)) (r .times) (subspaceOf (a .subspace)) (a .times) ≡ true → saysAreaInside r a ≡ said (isPrefix (componentsOf (r .path)) (componentsOf (a .path)))
+  unfolding saysAreaInside
   inside-by e = rw (w, head-inside (areaOf r) (areaOf a) e)
 
 -- 5
@@ -58,6 +59,6 @@ module _ (r a : Area) (w : (wellFormedArea r && wellFormedArea a) ≡ false) whe
   unfolding areaIncludes
   includes-unsaid = rw w
 
-  pub inside-unsaid : areaInside r a ≡ unsaid 5
-  unfolding areaInside
+  pub inside-unsaid : saysAreaInside r a ≡ unsaid 5
+  unfolding saysAreaInside
   inside-unsaid = rw w

@@ -2,11 +2,11 @@
 use Rattle.codec.proofs.Prelude.{_≡_, refl, Bool, true, false, _&&_}
 use Rattle.path.specs.Prefix.{isPrefix}
 use Rattle.grouping.specs.Range.{endValue, includesRange, bounds}
-use Rattle.grouping.specs.Area.{AreaValue, includesSubspace, includesArea, liesInside, headInside}
+use Rattle.grouping.specs.Area.{AreaValue, includesSubspace, includesArea, areaLiesInside, headLiesInside}
 
 module _ (r a : AreaValue) where
-  pub head-outside : headInside (r .subspace) (r .times) (a .subspace) (a .times) ≡ false → liesInside r a ≡ false
-  unfolding headInside includesArea liesInside
+  pub head-outside : headLiesInside (r .subspace) (r .times) (a .subspace) (a .times) ≡ false → areaLiesInside r a ≡ false
+  unfolding headLiesInside includesArea areaLiesInside
   head-outside e =
       go (includesSubspace (r .subspace) (a .subspace)) (isPrefix (r .path) (a .path)) (includesRange (r .times) (a .times)) (bounds (r .times) (a .times .start) && bounds (r .times) (endValue (a .times .end))) e
     where
@@ -16,8 +16,8 @@ module _ (r a : AreaValue) where
       go true false t b e = refl
       go false p t b e = refl
 
-  pub head-inside : headInside (r .subspace) (r .times) (a .subspace) (a .times) ≡ true → liesInside r a ≡ isPrefix (r .path) (a .path)
-  unfolding headInside includesArea liesInside
+  pub head-inside : headLiesInside (r .subspace) (r .times) (a .subspace) (a .times) ≡ true → areaLiesInside r a ≡ isPrefix (r .path) (a .path)
+  unfolding headLiesInside includesArea areaLiesInside
   head-inside e =
       go (includesSubspace (r .subspace) (a .subspace)) (isPrefix (r .path) (a .path)) (includesRange (r .times) (a .times)) (bounds (r .times) (a .times .start) && bounds (r .times) (endValue (a .times .end))) e
     where

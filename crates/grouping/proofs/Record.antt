@@ -11,7 +11,8 @@ use Rattle.path.proofs.Limits.{typed-of}
 use Rattle.path.proofs.Record.{well-formed, formed-well, apart, made, components-of}
 use Rattle.grouping.specs.declared.AreaSubspace.{AreaSubspace}
 use Rattle.grouping.specs.Record.{Area, subspaceOf, subspaceFrom, areaOf, areaFrom, wellFormedSubspace, wellFormedArea, TypedArea}
-use Rattle.grouping.specs.Area.{AreaValue, TypedSubspace, TypedValue}
+use Rattle.grouping.specs.Area.{AreaValue, TypedSubspace}
+use Rattle.grouping.proofs.Values.{TypedValue}
 
 -- ---- the subspace
 pub subspace-back : (s : AreaSubspace) → wellFormedSubspace s ≡ true → subspaceFrom (subspaceOf s) ≡ s

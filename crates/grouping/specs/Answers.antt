@@ -7,12 +7,20 @@ use Rattle.codec.specs.declared.Decoded.{Decoded}
 use Rattle.path.specs.Flat.{pathIn}
 use Rattle.grouping.specs.declared.RangeEnd.the-variants.{Closed}
 use Rattle.grouping.specs.Record.{Area, areaFrom, headOf, areaWith}
+use Rattle.grouping.specs.declared.TimeRange.{TimeRange}
+use Rattle.grouping.specs.declared.DecodedTimes.{DecodedTimes}
 use Rattle.grouping.specs.declared.AreaHead.{AreaHead}
 use Rattle.grouping.specs.declared.DecodedAreaHead.{DecodedAreaHead}
 
--- no time lies in it
+-- no time lies in them
+abbrev pub noTimes : TimeRange
+noTimes = record { start = 0; end = Closed 0 }
+
+unfoldable pub timesRefusal : Decoded → DecodedTimes
+timesRefusal d = record { answer = d; times = noTimes }
+
 abbrev pub emptyArea : Area
-emptyArea = areaFrom (record { subspace = none; path = []; times = record { start = 0; end = Closed 0 } })
+emptyArea = areaFrom (record { subspace = none; path = []; times = noTimes })
 
 abbrev pub emptyHead : AreaHead
 emptyHead = headOf emptyArea

@@ -4,10 +4,9 @@ use mathlib.Core.Bool.{Bool, true, false, _&&_}
 use mathlib.Core.Option.{Option, none, some}
 use Prim.Native.Nat.{ℕ}
 use Rattle.codec.specs.Bytes.{sameBytes, TypedId}
-use Rattle.path.specs.Limits.{TypedComponents}
 use Rattle.path.specs.Prefix.{isPrefix}
 use Rattle.grouping.specs.declared.TimeRange.{TimeRange}
-use Rattle.grouping.specs.Range.{TypedRange, endValue, includesRange, bounds}
+use Rattle.grouping.specs.Range.{endValue, includesRange, bounds}
 
 pub record AreaValue : Type 0 where
   pub subspace : Option (List ℕ)
@@ -19,11 +18,6 @@ abbrev pub TypedSubspace : Option (List ℕ) → Type 0
 TypedSubspace none = Unit {0}
 TypedSubspace (some id) = TypedId id
 
-pub record TypedValue (v : AreaValue) : Type 0 where
-  pub subspace : TypedSubspace (v .subspace)
-  pub path : TypedComponents (v .path)
-  pub times : TypedRange (v .times)
-
 -- none is any subspace
 abbrev pub includesSubspace : Option (List ℕ) → Option (List ℕ) → Bool
 includesSubspace none s = true
@@ -34,9 +28,9 @@ unfoldable pub includesArea : AreaValue → AreaValue → Bool
 includesArea r a = includesSubspace (r .subspace) (a .subspace) && (isPrefix (r .path) (a .path) && includesRange (r .times) (a .times))
 
 -- a lies inside r: included, and its start and end, an open one counted as top, lie between those of r
-unfoldable pub liesInside : AreaValue → AreaValue → Bool
-liesInside r a = includesArea r a && (bounds (r .times) (a .times .start) && bounds (r .times) (endValue (a .times .end)))
+unfoldable pub areaLiesInside : AreaValue → AreaValue → Bool
+areaLiesInside r a = includesArea r a && (bounds (r .times) (a .times .start) && bounds (r .times) (endValue (a .times .end)))
 
 -- the same of what areas have beside their paths
-unfoldable pub headInside : Option (List ℕ) → TimeRange → Option (List ℕ) → TimeRange → Bool
-headInside r within s times = includesSubspace r s && (includesRange within times && (bounds within (times .start) && bounds within (endValue (times .end))))
+unfoldable pub headLiesInside : Option (List ℕ) → TimeRange → Option (List ℕ) → TimeRange → Bool
+headLiesInside r within s times = includesSubspace r s && (includesRange within times && (bounds within (times .start) && bounds within (endValue (times .end))))

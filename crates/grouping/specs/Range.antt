@@ -13,6 +13,9 @@ abbrev pub isOpen : RangeEnd → Bool
 isOpen (Closed x) = false
 isOpen Open = true
 
+abbrev pub timesFrom : ℕ → RangeEnd → TimeRange
+timesFrom start end = record { start = start; end = end }
+
 -- ---- in differences
 abbrev pub endValue : RangeEnd → ℕ
 endValue (Closed x) = x

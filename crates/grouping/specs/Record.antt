@@ -5,15 +5,15 @@ use mathlib.Core.Bool.{Bool, true, false, cond, _&&_}
 use mathlib.Core.Option.{Option, none, some}
 use Prim.Native.Nat.{ℕ}
 use lib.ListN.{length, replicate}
-use Rattle.codec.specs.Answers.{AllBytes}
+use Rattle.codec.specs.Answers.{AllBytes, Said}
 use Rattle.codec.specs.Bytes.{sameBytes}
-use Rattle.path.specs.Record.{Path, componentsOf, pathFrom, sized, wellFormed, TypedPath}
-use Rattle.path.specs.Answers.{Said, saidIf}
+use Rattle.path.specs.Record.{Path, componentsOf, pathFrom, wellFormed, TypedPath}
+use Rattle.path.specs.Answers.{saidIf}
 use Rattle.grouping.specs.declared.AreaSubspace.{AreaSubspace}
 use Rattle.grouping.specs.declared.TimeRange.{TimeRange}
 use Rattle.grouping.specs.declared.AreaHead.{AreaHead}
 use Rattle.grouping.specs.Range.{TypedRange}
-use Rattle.grouping.specs.Area.{AreaValue, includesSubspace, includesArea, liesInside}
+use Rattle.grouping.specs.Area.{AreaValue, includesSubspace, includesArea, areaLiesInside}
 
 pub record Area : Type 0 where
   pub subspace : AreaSubspace
@@ -48,10 +48,6 @@ wellFormedSubspace s = cond (s .any) (sameBytes (s .id) (replicate 32 0)) true
 unfoldable pub wellFormedArea : Area → Bool
 wellFormedArea a = wellFormedSubspace (a .subspace) && wellFormed (a .path)
 
--- the sizes of its path alone
-unfoldable pub sizedArea : Area → Bool
-sizedArea a = sized (a .path)
-
 -- what the language says of a record
 pub record TypedArea (a : Area) : Type 0 where
   pub long : length (a .subspace .id) ≡ 32
@@ -66,5 +62,5 @@ subspaceIncludes r s = includesSubspace (subspaceOf r) (subspaceOf s)
 unfoldable pub areaIncludes : Area → Area → Said Bool
 areaIncludes r a = saidIf (wellFormedArea r && wellFormedArea a) (includesArea (areaOf r) (areaOf a))
 
-unfoldable pub areaInside : Area → Area → Said Bool
-areaInside r a = saidIf (wellFormedArea r && wellFormedArea a) (liesInside (areaOf r) (areaOf a))
+unfoldable pub saysAreaInside : Area → Area → Said Bool
+saysAreaInside r a = saidIf (wellFormedArea r && wellFormedArea a) (areaLiesInside (areaOf r) (areaOf a))

@@ -3,7 +3,7 @@ ghost use mathlib.Core.Path.{_≡_};
 ghost use mathlib.Core.Bool.{_&&_};
 ghost use Rattle.path.specs.Flat.{pathIn};
 ghost use Rattle.path.specs.Answers.{comparedAnswer};
-ghost use Rattle.grouping.specs.Record.{areaWith, wellFormedArea, areaIncludes, areaInside};
+ghost use Rattle.grouping.specs.Record.{areaWith, wellFormedArea, areaIncludes, saysAreaInside};
 use crate::AreaHead;
 use path::Compared;
 
@@ -69,7 +69,7 @@ pub fn contains<'a>(
     other: AreaHead,
     other_path: &'a [u8],
 ) -> Compared
-    ensures { λ r. ⌜ comparedAnswer r ≡ areaInside (areaWith area (pathIn (now (path .entry)))) (areaWith other (pathIn (now («other_path» .entry)))) ⌝ }
+    ensures { λ r. ⌜ comparedAnswer r ≡ saysAreaInside (areaWith area (pathIn (now (path .entry)))) (areaWith other (pathIn (now («other_path» .entry)))) ⌝ }
 {
     let well = both_formed(area, path, other, other_path);
     if !well {

@@ -1,9 +1,14 @@
 // Groupings of entries: ranges of times, and areas: docs/FORMAT.md, "Areas". A port of grouping/range.rs and grouping/area.rs.
 ghost use mathlib.Core.Path.{_≡_};
-ghost use Rattle.grouping.specs.Answers.{emptyHead, headRefusal};
-ghost use Rattle.grouping.specs.Area.{headInside};
+ghost use Rattle.codec.specs.Answers.{Gives};
+ghost use Rattle.codec.specs.Reader.{named};
+ghost use Rattle.compact_u64.specs.Answers.{numberAnswer};
+ghost use Rattle.grouping.specs.declared.RangeEnd.the-variants.{Closed, Open};
+ghost use Rattle.grouping.specs.Answers.{emptyHead, headRefusal, timesRefusal};
+ghost use Rattle.grouping.specs.Area.{headLiesInside};
 ghost use Rattle.grouping.specs.Record.{subspaceOf, wellFormedSubspace, subspaceIncludes};
 use codec::Decoded;
+use compact_u64::DecodedU64;
 
 pub mod lent;
 mod range;
@@ -17,6 +22,18 @@ pub enum RangeEnd {
 // The times from a start on, before an end.
 pub struct TimeRange {
     pub start: u64,
+    pub end: RangeEnd,
+}
+
+// Times beside the answer; beside a refusal no time lies in them.
+pub struct DecodedTimes {
+    pub answer: Decoded,
+    pub times: TimeRange,
+}
+
+// An end beside the answer; beside a refusal it is open.
+pub struct DecodedEnd {
+    pub answer: Decoded,
     pub end: RangeEnd,
 }
 
@@ -36,6 +53,35 @@ pub struct AreaHead {
 pub struct DecodedAreaHead {
     pub answer: Decoded,
     pub head: AreaHead,
+}
+
+// A refusal beside times in which none lies.
+pub fn refuse_times(answer: Decoded) -> DecodedTimes
+    ensures { λ r. ⌜ r ≡ timesRefusal answer ⌝ }
+{
+    DecodedTimes {
+        answer: answer,
+        times: TimeRange {
+            start: 0,
+            end: RangeEnd::Closed(0),
+        },
+    }
+}
+
+// The closed end that a number says.
+pub fn closed_end(number: DecodedU64) -> DecodedEnd
+    ensures { λ r. ⌜ Gives Open (r .answer) (r .end) (named Closed (numberAnswer number)) ⌝ }
+{
+    let DecodedU64::Value(end, n) = number else {
+        return DecodedEnd {
+            answer: compact_u64::unvalued(number),
+            end: RangeEnd::Open,
+        };
+    };
+    DecodedEnd {
+        answer: Decoded::Consumed(n),
+        end: RangeEnd::Closed(end),
+    }
 }
 
 // A refusal beside the head of the empty area.
@@ -95,7 +141,7 @@ impl AreaHead {
 
     // Whether another area lies inside, as far as subspaces and times tell.
     pub fn contains(self, other: AreaHead) -> bool
-        ensures { λ r. ⌜ r ≡ headInside (subspaceOf (self .subspace)) (self .times) (subspaceOf (other .subspace)) (other .times) ⌝ }
+        ensures { λ r. ⌜ r ≡ headLiesInside (subspaceOf (self .subspace)) (self .times) (subspaceOf (other .subspace)) (other .times) ⌝ }
     {
         let included = self.subspace.includes_area_subspace(other.subspace);
         if !included {

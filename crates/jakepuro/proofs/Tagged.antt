@@ -1,13 +1,14 @@
 -- Laws of numbers whose tag's width crosses as its bits.
 use Rattle.codec.proofs.Prelude.{_≡_, List, Bool, true, false, ℕ, length}
 use Rattle.codec.specs.Answers.{Outcome, refused}
-use Rattle.codec.specs.Format.{allowed, barred, putAnswer, putBuffer, writeAnswer, writeBuffer}
+use Rattle.codec.specs.Format.{allowed, refusedValue, putAnswer, putBuffer, writeAnswer, writeBuffer}
 use Rattle.compact_u64.specs.declared.TagWidth.{TagWidth}
 use Rattle.compact_u64.specs.Answers.{bits}
 use Rattle.compact_u64.specs.Number.{numberBytes, readNumber}
 use Rattle.jakepuro.specs.declared.numbers.NumberWidth.{NumberWidth}
 use Rattle.jakepuro.specs.declared.numbers.NumberWidth.the-variants as width
-use Rattle.jakepuro.specs.Tagged.{isWidth, tagged, readTagged, HasBits}
+use Rattle.jakepuro.specs.Tagged.{isWidth, tagged, readTagged}
+use Rattle.jakepuro.specs.inside.Tagged.{HasBits}
 
 pub has-no-bits : (x : NumberWidth) (w : ℕ) → x ≡ width.Malformed → HasBits x w → isWidth w ≡ false
 has-no-bits x w e h = rw e at h
@@ -16,8 +17,8 @@ pub has-bits : (x : NumberWidth) (w : ℕ) (t : TagWidth) → x ≡ width.Bits t
 has-bits x w t e h = rw e at h
 
 module _ (w v : ℕ) where
-  pub tagged-barred : isWidth w ≡ false → tagged w .check v ≡ barred 5
-  tagged-barred e = rw e
+  pub tagged-refused-value : isWidth w ≡ false → tagged w .check v ≡ refusedValue 5
+  tagged-refused-value e = rw e
 
   module _ (t : TagWidth) (h : (isWidth w ≡ true) × (bits t ≡ w)) where
     pub tagged-allowed : tagged w .check v ≡ allowed

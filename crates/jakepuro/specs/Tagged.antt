@@ -1,21 +1,17 @@
 -- docs/ABI.md, "Numbers": the width of a tag crosses as its bits, and is 5 unless it is 2, 3, 4 or 8.
-use mathlib.Core.Path.{_≡_}
-use mathlib.Core.Bool.{Bool, true, false, cond, _||_}
+use mathlib.Core.Bool.{Bool, cond, _||_}
 use Prim.Native.Nat.{ℕ}
 use lib.Dec.{eqb}
-use Rattle.codec.specs.Answers.{Outcome, wrote, denied}
-use Rattle.codec.specs.Format.{Format, allowed, barred}
+use Rattle.codec.specs.Answers.{Outcome, wrote, refusedWriting}
+use Rattle.codec.specs.Format.{Format, allowed, refusedValue}
 use Rattle.codec.specs.Reader.{Reader, onFormed}
-use Rattle.compact_u64.specs.Answers.{bits}
 use Rattle.compact_u64.specs.Number.{numberBytes, readNumber}
-use Rattle.jakepuro.specs.declared.numbers.NumberWidth.{NumberWidth}
-use Rattle.jakepuro.specs.declared.numbers.NumberWidth.the-variants as width
 
 unfoldable pub isWidth : ℕ → Bool
 isWidth w = eqb w 2 || (eqb w 3 || (eqb w 4 || eqb w 8))
 
 abbrev pub tagged : ℕ → Format ℕ
-tagged w = record { check = λ v. cond (isWidth w) allowed (barred 5); encode = numberBytes w }
+tagged w = record { check = λ v. cond (isWidth w) allowed (refusedValue 5); encode = numberBytes w }
 
 abbrev pub readTagged : Bool → ℕ → ℕ → Reader ℕ
 readTagged canonic w tag = onFormed (isWidth w) (readNumber canonic w tag)
@@ -23,9 +19,4 @@ readTagged canonic w tag = onFormed (isWidth w) (readNumber canonic w tag)
 -- what stands where the tag goes
 abbrev pub tagOr : Outcome → ℕ → ℕ → ℕ
 tagOr (wrote n) tag lent = tag
-tagOr (denied k) tag lent = lent
-
--- a width by its bits
-abbrev pub HasBits : NumberWidth → ℕ → Type 0
-HasBits (width.Bits t) w = (isWidth w ≡ true) × (bits t ≡ w)
-HasBits width.Malformed w = isWidth w ≡ false
+tagOr (refusedWriting k) tag lent = lent

@@ -17,7 +17,8 @@ pub extern "C" fn jakepuro_area_area_encode<'a>(
 ) -> u8
     ensures { λ r. ⌜ Encodes (againstArea (areaIn (now (reference .entry)))) (areaIn (now (area .entry))) (now (buffer .entry)) (now (buffer .exit)) r (now (written .exit)) ⌝ }
 {
-    let marked = flat_records::area_record::both_marked(reference, area);
+    let marked = flat_records::area_record::is_marked(reference)
+        && flat_records::area_record::is_marked(area);
     if !marked {
         return calls::tell_length(Encoded::Malformed, written);
     }
@@ -40,7 +41,8 @@ pub extern "C" fn jakepuro_area_area_len_of_encoding<'a>(
 ) -> u8
     ensures { λ r. ⌜ Told (lengthAnswer (againstArea (areaIn (now (reference .entry)))) (areaIn (now (area .entry)))) r (now (length .exit)) ⌝ }
 {
-    let marked = flat_records::area_record::both_marked(reference, area);
+    let marked = flat_records::area_record::is_marked(reference)
+        && flat_records::area_record::is_marked(area);
     if !marked {
         return calls::tell_length(Encoded::Malformed, length);
     }

@@ -5,13 +5,14 @@ ghost use Rattle.codec.specs.Format.{writeAnswer, lengthAnswer};
 ghost use Rattle.compact_u64.specs.Number.{minTag, standalone, readStandalone};
 ghost use Rattle.compact_u64.specs.Answers.{numberAnswer};
 ghost use Rattle.calls.specs.Calls.{Encodes, Told, readCode, Stores};
-ghost use Rattle.jakepuro.specs.Tagged.{tagged, readTagged, tagOr, HasBits};
+ghost use Rattle.jakepuro.specs.Tagged.{tagged, readTagged, tagOr};
+ghost use Rattle.jakepuro.specs.inside.Tagged.{HasBits};
 use codec::Encoded;
 use compact_u64::DecodedU64;
 use compact_u64::TagWidth;
 
 // A tag's width by its bits.
-pub enum NumberWidth {
+enum NumberWidth {
     Bits(TagWidth),
     Malformed,
 }

@@ -17,7 +17,8 @@ pub extern "C" fn jakepuro_range3d_range3d_encode<'a>(
 ) -> u8
     ensures { λ r. ⌜ Encodes (againstRange (rangeIn (now (reference .entry)))) (rangeIn (now (range .entry))) (now (buffer .entry)) (now (buffer .exit)) r (now (written .exit)) ⌝ }
 {
-    let marked = flat_records::range_record::both_marked(reference, range);
+    let marked = flat_records::range_record::is_marked(reference)
+        && flat_records::range_record::is_marked(range);
     if !marked {
         return calls::tell_length(Encoded::Malformed, written);
     }
@@ -42,7 +43,8 @@ pub extern "C" fn jakepuro_range3d_range3d_len_of_encoding<'a>(
 ) -> u8
     ensures { λ r. ⌜ Told (lengthAnswer (againstRange (rangeIn (now (reference .entry)))) (rangeIn (now (range .entry)))) r (now (length .exit)) ⌝ }
 {
-    let marked = flat_records::range_record::both_marked(reference, range);
+    let marked = flat_records::range_record::is_marked(reference)
+        && flat_records::range_record::is_marked(range);
     if !marked {
         return calls::tell_length(Encoded::Malformed, length);
     }

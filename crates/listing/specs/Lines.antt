@@ -4,21 +4,22 @@ use mathlib.Core.Bool.{Bool, true, false, cond}
 use Prim.Native.Nat.{ℕ}
 use lib.Dec.{eqb, leb}
 use lib.ListN.{length}
+use Rattle.codec.specs.Answers.{Said}
+use Rattle.path.specs.declared.Path.{Path as HeldPath}
 use Rattle.path.specs.Record.{pathFrom}
 use Rattle.path.specs.Flat.{pathIn}
 use Rattle.grouping.specs.Record.{Area}
 use Rattle.area_area.specs.Records.{readAgainstArea}
 use Rattle.text.specs.Decimal.{decimalText}
-use Rattle.path_text.specs.declared.PathField.{PathField}
 use Rattle.path_text.specs.PathText.{componentsTextOf, readField, readComponentsText}
 use Rattle.area_text.specs.AreaText.{readSubspaceText, readEndText, subspaceText, endText}
 use Rattle.case_text.specs.Texts.{six, afterTab, ended, readText}
 use Rattle.case_text.specs.declared.Op.{Op}
 use Rattle.case_text.specs.declared.Op.the-variants as op
-use Rattle.case_text.specs.Fields.{field, onField, onPath, exactly, decimalField, hexField, opOf}
+use Rattle.case_text.specs.Fields.{field, onField, onSaid, exactly, decimalField, hexField, opOf}
 
 -- a path: an empty field is the path of no components. That path and the one of one empty component print alike
-unfoldable pub readPathField : List ℕ → PathField
+unfoldable pub readPathField : List ℕ → Said HeldPath
 readPathField s = cond (eqb (length s) 0) (readField (pathFrom [])) (readComponentsText s)
 
 -- ---- an area is four fields: subspace, path, start, end
@@ -29,10 +30,10 @@ areaText a = subspaceText (a .subspace) ++ afterTab (componentsTextOf (a .path))
 abbrev pub areaField : List ℕ → (Area → List ℕ) → List ℕ
 areaField line k =
     onField (readSubspaceText (field 1 line) .ok) (readSubspaceText (field 1 line) .subspace) (λ subspace.
-    onPath (readPathField (field 2 line) .found) (pathIn (readPathField (field 2 line) .path .flat)) (λ path.
+    onSaid (readPathField (field 2 line)) (λ path.
     decimalField 3 line (λ start.
     onField (readEndText (field 4 line) .ok) (readEndText (field 4 line) .end) (λ end.
-    k (record { subspace = subspace; path = path; times = record { start = start; end = end } })))))
+    k (record { subspace = subspace; path = pathIn (path .flat); times = record { start = start; end = end } })))))
 
 -- ---- a line: the mode, the reference, the message
 abbrev pub readLine : Bool → List ℕ → List ℕ

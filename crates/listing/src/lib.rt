@@ -1,18 +1,14 @@
 // The area listing: the answer to one of its lines, docs/LISTING.md. A line is answered where MAX_ANSWER bytes are free; elsewhere nothing changes.
 ghost use mathlib.Core.Path.{_≡_};
 ghost use mathlib.Core.Bool.{false};
-ghost use Prim.Native.Nat.{_≤_};
-ghost use lib.ListN.{length};
-ghost use Rattle.codec.specs.Format.{over};
 ghost use Rattle.path.specs.Flat.{pathIn};
 ghost use Rattle.grouping.specs.Record.{areaWith};
-ghost use Rattle.lines.specs.Lines.{span, answers, fittingLines};
 ghost use Rattle.case_text.specs.Texts.{ended};
-ghost use Rattle.case_text.specs.Answers.{Puts, PutsWithin};
+ghost use Rattle.case_text.specs.Answers.{PutsText, PutsWithin};
 ghost use Rattle.case_text.specs.Fields.{Says};
+ghost use Rattle.path_text.specs.PathText.{Finds};
 ghost use Rattle.listing.specs.Lines.{readPathField, areaText, areaField, readLine, answerTo};
 use case_text::HexField;
-use case_text::MAX_ANSWER;
 use case_text::MAX_BYTES;
 use case_text::Op;
 use case_text::fields;
@@ -34,15 +30,9 @@ pub struct AreaField {
     pub path: Path,
 }
 
-// What was answered: the bytes of the lines, and those of the answers.
-pub struct Answered {
-    pub taken: usize,
-    pub put: usize,
-}
-
 // An empty field is the path of no components.
 fn read_path(s: &[u8]) -> PathField
-    ensures { λ r. ⌜ r ≡ readPathField (now (s .entry)) ⌝ }
+    ensures { λ r. ⌜ Finds r (readPathField (now (s .entry))) ⌝ }
 {
     if s.len() == 0 {
         let path = Path::new_empty();
@@ -105,7 +95,7 @@ fn read_area(line: &[u8]) -> AreaField
 
 // Prints an area from the buffer's first byte on.
 fn print(area: AreaHead, path: &[u8; 641], buffer: &mut [u8; MAX_BYTES]) -> usize
-    ensures { λ r. ⌜ Puts 0 (areaText (areaWith area (pathIn (now (path .entry))))) (now (buffer .entry)) (now (buffer .exit)) r ⌝ }
+    ensures { λ r. ⌜ PutsText 0 (areaText (areaWith area (pathIn (now (path .entry))))) (now (buffer .entry)) (now (buffer .exit)) r ⌝ }
 {
     let subspace = area.subspace;
     let times = area.times;
@@ -164,28 +154,5 @@ pub fn answer(line: &[u8], out: &mut [u8], at: usize) -> usize
         Op::Write => put::refuse(out, at),
         Op::Length => put::refuse(out, at),
         Op::Unknown => put::refuse(out, at),
-    }
-}
-
-// Answers the whole lines of a text, one after another, while MAX_ANSWER bytes of the buffer are free.
-pub fn answer_lines(s: &[u8], out: &mut [u8]) -> Answered
-    ensures { λ r. ⌜ (r .taken ≡ span (fittingLines answerTo 16640 (length (now (out .entry))) (now (s .entry)))) × (r .put ≡ length (answers answerTo (fittingLines answerTo 16640 (length (now (out .entry))) (now (s .entry))))) ⌝ }
-    ensures { λ _. ⌜ now (out .exit) ≡ over (answers answerTo (fittingLines answerTo 16640 (length (now (out .entry))) (now (s .entry)))) (now (out .entry)) ⌝ }
-    ensures { λ r. ⌜ (r .taken ≤ length (now (s .entry))) × (r .put ≤ length (now (out .exit))) ⌝ }
-{
-    let mut at: usize = 0;
-    let mut put: usize = 0;
-    while MAX_ANSWER <= out.len() - put {
-        let rest = &s[at..];
-        let k = text::find(rest, b'\n');
-        if k == rest.len() {
-            break;
-        }
-        put = answer(&rest[..k], out, put);
-        at += k + 1;
-    }
-    Answered {
-        taken: at,
-        put: put,
     }
 }

@@ -4,7 +4,8 @@ use Rattle.path.specs.Record.{Path, componentsOf, sized, wellFormed, len
 use Rattle.codec.specs.Bytes.{sameBytes}
 use Rattle.codec.proofs.SameBytes.{same-refl, different}
 use Rattle.path.specs.Prefix.{shared, isPrefix, samePath}
-use Rattle.path.specs.Answers.{said, unsaid, saidIf}
+use Rattle.codec.specs.Answers.{said, unsaid}
+use Rattle.path.specs.Answers.{saidIf}
 use Rattle.codec.proofs.Tests.{and-left, and-right}
 use Rattle.path.proofs.Prefix.{shared-nil, shared-sym}
 use Rattle.path.specs.Flat.{pathIn, lent}

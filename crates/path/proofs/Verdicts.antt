@@ -1,6 +1,7 @@
 -- What an answer says of its tests.
 use Rattle.codec.proofs.Prelude.{_≡_, refl, Bool, true, false, ℕ, arith}
-use Rattle.path.specs.Answers.{said, unsaid, saidIf}
+use Rattle.codec.specs.Answers.{said, unsaid}
+use Rattle.path.specs.Answers.{saidIf}
 
 pub said-known : {A : Type 0} (formed : Bool) (v w : A) → said w ≡ saidIf formed v → (formed ≡ true) × (v ≡ w)
 said-known true v w e = (refl, cc)

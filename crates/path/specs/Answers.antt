@@ -2,6 +2,7 @@
 use mathlib.Core.Bool.{Bool, true, false, cond}
 use Prim.Native.Nat.{ℕ}
 use lib.Dec.{ltb}
+use Rattle.codec.specs.Answers.{Said, said, unsaid}
 use Rattle.path.specs.declared.ComponentCount.{ComponentCount}
 use Rattle.path.specs.declared.ComponentCount.the-variants as count
 use Rattle.path.specs.declared.ComponentBytes.{ComponentBytes}
@@ -10,11 +11,7 @@ use Rattle.path.specs.declared.Compared.{Compared}
 use Rattle.path.specs.declared.Compared.the-variants as compared
 use Rattle.path.specs.Record.{Path, wellFormed, lengthAt, startAt}
 
--- what a count, a place or a comparison says, or a refusal's number; 5 unless the records are formed
-pub data Said (A : Type 0) : Type 0 where
-  said : A → Said A
-  unsaid : ℕ → Said A
-
+-- 5 unless the records are formed
 abbrev pub saidIf : {A : Type 0} → Bool → A → Said A
 saidIf true a = said a
 saidIf false a = unsaid 5

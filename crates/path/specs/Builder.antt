@@ -5,7 +5,7 @@ use mathlib.Core.Bool.{Bool, true, _&&_}
 use Prim.Native.Nat.{ℕ, _+_, _*_}
 use lib.Dec.{leb, ltb}
 use lib.ListN.{length, take, drop}
-use Rattle.codec.specs.Format.{Verdict, allowed, barred, verdictBy, over}
+use Rattle.codec.specs.Format.{Verdict, allowed, refusedValue, verdictBy, over}
 use Rattle.path.specs.Record.{Path, joined, componentsOf, pathFrom, sized}
 use Rattle.path.specs.declared.Appended.{Appended}
 use Rattle.path.specs.declared.Appended.the-variants as appended
@@ -48,12 +48,12 @@ builtMore b c s = built (builderOf (b .total + length c) (b .count + 1)) (record
 -- the numbers of the code's answers
 abbrev pub appendedVerdict : Appended → Verdict
 appendedVerdict appended.Grown = allowed
-appendedVerdict appended.Outside = barred 3
-appendedVerdict appended.Malformed = barred 5
+appendedVerdict appended.Outside = refusedValue 3
+appendedVerdict appended.Malformed = refusedValue 5
 
 abbrev pub ifAllowed : {A : Type 0} → Verdict → A → A → A
 ifAllowed allowed a b = a
-ifAllowed (barred k) a b = b
+ifAllowed (refusedValue k) a b = b
 
 -- the answer and the builder g, and the record left: what was asked for, or what there is beside a refusal
 pub record Grows (d : Verdict) (grown beside : Built) (g : Growth) (left : List ℕ) : Type 0 where

@@ -5,3 +5,4 @@ pub mod Puts
 pub mod Prefix
 pub mod Builder
 pub mod Answers
+pub mod inside

@@ -1,10 +1,11 @@
 -- docs/FORMAT.md, "Paths": a path's record, the bytes of its components one after the other, their lengths, and their count, unused parts zero. The code
 -- holds it as bytes: Flat says how.
--- Definitions above this crate speak of `componentsOf`, `pathFrom`, `wellFormed` and `lengthAt`, so that lengths may be held in another way.
+-- Definitions above this crate speak of `componentsOf`, `pathFrom`, `wellFormed`, `sized` and the count, so that lengths may be held in another way; `flat`
+-- alone hands them on.
 use mathlib.Core.Path.{_≡_}
 use mathlib.Core.List.{List, [], _∷_, _++_, map}
 use mathlib.Core.Bool.{Bool, true, _&&_}
-use Prim.Native.Nat.{ℕ, _+_, _-_, _≤_}
+use Prim.Native.Nat.{ℕ, _+_, _-_}
 use lib.Dec.{leb, eqb}
 use lib.ListN.{length, take, drop, getD, replicate}
 use Rattle.codec.specs.Answers.{AllBytes}
@@ -63,11 +64,6 @@ unfoldable pub sized : Path → Bool
 sized p =
     eqb (length (p .bytes)) maxPathLength
     && (eqb (length (p .lengths)) maxComponentCount && (leb (p .count) maxComponentCount && leb (sumOf (used p)) maxPathLength))
-
--- sizes within the limits, and k components at least
-pub record Leads (p : Path) (k : ℕ) : Type 0 where
-  pub fits : sized p ≡ true
-  pub there : k ≤ p .count
 
 -- what the language says of a record, by its size and its bytes
 pub record TypedPath (p : Path) : Type 0 where

@@ -1,3 +1,4 @@
 pub mod Plain
 pub mod Yields
 pub mod Exits
+pub mod Components

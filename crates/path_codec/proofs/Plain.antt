@@ -1,6 +1,6 @@
 -- The plain path is a lawful format, and reads back leniently too.
 use Rattle.codec.proofs.Prelude.{_≡_, List, Bool, true, false, ℕ, arith, le-leb, length}
-use Rattle.codec.specs.Format.{Valid, Writes, barred}
+use Rattle.codec.specs.Format.{Valid, Writes, refusedValue}
 use Rattle.codec.specs.Reader.{Reader, mapped}
 use Rattle.codec.specs.Reads.{ReadsBack}
 use Rattle.codec.specs.Lawful.{Lawful}
@@ -14,9 +14,10 @@ use Rattle.path.proofs.Limits.{limits-total, limits-count, limits-of, path-ok, 
 use Rattle.path.proofs.Record.{well-formed, formed-well, apart, made, components-of}
 use Rattle.path.proofs.Components.{well-sized}
 use Rattle.path_suffix.specs.Suffix.{suffixBytes, readSuffix, suffixBy}
-use Rattle.path_suffix.specs.Relations.{SuffixAs}
+use Rattle.path_suffix.proofs.Relations.{SuffixAs}
 use Rattle.path_suffix.proofs.Suffix.{suffix-reads, suffix-back, suffix-empty}
-use Rattle.path_codec.specs.Plain.{onComponents, onRecords, plainPath, readPath}
+use Rattle.path_codec.specs.Plain.{onRecords, plainPath, readPath}
+use Rattle.path_codec.proofs.Components.{onComponents}
 
 -- ---- a lawful format on components is one on records
 module _ (inside : List (List ℕ) → Bool) (encode : List (List ℕ) → List ℕ) where
@@ -76,7 +77,7 @@ path-back canonic = back-on-records (λ cs. true) suffixBytes (readSuffix canoni
 
 -- ---- a plain path is written as its suffix from the first component on
 module _ (p : Path) where
-  pub plain-malformed : wellFormed p ≡ false → plainPath .check p ≡ barred 5
+  pub plain-malformed : wellFormed p ≡ false → plainPath .check p ≡ refusedValue 5
   plain-malformed w = rw w
 
   pub plain-check : wellFormed p ≡ true → suffixBy sized 0 .check p ≡ plainPath .check p

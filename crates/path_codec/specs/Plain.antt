@@ -5,13 +5,10 @@ use Prim.Native.Nat.{ℕ}
 use Rattle.codec.specs.Format.{Format, verdictBy}
 use Rattle.codec.specs.Reader.{Reader, mapped}
 use Rattle.path.specs.Record.{Path, componentsOf, pathFrom, wellFormed}
-use Rattle.path.specs.Limits.{limits, pathOk}
+use Rattle.path.specs.Limits.{limits}
 use Rattle.path_suffix.specs.Suffix.{suffixBytes, readSuffix}
 
--- a format of paths as lists of components, and the same on records: 5 unless well formed, then 3 unless inside
-abbrev pub onComponents : (List (List ℕ) → Bool) → (List (List ℕ) → List ℕ) → Format (List (List ℕ))
-onComponents inside encode = record { check = λ cs. verdictBy (pathOk cs) (inside cs); encode = encode }
-
+-- a format of paths by their components: 5 unless well formed, then 3 unless inside
 abbrev pub onRecords : (List (List ℕ) → Bool) → (List (List ℕ) → List ℕ) → Format Path
 onRecords inside encode = record { check = λ p. verdictBy (wellFormed p) (inside (componentsOf p)); encode = λ p. encode (componentsOf p) }
 

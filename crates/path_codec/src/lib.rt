@@ -9,20 +9,26 @@ ghost use Rattle.path.specs.Flat.{pathIn};
 ghost use Rattle.path_codec.specs.Plain.{plainPath, readPath};
 use codec::Decoded;
 use codec::Encoded;
-use path_suffix_decode::DecodedSizes;
 
 // Reads a plain path; beside a refusal the record is the empty one.
 pub fn decode(message: &[u8], start: usize, canonic: bool, out: &mut [u8; 641]) -> Decoded
     ensures { λ r. ⌜ Gives (pathFrom []) r (pathIn (now (out .exit))) (readPath canonic (drop start (now (message .entry)))) ⌝ }
 {
     let sizes = path_suffix_decode::decode_sizes(message, start, canonic);
-    let DecodedSizes::Sizes(total, count, n) = sizes else {
+    let sizes_answer = sizes.answer;
+    let Decoded::Consumed(n) = sizes_answer else {
         path::lent::clear(out);
-        return path_suffix_decode::sizes_refusal(sizes);
+        return sizes_answer;
     };
     let at = start + n;
     let rest = &message[at..];
-    let answer = path_suffix_decode::decode_components(rest, canonic, total, count, out);
+    let answer = path_suffix_decode::decode_components(
+        rest,
+        canonic,
+        sizes.total,
+        sizes.count,
+        out,
+    );
     let Decoded::Consumed(m) = answer else {
         return answer;
     };

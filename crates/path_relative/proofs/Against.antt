@@ -1,12 +1,13 @@
 -- The laws of a path against a path within the limits.
 use Rattle.codec.proofs.Prelude.{_≡_, refl, sym, ap, _∙_, List, [], _++_, Bool, true, false, cond, ℕ, _+_, _≤_, _*_, arith, leb, eqb, leb-true, eqb-true, le-leb, eq-eqb, length, take, drop, length-append, length-drop, take-append-drop, length-take-le, drop-at}
 use Rattle.codec.specs.Answers.{refused}
-use Rattle.codec.specs.Reads.{Reads, ReadsBack, Relaxes, Bounded, Joined, Mapped, Tested}
+use Rattle.codec.specs.Reads.{Reads, ReadsBack, Relaxes, Bounded}
+use Rattle.codec.proofs.Relations.{Joined, Mapped, Tested}
 use Rattle.codec.proofs.Readers.{reads-as, then-reads, checked-reads, mapped-reads}
 use Rattle.codec.proofs.Relaxes.{relaxes-back, then-relaxes, checked-relaxes, mapped-relaxes}
 use Rattle.codec.proofs.Bounded.{then-bounded, checked-bounded, mapped-bounded}
 use Rattle.compact_u64.specs.Number.{standaloneBytes, readStandalone}
-use Rattle.compact_u64.specs.Laws.{StandaloneAs}
+use Rattle.compact_u64.proofs.Relations.{StandaloneAs}
 use Rattle.compact_u64.proofs.Standalone.{standalone-reads, standalone-relaxes, standalone-bounded, standalone-short}
 use Rattle.path.specs.Limits.{totalOf, Component, PathOk}
 use Rattle.path.specs.Prefix.{shared}
@@ -14,9 +15,10 @@ use Rattle.codec.proofs.Tests.{and-left, and-right}
 use Rattle.path.proofs.Limits.{total-append, total-split, all-append, all-take, all-drop, limits-total, limits-count, limits-of}
 use Rattle.path.proofs.Prefix.{Shares, shares}
 use Rattle.path_suffix.specs.Suffix.{suffixBytes}
-use Rattle.path_suffix.specs.Relations.{SuffixAs}
+use Rattle.path_suffix.proofs.Relations.{SuffixAs}
 use Rattle.path_suffix.proofs.Suffix.{suffix-reads, suffix-relaxes, suffix-bounded, suffix-short}
-use Rattle.path_relative.specs.Against.{againstBytes, joinOk, readAgainst, AgainstAs}
+use Rattle.path_relative.specs.Against.{againstBytes, joinOk, readAgainst}
+use Rattle.path_relative.proofs.Relations.{AgainstAs}
 
 -- ---- the limits of the whole path, as a test and as facts
 pub record JoinOk (r : List (List ℕ)) (k total count : ℕ) : Type 0 where

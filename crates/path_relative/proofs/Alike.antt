@@ -3,7 +3,8 @@ use Rattle.codec.proofs.Prelude.{_≡_, refl, sym, ap, _∙_, List, _++_, Bool,
 use Rattle.codec.specs.Bytes.{sameBytes}
 use Rattle.codec.specs.Reads.{Yields}
 use Rattle.codec.proofs.Yields.{yields-as, guard-yields, mapped-yields}
-use Rattle.path.specs.Record.{Path, componentsOf, pathFrom, sized, lengthAt, startAt, Leads}
+use Rattle.path.specs.Record.{Path, componentsOf, pathFrom, sized, lengthAt, startAt}
+use Rattle.path.specs.inside.Sizes.{Leads}
 use Rattle.path.specs.Limits.{totalOf, limits}
 use Rattle.path.specs.Prefix.{shared}
 use Rattle.path.proofs.Record.{components-of}
@@ -12,8 +13,8 @@ use Rattle.path.proofs.Components.{Formed, sized-formed, bytesAt, count-is, pre
 use Rattle.path.proofs.Compare.{Together, left-ends, right-ends, lengths-differ}
 use Rattle.path.proofs.Growing.{sized-from}
 use Rattle.path_suffix.proofs.Yields.{components-yields}
-use Rattle.path_suffix_decode.specs.After.{readOn, readMore}
-use Rattle.path_relative.specs.Records.{Alike}
+use Rattle.path_suffix_decode.specs.After.{readAfter, readMore}
+use Rattle.path_relative.specs.inside.Reading.{Alike}
 use Rattle.path_relative.proofs.Leading.{shared-after}
 
 shared-split : (r p : List (List ℕ)) (k : ℕ) → k ≤ length r → take k r ≡ take k p → shared r p ≡ k + shared (drop k r) (drop k p)
@@ -68,8 +69,8 @@ module _ {p q : Path} {k : ℕ} (a : Alike p q k) where
         rw (here, there) (decides (sameBytes (bytesAt p k) (bytesAt q k)) refl)
 
 -- a path read after the first components of another
-pub on-alike : (canonic : Bool) (p : Path) (k : ℕ) → Leads p k → (total count : ℕ) → Yields (readOn canonic p k total count) (λ q. Alike p q k)
-unfolding readOn readMore
+pub on-alike : (canonic : Bool) (p : Path) (k : ℕ) → Leads p k → (total count : ℕ) → Yields (readAfter canonic p k total count) (λ q. Alike p q k)
+unfolding readAfter readMore
 on-alike canonic p k here total count = rw (here .fits, le-leb k (p .count) (here .there)) (
     guard-yields (limits (totalOf (take k (componentsOf p)) + total) (length (take k (componentsOf p)) + count)) _ _ (λ within.
     mapped-yields (λ ds. pathFrom (take k (componentsOf p) ++ ds)) _ _ (

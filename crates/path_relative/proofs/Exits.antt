@@ -6,7 +6,8 @@ use Rattle.codec.specs.Answers.{Answer, AllBytes, accepted, refused}
 use Rattle.codec.specs.Reader.{bind, shift, named, passed, guard, checked, mapped}
 use Rattle.codec.proofs.Bytes.{AllBytes·drop}
 use Rattle.compact_u64.specs.Number.{readStandalone}
-use Rattle.path.specs.Record.{Path, componentsOf, pathFrom, Leads}
+use Rattle.path.specs.Record.{Path, componentsOf, pathFrom}
+use Rattle.path.specs.inside.Sizes.{Leads}
 use Rattle.path.specs.Limits.{totalOf, limits}
 use Rattle.path.specs.Prefix.{shared}
 use Rattle.path.proofs.Record.{components-of}
@@ -15,11 +16,12 @@ use Rattle.path.proofs.Components.{Formed, sized-formed, count-is, prefix-count
 use Rattle.path_suffix.specs.Suffix.{sizesFrom, readSizes, readComponents, readSuffix}
 use Rattle.path_suffix.proofs.Components.{components-bounded}
 use Rattle.path_suffix.proofs.Yields.{components-yields}
-use Rattle.path_suffix_decode.specs.After.{readMore, readOn}
+use Rattle.path_suffix_decode.specs.After.{readMore, readAfter}
 use Rattle.path_codec.specs.Plain.{readPath}
 use Rattle.path_relative.specs.Against.{joinOk, readAgainst}
 use Rattle.path_relative.specs.Extension.{readExtension}
-use Rattle.path_relative.specs.Records.{readAgainstBy, readExtendsBy, readJoined}
+use Rattle.path_relative.specs.Records.{readAgainstBy, readExtendsBy}
+use Rattle.path_relative.specs.inside.Reading.{readJoined}
 
 -- ---- against a path
 pub against-malformed : (formed : Path → Bool) (canonic : Bool) (r : Path) (s : List ℕ) → formed r ≡ false → readAgainstBy formed canonic r s ≡ refused 5
@@ -64,20 +66,20 @@ module _ (formed : Path → Bool) (canonic : Bool) (r : Path) (w : formed r ≡ 
 -- by the reader after the first components of a path
 module _ (canonic : Bool) (r : Path) (k : ℕ) (here : Leads r k) (total count : ℕ) (s : List ℕ) where
   pub joined-on : readJoined canonic r k total count s
-      ≡ bind (readOn canonic r k total count s) (λ p n. passed (cond canonic (eqb (shared (componentsOf r) (componentsOf p)) k) true) (accepted p n))
-  unfolding readJoined joinOk readOn readMore
+      ≡ bind (readAfter canonic r k total count s) (λ p n. passed (cond canonic (eqb (shared (componentsOf r) (componentsOf p)) k) true) (accepted p n))
+  unfolding readJoined joinOk readAfter readMore
   joined-on =
       let f = sized-formed (here .fits) in
       rw (here .fits, le-leb k (r .count) (here .there), le-leb k (length (componentsOf r)) (omega (arith, count-is r f, here .there)), prefix-count r f k (here .there))
 
-  pub joined-loose : canonic ≡ false → readJoined canonic r k total count s ≡ readOn canonic r k total count s
-  joined-loose e = joined-on ∙ rw e (go (readOn false r k total count s))
+  pub joined-loose : canonic ≡ false → readJoined canonic r k total count s ≡ readAfter canonic r k total count s
+  joined-loose e = joined-on ∙ rw e (go (readAfter false r k total count s))
     where
       go : (x : Answer Path) → bind x (λ p n. passed true (accepted p n)) ≡ x
       go (accepted p n) = refl
       go (refused j) = refl
 
-  pub joined-tested : (p : Path) (n : ℕ) → canonic ≡ true → readOn canonic r k total count s ≡ accepted p n → readJoined canonic r k total count s ≡ passed (eqb (shared (componentsOf r) (componentsOf p)) k) (accepted p n)
+  pub joined-tested : (p : Path) (n : ℕ) → canonic ≡ true → readAfter canonic r k total count s ≡ accepted p n → readJoined canonic r k total count s ≡ passed (eqb (shared (componentsOf r) (componentsOf p)) k) (accepted p n)
   joined-tested p n e f = joined-on ∙ rw (f, e)
 
 pub joined-bounded : (canonic : Bool) (r : Path) (k total count : ℕ) → Bounded (readJoined canonic r k total count)

@@ -1,15 +1,17 @@
 -- The laws of an extension of a path within the limits.
 use Rattle.codec.proofs.Prelude.{_≡_, sym, ap, _∙_, List, [], _++_, Bool, true, false, ℕ, _+_, _≤_, arith, length, drop, length-drop, take-append-drop, take-append-seam, drop-append-seam}
 use Rattle.codec.specs.Answers.{refused}
-use Rattle.codec.specs.Reads.{Reads, ReadsBack, Relaxes, Bounded, Mapped, Tested}
+use Rattle.codec.specs.Reads.{Reads, ReadsBack, Relaxes, Bounded}
+use Rattle.codec.proofs.Relations.{Mapped, Tested}
 use Rattle.codec.proofs.Readers.{reads-as, checked-reads, mapped-reads}
 use Rattle.codec.proofs.Relaxes.{relaxes-back, checked-relaxes, mapped-relaxes}
 use Rattle.codec.proofs.Bounded.{checked-bounded, mapped-bounded}
 use Rattle.path.specs.Limits.{totalOf, limits, Component, PathOk}
 use Rattle.path.proofs.Limits.{total-append, all-append, all-drop, limits-total, limits-count, limits-of}
-use Rattle.path_suffix.specs.Relations.{SuffixAs}
+use Rattle.path_suffix.proofs.Relations.{SuffixAs}
 use Rattle.path_suffix.proofs.Suffix.{suffix-reads, suffix-relaxes, suffix-bounded, suffix-empty}
-use Rattle.path_relative.specs.Extension.{readExtension, ExtensionAs}
+use Rattle.path_relative.specs.Extension.{readExtension}
+use Rattle.path_relative.proofs.Relations.{ExtensionAs}
 
 pub extension-relaxes : (r : List (List ℕ)) → Relaxes (readExtension true r) (readExtension false r)
 unfolding readExtension

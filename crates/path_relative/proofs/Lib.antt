@@ -9,3 +9,4 @@ pub mod Within
 pub mod Writing
 pub mod Lent
 pub mod Orders
+pub mod Relations

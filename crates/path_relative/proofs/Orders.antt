@@ -33,3 +33,17 @@ own-limits-first = refl
 shared-count-last : readAgainst true ((97 ∷ []) ∷ []) (0 ∷ head 3 2 ∷ 1 ∷ 97 ∷ []) ≡ refused 1
 unfolding readAgainst joinOk readSuffix readSizes readComponents readSized readLast readNumber numberSaid encodingWidth minTag
 shared-count-last = refl
+
+-- a long form of the shared count is refused before the sizes are missed
+shared-count-first : readAgainst true [] (252 ∷ 0 ∷ []) ≡ refused 2
+unfolding readAgainst readNumber numberSaid encodingWidth minTag
+shared-count-first = refl
+
+-- that it is above the reference's is told once the sizes are there
+above-short : readAgainst false [] (1 ∷ []) ≡ refused 1
+unfolding readAgainst joinOk readSuffix readSizes readNumber numberSaid encodingWidth minTag
+above-short = refl
+
+above-there : readAgainst false [] (1 ∷ head 0 0 ∷ []) ≡ refused 2
+unfolding readAgainst joinOk readSuffix readSizes readNumber numberSaid encodingWidth minTag
+above-there = refl

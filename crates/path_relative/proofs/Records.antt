@@ -13,10 +13,11 @@ use Rattle.path.specs.Prefix.{isPrefix}
 use Rattle.path.proofs.Limits.{path-ok, ok-path, typed-of}
 use Rattle.path.proofs.Record.{well-formed, apart}
 use Rattle.path.proofs.Prefix.{prefix-takes, takes-prefix}
-use Rattle.path_codec.specs.Plain.{onComponents}
+use Rattle.path_codec.proofs.Components.{onComponents}
 use Rattle.path_codec.proofs.Plain.{on-records, back-on-records}
-use Rattle.path_relative.specs.Against.{againstBytes, readAgainst, AgainstAs}
-use Rattle.path_relative.specs.Extension.{extensionBytes, readExtension, ExtensionAs}
+use Rattle.path_relative.specs.Against.{againstBytes, readAgainst}
+use Rattle.path_relative.proofs.Relations.{AgainstAs, ExtensionAs}
+use Rattle.path_relative.specs.Extension.{extensionBytes, readExtension}
 use Rattle.path_relative.specs.Records.{againstPath, extendsPath, readAgainstPath, readExtendsPath}
 use Rattle.path_relative.proofs.Against.{against-reads, against-back, against-empty}
 use Rattle.path_relative.proofs.Extension.{extension-reads, extension-back, extension-empty}

@@ -6,7 +6,8 @@ use Rattle.codec.specs.Reader.{bind, shift, named, passed, checked, mapped, onF
 use Rattle.codec.specs.Reads.{Bounded, Yields}
 use Rattle.codec.proofs.Bounded.{checked-bounded}
 use Rattle.codec.proofs.Readers.{bind-inv, passed-inv}
-use Rattle.path.specs.Record.{Path, componentsOf, pathFrom, sized, Leads}
+use Rattle.path.specs.Record.{Path, componentsOf, pathFrom, sized}
+use Rattle.path.specs.inside.Sizes.{Leads}
 use Rattle.path.specs.declared.Compared.{Compared}
 use Rattle.path.specs.declared.Compared.the-variants as compared
 use Rattle.path.specs.Answers.{saidIf, comparedAnswer}
@@ -15,14 +16,15 @@ use Rattle.path.proofs.Record.{components-of}
 use Rattle.path.proofs.Components.{sized-formed, count-is}
 use Rattle.path.proofs.Prefix.{takes-prefix}
 use Rattle.path.proofs.Verdicts.{said-known, unsaid-known}
-use Rattle.path_suffix_decode.specs.After.{readOn}
+use Rattle.path_suffix_decode.specs.After.{readAfter}
 use Rattle.path_relative.specs.Against.{readAgainst}
-use Rattle.path_relative.specs.Records.{readAgainstBy, readTestedBy, readTested, readJoined, prefixIf, Told}
+use Rattle.path_relative.specs.Records.{readAgainstBy}
+use Rattle.path_relative.specs.inside.Reading.{ToldShared, readTestedBy, readTested, readJoined, prefixIf}
 use Rattle.path_relative.proofs.Alike.{on-alike}
 use Rattle.path_relative.proofs.Exits.{joined-on, joined-bounded}
 
 -- ---- whether a reference is a prefix of the path that was read against it
-module _ {canonic : Bool} {r p : Path} {k : ℕ} (t : Told canonic r p k) where
+module _ {canonic : Bool} {r p : Path} {k : ℕ} (t : ToldShared canonic r p k) where
   counted : length (componentsOf r) ≡ r .count
   counted = count-is r (sized-formed (t .alike .left .fits))
 
@@ -53,10 +55,10 @@ passes (accepted a n) = refl
 passes (refused k) = refl
 
 module _ (canonic : Bool) (r : Path) (k total count : ℕ) where
-  pub joined-told : Leads r k → Yields (readJoined canonic r k total count) (λ p. Told canonic r p k)
+  pub joined-told : Leads r k → Yields (readJoined canonic r k total count) (λ p. ToldShared canonic r p k)
   joined-told here = record {
     holds = λ s p n small e.
-        let (q, m, f, g) = bind-inv (readOn canonic r k total count s) (λ p n. passed (cond canonic (eqb (shared (componentsOf r) (componentsOf p)) k) true) (accepted p n)) p n (sym (joined-on canonic r k here total count s) ∙ e) in
+        let (q, m, f, g) = bind-inv (readAfter canonic r k total count s) (λ p n. passed (cond canonic (eqb (shared (componentsOf r) (componentsOf p)) k) true) (accepted p n)) p n (sym (joined-on canonic r k here total count s) ∙ e) in
         let (ok, same, x) = passed-inv (cond canonic (eqb (shared (componentsOf r) (componentsOf q)) k) true) q m p n g in
         record {
           alike = rw same at (on-alike canonic r k here total count .holds s q m small f);

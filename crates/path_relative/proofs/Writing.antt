@@ -1,9 +1,9 @@
 -- Bytes written after the place of those that come first, and a path of which k components are shared.
 use Rattle.codec.proofs.Prelude.{_≡_, refl, sym, ap, _∙_, List, _++_, _+_, _≤_, _<_, append-assoc, Bool, true, false, cond, ℕ, arith, leb, leb-false, length, take, drop, length-append, length-drop, take-append-drop, drop-at, drop-drop, length-take-le}
-use Rattle.codec.specs.Answers.{wrote, denied}
-use Rattle.codec.specs.Format.{Verdict, allowed, barred, over, putAnswer, putBuffer, writeAnswer, writeBuffer}
+use Rattle.codec.specs.Answers.{wrote, refusedWriting}
+use Rattle.codec.specs.Format.{Verdict, allowed, refusedValue, over, putAnswer, putBuffer, writeAnswer, writeBuffer}
 use Rattle.codec.proofs.Lawful.{verdict-allowed}
-use Rattle.codec.proofs.Lending.{put-barred, put-full, put-fits, put-denied, put-wrote, put-over, wrote-not-denied}
+use Rattle.codec.proofs.Lending.{put-refused-value, put-full, put-fits, put-refused-writing, put-wrote, put-over, wrote-not-refused-writing}
 use Rattle.compact_u64.specs.Number.{standaloneBytes}
 use Rattle.path.specs.Record.{Path, componentsOf}
 use Rattle.path.proofs.Components.{Formed, rest-count, rest-small}
@@ -12,12 +12,12 @@ use Rattle.path_suffix.proofs.Suffix.{suffix-short}
 use Rattle.path_relative.specs.Records.{sharedBy}
 
 -- ---- a writing that was refused for room, and one that was written after the place of another
-pub no-room : (bs : List ℕ) (room why : ℕ) → putAnswer allowed bs room ≡ denied why → (why ≡ 4) × (room < length bs)
+pub no-room : (bs : List ℕ) (room why : ℕ) → putAnswer allowed bs room ≡ refusedWriting why → (why ≡ 4) × (room < length bs)
 unfolding putAnswer
 no-room bs room why e = go (leb (length bs) room) refl e
   where
-    go : (b : Bool) → leb (length bs) room ≡ b → cond b (wrote (length bs)) (denied 4) ≡ denied why → (why ≡ 4) × (room < length bs)
-    go true f g = absurd (wrote-not-denied (length bs) why g)
+    go : (b : Bool) → leb (length bs) room ≡ b → cond b (wrote (length bs)) (refusedWriting 4) ≡ refusedWriting why → (why ≡ 4) × (room < length bs)
+    go true f g = absurd (wrote-not-refused-writing (length bs) why g)
     go false f g = (cc, leb-false (length bs) room f)
 
 over-before : (l a b : List ℕ) → length a ≤ length l → over a (take (length a) l ++ over b (drop (length a) l)) ≡ over (a ++ b) l
@@ -29,13 +29,13 @@ module _ (first bs l : List ℕ) (a : ℕ) (ea : a ≡ length first) (h : a ≤ 
   both-long : (n : ℕ) → n ≡ length bs → a + n ≡ length (first ++ bs)
   both-long n en = omega (arith, ea, en, length-append first bs)
 
-  pub rest-refused : (why : ℕ) (ys : List ℕ) → putAnswer allowed bs (length (drop a l)) ≡ denied why → ys ≡ putBuffer allowed bs (drop a l)
-      → (denied why ≡ putAnswer allowed (first ++ bs) (length l)) × (take a l ++ ys ≡ putBuffer allowed (first ++ bs) l)
+  pub rest-refused : (why : ℕ) (ys : List ℕ) → putAnswer allowed bs (length (drop a l)) ≡ refusedWriting why → ys ≡ putBuffer allowed bs (drop a l)
+      → (refusedWriting why ≡ putAnswer allowed (first ++ bs) (length l)) × (take a l ++ ys ≡ putBuffer allowed (first ++ bs) l)
   rest-refused why ys e put =
       let short = no-room bs (length (drop a l)) why e in
       let full = put-full allowed (first ++ bs) l refl _ (both-long (length bs) refl) (omega (arith, short .1, length-drop a l)) in
-      let same : ys ≡ drop a l = put ∙ sym (put-denied allowed bs (drop a l) why e) in
-      (ap denied (short .0) ∙ full .0, rw same (take-append-drop a l ∙ full .1))
+      let same : ys ≡ drop a l = put ∙ sym (put-refused-writing allowed bs (drop a l) why e) in
+      (ap refusedWriting (short .0) ∙ full .0, rw same (take-append-drop a l ∙ full .1))
 
   pub rest-written : (n : ℕ) (ys : List ℕ) → putAnswer allowed bs (length (drop a l)) ≡ wrote n → ys ≡ putBuffer allowed bs (drop a l)
       → (wrote (a + n) ≡ putAnswer allowed (first ++ bs) (length l)) × (over first (take a l ++ ys) ≡ putBuffer allowed (first ++ bs) l)
@@ -46,18 +46,18 @@ module _ (first bs l : List ℕ) (a : ℕ) (ea : a ≡ length first) (h : a ≤ 
       (whole .0, rw (there, ea) (over-before l first bs (omega arith)) ∙ whole .1)
 
   -- whatever the verdict on their value is
-  pub rest-denied : (d : Verdict) (why : ℕ) (ys : List ℕ) → putAnswer d bs (length (drop a l)) ≡ denied why → ys ≡ putBuffer d bs (drop a l)
-      → (denied why ≡ putAnswer d (first ++ bs) (length l)) × (take a l ++ ys ≡ putBuffer d (first ++ bs) l)
-  rest-denied allowed why ys e put = rest-refused why ys e put
-  rest-denied (barred k) why ys e put =
-      let same : ys ≡ drop a l = put ∙ sym (put-barred (barred k) bs (drop a l) k refl .1) in
-      let whole = put-barred (barred k) (first ++ bs) l k refl in
-      (sym e ∙ sym (put-barred (barred k) bs (drop a l) k refl .0) ∙ whole .0, rw same (take-append-drop a l ∙ whole .1))
+  pub rest-refused-writing : (d : Verdict) (why : ℕ) (ys : List ℕ) → putAnswer d bs (length (drop a l)) ≡ refusedWriting why → ys ≡ putBuffer d bs (drop a l)
+      → (refusedWriting why ≡ putAnswer d (first ++ bs) (length l)) × (take a l ++ ys ≡ putBuffer d (first ++ bs) l)
+  rest-refused-writing allowed why ys e put = rest-refused why ys e put
+  rest-refused-writing (refusedValue k) why ys e put =
+      let same : ys ≡ drop a l = put ∙ sym (put-refused-value (refusedValue k) bs (drop a l) k refl .1) in
+      let whole = put-refused-value (refusedValue k) (first ++ bs) l k refl in
+      (sym e ∙ sym (put-refused-value (refusedValue k) bs (drop a l) k refl .0) ∙ whole .0, rw same (take-append-drop a l ∙ whole .1))
 
 -- no byte changes where not even a part has room
 pub short-unchanged : (d : Verdict) (bs l : List ℕ) → length l < length bs → l ≡ putBuffer d bs l
 short-unchanged allowed bs l h = put-full allowed bs l refl _ refl h .1
-short-unchanged (barred k) bs l h = put-barred (barred k) bs l k refl .1
+short-unchanged (refusedValue k) bs l h = put-refused-value (refusedValue k) bs l k refl .1
 
 -- ---- the number of shared components and the suffix after them, whatever is tested of the record
 module _ (formed : Path → Bool) (p : Path) (k : ℕ) where

@@ -1,5 +1,4 @@
 -- docs/FORMAT.md, "Paths": a path against a path, how many leading components are shared, and the suffix after them.
-use mathlib.Core.Path.{_≡_}
 use mathlib.Core.List.{List, _++_}
 use mathlib.Core.Bool.{Bool, true, cond, _&&_}
 use Prim.Native.Nat.{ℕ, _+_}
@@ -7,7 +6,7 @@ use lib.Dec.{leb, eqb}
 use lib.ListN.{length, take, drop}
 use Rattle.codec.specs.Reader.{Reader, andThen, checked, mapped}
 use Rattle.compact_u64.specs.Number.{standaloneBytes, readStandalone}
-use Rattle.path.specs.Limits.{totalOf, limits, PathOk}
+use Rattle.path.specs.Limits.{totalOf, limits}
 use Rattle.path.specs.Prefix.{shared}
 use Rattle.path_suffix.specs.Suffix.{suffixBytes, readSuffix}
 
@@ -26,8 +25,3 @@ readAgainst canonic r =
     checked (λ p. cond canonic (eqb (shared r p) k) true) (
     mapped (λ cs. take k r ++ cs) (
     readSuffix canonic (joinOk r k))))
-
--- the bytes e are what writing p against r gives
-pub record AgainstAs (r p : List (List ℕ)) (e : List ℕ) : Type 0 where
-  pub ok : PathOk p
-  pub bytes : e ≡ againstBytes r p

@@ -1,11 +1,10 @@
 -- docs/FORMAT.md, "Paths": an extension of a path, the suffix after the reference, which is a prefix.
-use mathlib.Core.Path.{_≡_}
 use mathlib.Core.List.{List, _++_}
 use mathlib.Core.Bool.{Bool}
 use Prim.Native.Nat.{ℕ}
-use lib.ListN.{length, take, drop}
+use lib.ListN.{length, drop}
 use Rattle.codec.specs.Reader.{Reader, checked, mapped}
-use Rattle.path.specs.Limits.{totalOf, limits, PathOk}
+use Rattle.path.specs.Limits.{totalOf, limits}
 use Rattle.path_suffix.specs.Suffix.{suffixBytes, readSuffix}
 
 abbrev pub extensionBytes : List (List ℕ) → List (List ℕ) → List ℕ
@@ -17,9 +16,3 @@ readExtension canonic r =
     checked (λ p. limits (totalOf p) (length p)) (
     mapped (λ cs. r ++ cs) (
     readSuffix canonic limits))
-
--- the bytes e are what writing p as an extension of r gives
-pub record ExtensionAs (r p : List (List ℕ)) (e : List ℕ) : Type 0 where
-  pub ok : PathOk p
-  pub extends : take (length r) p ≡ r
-  pub bytes : e ≡ extensionBytes r p

@@ -1,3 +1,4 @@
 pub mod Against
 pub mod Extension
 pub mod Records
+pub mod inside

@@ -6,16 +6,17 @@ ghost use lib.Dec.{eqb};
 ghost use lib.ListN.{drop};
 ghost use Rattle.codec.specs.Answers.{Gives};
 ghost use Rattle.codec.specs.Reader.{checked};
-ghost use Rattle.path.specs.Record.{componentsOf, pathFrom, sized, Leads};
+ghost use Rattle.path.specs.Record.{componentsOf, pathFrom, sized};
+ghost use Rattle.path.specs.inside.Sizes.{Leads};
 ghost use Rattle.path.specs.Flat.{pathIn};
 ghost use Rattle.path.specs.Prefix.{shared, isPrefix};
 ghost use Rattle.path_codec.specs.Plain.{readPath};
-ghost use Rattle.path_relative.specs.Records.{readAgainstBy, readWithinBy, readExtendsBy, readTestedBy, readTested, readJoined, Alike, Told};
+ghost use Rattle.path_relative.specs.Records.{readAgainstBy, readWithinBy, readExtendsBy};
+ghost use Rattle.path_relative.specs.inside.Reading.{Alike, ToldShared, readTestedBy, readTested, readJoined};
 use codec::Decoded;
 use compact_u64::DecodedU64;
 use path::Compared;
 use path::Path;
-use path_suffix_decode::DecodedSizes;
 
 // Whether two paths share no more than their first `k` components, which are the same: the one after them decides.
 fn share_only<'a>(path: &'a [u8], other: &'a [u8], k: usize) -> bool
@@ -79,7 +80,7 @@ fn decode_joined(
 // Whether a reference is a prefix of a path that was read against it, `k` components told to be shared. The paths are looked at only where these are
 // not all, and leniently.
 fn reaches<'a>(reference: &'a [u8], path: &'a [u8], canonic: bool, k: usize) -> bool
-    requires { ⌜ Told canonic (pathIn (now reference)) (pathIn (now path)) k ⌝ }
+    requires { ⌜ ToldShared canonic (pathIn (now reference)) (pathIn (now path)) k ⌝ }
     ensures { λ r. ⌜ r ≡ isPrefix (componentsOf (pathIn (now (reference .entry)))) (componentsOf (pathIn (now (path .entry)))) ⌝ }
 {
     if path::lent::count(reference) == k {
@@ -142,13 +143,16 @@ fn decode_by(
     }
     let number = compact_u64::decode(message, start, canonic);
     let DecodedU64::Value(shared, a) = number else {
-        return compact_u64::refusal(number);
+        return compact_u64::unvalued(number);
     };
     let first = start + a;
     let sizes = path_suffix_decode::decode_sizes(message, first, canonic);
-    let DecodedSizes::Sizes(total, n, b) = sizes else {
-        return path_suffix_decode::sizes_refusal(sizes);
+    let sizes_answer = sizes.answer;
+    let Decoded::Consumed(b) = sizes_answer else {
+        return sizes_answer;
     };
+    let total = sizes.total;
+    let n = sizes.count;
     if (path::lent::count(reference) as u64) < shared {
         return Decoded::TheirFault;
     }
@@ -216,9 +220,12 @@ pub fn decode_path_extends_path(
         return Decoded::Malformed;
     }
     let sizes = path_suffix_decode::decode_sizes(message, start, canonic);
-    let DecodedSizes::Sizes(total, more, n) = sizes else {
-        return path_suffix_decode::sizes_refusal(sizes);
+    let sizes_answer = sizes.answer;
+    let Decoded::Consumed(n) = sizes_answer else {
+        return sizes_answer;
     };
+    let total = sizes.total;
+    let more = sizes.count;
     let count = path::lent::count(extends);
     let used = path::lent::span(extends, 0, count);
     if ((Path::MAX_PATH_LENGTH - used) as u64) < total {

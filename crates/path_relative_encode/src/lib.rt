@@ -5,6 +5,7 @@ ghost use Rattle.codec.specs.Format.{lengthAnswer, WritesInto};
 ghost use Rattle.path.specs.Flat.{pathIn};
 ghost use Rattle.path_relative.specs.Records.{againstPath, extendsPath};
 use codec::Encoded;
+use path::ComponentCount;
 
 pub mod sized;
 
@@ -12,22 +13,22 @@ pub mod sized;
 pub fn relative_len_of_encoding<'a>(path: &'a [u8], reference: &'a [u8]) -> Encoded
     ensures { λ r. ⌜ outcomeOf r ≡ lengthAnswer (againstPath (pathIn (now (reference .entry)))) (pathIn (now (path .entry))) ⌝ }
 {
-    let formed = path::lent::both_formed(reference, path);
-    if !formed {
+    let common = path::longest_common_prefix(reference, path);
+    let ComponentCount::Components(k) = common else {
         return Encoded::Malformed;
-    }
-    sized::relative_len_of_encoding(path, reference)
+    };
+    sized::shared_len(path, k)
 }
 
 // Writes a path against a reference.
 pub fn relative_encode<'a>(buffer: &mut [u8], path: &'a [u8], reference: &'a [u8]) -> Encoded
     ensures { λ r. ⌜ WritesInto (againstPath (pathIn (now (reference .entry)))) (pathIn (now (path .entry))) r (now (buffer .entry)) (now (buffer .exit)) ⌝ }
 {
-    let formed = path::lent::both_formed(reference, path);
-    if !formed {
+    let common = path::longest_common_prefix(reference, path);
+    let ComponentCount::Components(k) = common else {
         return Encoded::Malformed;
-    }
-    sized::relative_encode(buffer, path, reference)
+    };
+    sized::encode_shared(buffer, path, k)
 }
 
 // How many bytes a path as an extension takes.

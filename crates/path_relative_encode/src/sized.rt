@@ -4,10 +4,9 @@ ghost use Rattle.codec.specs.Answers.{outcomeOf};
 ghost use Rattle.codec.specs.Format.{lengthAnswer, WritesInto};
 ghost use Rattle.path.specs.Record.{sized};
 ghost use Rattle.path.specs.Flat.{pathIn};
-ghost use Rattle.path_relative.specs.Records.{sharedBy, againstBy, extendsBy};
+ghost use Rattle.path_relative.specs.Records.{sharedBy, extendsBy};
 use codec::Encoded;
 use path::Compared;
-use path::ComponentCount;
 
 // How many bytes a path takes of which `k` components are shared: their number and the suffix after them.
 pub fn shared_len(path: &[u8], k: usize) -> Encoded
@@ -36,28 +35,6 @@ pub fn encode_shared(buffer: &mut [u8], path: &[u8], k: usize) -> Encoded
     };
     compact_u64::encode(buffer, shared);
     Encoded::Length(a + n)
-}
-
-// How many bytes a path against a reference takes.
-pub fn relative_len_of_encoding<'a>(path: &'a [u8], reference: &'a [u8]) -> Encoded
-    ensures { λ r. ⌜ outcomeOf r ≡ lengthAnswer (againstBy sized (pathIn (now (reference .entry)))) (pathIn (now (path .entry))) ⌝ }
-{
-    let common = path::lent::longest_common_prefix(reference, path);
-    let ComponentCount::Components(k) = common else {
-        return Encoded::Malformed;
-    };
-    shared_len(path, k)
-}
-
-// Writes a path against a reference.
-pub fn relative_encode<'a>(buffer: &mut [u8], path: &'a [u8], reference: &'a [u8]) -> Encoded
-    ensures { λ r. ⌜ WritesInto (againstBy sized (pathIn (now (reference .entry)))) (pathIn (now (path .entry))) r (now (buffer .entry)) (now (buffer .exit)) ⌝ }
-{
-    let common = path::lent::longest_common_prefix(reference, path);
-    let ComponentCount::Components(k) = common else {
-        return Encoded::Malformed;
-    };
-    encode_shared(buffer, path, k)
 }
 
 // How many bytes a path as an extension takes.

@@ -1,15 +1,16 @@
 -- The laws of reading components.
 use Rattle.codec.proofs.Prelude.{_≡_, refl, ap, List, [], _∷_, _++_, Bool, true, false, ℕ, zero, suc, _+_, _-_, arith, leb, eqb, leb-true, eqb-true, le-leb, eq-eqb, length}
 use Rattle.codec.specs.Reader.{give, someBytes, guard}
-use Rattle.codec.specs.Reads.{Reads, Relaxes, Bounded, Joined, Mapped, Nothing}
+use Rattle.codec.specs.Reads.{Reads, Relaxes, Bounded}
+use Rattle.codec.proofs.Relations.{Joined, Mapped, Given}
 use Rattle.codec.proofs.Readers.{reads-as, then-reads, mapped-reads, guard-reads, give-reads, someBytes-reads}
 use Rattle.codec.proofs.Relaxes.{relaxes-self, then-relaxes, mapped-relaxes}
 use Rattle.codec.proofs.Bounded.{give-bounded, someBytes-bounded, then-bounded, guard-bounded, mapped-bounded}
 use Rattle.compact_u64.specs.Number.{standaloneBytes, readStandalone}
-use Rattle.compact_u64.specs.Laws.{StandaloneAs}
+use Rattle.compact_u64.proofs.Relations.{StandaloneAs}
 use Rattle.compact_u64.proofs.Standalone.{standalone-reads, standalone-relaxes, standalone-bounded}
 use Rattle.path_suffix.specs.Suffix.{sizedBytes, componentBytes, readSized, readLast, readComponents}
-use Rattle.path_suffix.specs.Relations.{SizedAs, LastAs, ComponentsAs}
+use Rattle.path_suffix.proofs.Relations.{SizedAs, LastAs, ComponentsAs}
 
 -- ---- a component after its length, and the last
 pub sized-reads : Reads (readSized true) SizedAs
@@ -32,7 +33,7 @@ pub sized-relaxes : Relaxes (readSized true) (readSized false)
 unfolding readSized
 sized-relaxes = then-relaxes (readStandalone true) (readStandalone false) _ _ standalone-relaxes (λ len. relaxes-self (guard (leb len 300) (someBytes len)))
 
-sized-bounded : (canonic : Bool) → Bounded (readSized canonic)
+pub sized-bounded : (canonic : Bool) → Bounded (readSized canonic)
 unfolding readSized
 sized-bounded canonic = then-bounded (readStandalone canonic) _ (standalone-bounded canonic) (λ len. guard-bounded (leb len 300) _ (someBytes-bounded len))
 
@@ -58,7 +59,7 @@ unfolding componentBytes
 bytes-cons c [] n h = absurd (omega arith)
 bytes-cons c (d ∷ cs) n h = refl
 
-none-back : (used total : ℕ) (cs : List (List ℕ)) (e : List ℕ) → ComponentsAs 0 used total cs e → (eqb used total ≡ true) × Nothing [] cs e
+none-back : (used total : ℕ) (cs : List (List ℕ)) (e : List ℕ) → ComponentsAs 0 used total cs e → (eqb used total ≡ true) × Given [] cs e
 unfolding componentBytes
 none-back used total [] e j = (eq-eqb used total (omega (arith, j .sum)), (refl, j .bytes))
 none-back used total (c ∷ cs) e j = absurd (omega (arith, j .count))
@@ -104,7 +105,7 @@ module _ (n used total : ℕ) where
 
 pub components-reads : (n used total : ℕ) → Reads (readComponents true n used total) (ComponentsAs n used total)
 unfolding More readComponents componentBytes
-components-reads zero used total = reads-as _ _ _ (guard-reads (eqb used total) (give []) (Nothing []) (λ ok. give-reads []))
+components-reads zero used total = reads-as _ _ _ (guard-reads (eqb used total) (give []) (Given []) (λ ok. give-reads []))
     (λ cs e j. rw (← (j .1 .0), j .1 .1) (record { count = refl; all = tt; sum = omega (arith, eqb-true used total (j .0)); bytes = refl }))
     (none-back used total)
 components-reads (suc zero) used total = reads-as _ _ _ (mapped-reads (λ c. c ∷ []) _ _ (last-reads used total))

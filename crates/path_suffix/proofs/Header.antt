@@ -1,8 +1,9 @@
 -- The header of a suffix, and the sizes after it.
 use Rattle.codec.proofs.Prelude.{_≡_, refl, List, [], _∷_, _++_, Bool, true, false, ℕ, _<_, arith}
-use Rattle.codec.specs.Header.{field, Layout, readHeader, HeaderAs}
+use Rattle.codec.specs.Header.{bitsAt, Layout, readHeader}
+use Rattle.codec.proofs.Relations.{HeaderAs, Joined, Mapped}
 use Rattle.codec.specs.Reader.{oneByte}
-use Rattle.codec.specs.Reads.{Reads, Relaxes, Bounded, Joined, Mapped}
+use Rattle.codec.specs.Reads.{Reads, Relaxes, Bounded}
 use Rattle.codec.proofs.Header.{field-fits, same-bytes, header-reads}
 use Rattle.codec.proofs.Readers.{reads-as, then-reads, mapped-reads}
 use Rattle.codec.proofs.Relaxes.{relaxes-self, then-relaxes, mapped-relaxes}
@@ -12,9 +13,10 @@ use Rattle.compact_u64.specs.Laws.{NumberAs}
 use Rattle.compact_u64.proofs.Tags.{min-tag-fits}
 use Rattle.compact_u64.proofs.Number.{number-reads, number-relaxes, number-bounded}
 use Rattle.path_suffix.specs.declared.Tags.{Tags}
-use Rattle.path_suffix.specs.Header.{totalAt, countAt, unpackTags, packTags, TagsFit}
+use Rattle.path_suffix.specs.Header.{totalAt, countAt, unpackTags, packTags}
+use Rattle.path_suffix.specs.inside.Header.{TagsFit}
 use Rattle.path_suffix.specs.Suffix.{Sizes, sizesFrom, tagsOf, sizesBytes, readSizes}
-use Rattle.path_suffix.specs.Relations.{SizesAs}
+use Rattle.path_suffix.proofs.Relations.{SizesAs}
 
 -- ---- the byte
 tags-apart : (t : Tags) → TagsFit t → (packTags t < 256) × (unpackTags (packTags t) ≡ t)
@@ -25,8 +27,8 @@ tags-apart t f = go (t .total) (t .count) (f .total) (f .count)
         × (unpackTags (packTags (record { total = total; count = count })) ≡ record { total = total; count = count })
     go total count a b =
         let p = packTags (record { total = total; count = count }) in
-        let x : field totalAt 4 p ≡ total = omega arith in
-        let y : field countAt 4 p ≡ count = omega arith in
+        let x : bitsAt totalAt 4 p ≡ total = omega arith in
+        let y : bitsAt countAt 4 p ≡ count = omega arith in
         (omega arith, rw (x, y))
 
 pub tags-layout : Layout TagsFit unpackTags packTags

@@ -4,3 +4,4 @@ pub mod Suffix
 pub mod Yields
 pub mod Writing
 pub mod Orders
+pub mod Relations

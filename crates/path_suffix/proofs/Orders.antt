@@ -33,3 +33,8 @@ limits-after = refl
 long-form-first : readSuffix true limits (head 12 12 ∷ 11 ∷ []) ≡ refused 2
 unfolding readSuffix readSizes readComponents readSized readLast readNumber numberSaid encodingWidth minTag
 long-form-first = refl
+
+-- a component's length is tested before its bytes are missed
+length-first : readSuffix false limits (head 13 2 ∷ 2 ∷ 88 ∷ 253 ∷ 1 ∷ 45 ∷ []) ≡ refused 2
+unfolding readSuffix readSizes readComponents readSized readLast readNumber numberSaid encodingWidth minTag
+length-first = refl

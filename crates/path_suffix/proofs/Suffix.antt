@@ -1,7 +1,8 @@
 -- The laws of a suffix.
 use Rattle.codec.proofs.Prelude.{_≡_, refl, List, [], _∷_, Bool, true, false, ℕ, _+_, _*_, _≤_, arith, length, length-append}
 use Rattle.codec.specs.Answers.{refused}
-use Rattle.codec.specs.Reads.{Reads, ReadsBack, Relaxes, Bounded, Joined, Tested}
+use Rattle.codec.specs.Reads.{Reads, ReadsBack, Relaxes, Bounded}
+use Rattle.codec.proofs.Relations.{Joined, Tested}
 use Rattle.codec.proofs.Readers.{reads-as, then-reads, guard-reads}
 use Rattle.codec.proofs.Relaxes.{relaxes-back, then-relaxes, guard-relaxes}
 use Rattle.codec.proofs.Bounded.{then-bounded, guard-bounded}
@@ -10,7 +11,7 @@ use Rattle.compact_u64.proofs.Tags.{numberBytes-short}
 use Rattle.compact_u64.proofs.Standalone.{standalone-short}
 use Rattle.path.specs.Limits.{totalOf}
 use Rattle.path_suffix.specs.Suffix.{sizedBytes, componentBytes, sizesOf, sizesBytes, suffixBytes, readSizes, readSuffix}
-use Rattle.path_suffix.specs.Relations.{SizesAs, ComponentsAs, SuffixAs}
+use Rattle.path_suffix.proofs.Relations.{SizesAs, ComponentsAs, SuffixAs}
 use Rattle.path_suffix.proofs.Header.{sizes-reads, sizes-relaxes, sizes-bounded}
 use Rattle.path_suffix.proofs.Components.{components-reads, components-relaxes, components-bounded}
 

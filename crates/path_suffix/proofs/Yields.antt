@@ -6,7 +6,7 @@ use Rattle.codec.proofs.Yields.{yields-as, give-yields, someBytes-yields, then-
 use Rattle.compact_u64.specs.Number.{readStandalone}
 use Rattle.path.specs.Limits.{totalOf, Component}
 use Rattle.path_suffix.specs.Suffix.{readSizes, readSized, readLast, readComponents, readSuffix}
-use Rattle.path_suffix.specs.Relations.{ComponentsOk, SuffixOk}
+use Rattle.path_suffix.proofs.Relations.{ComponentsOk, SuffixOk}
 
 sized-yields : (canonic : Bool) → Yields (readSized canonic) Component
 unfolding readSized

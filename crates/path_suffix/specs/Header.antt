@@ -1,6 +1,6 @@
 -- docs/FORMAT.md, "Paths": the header byte of a suffix, a tag of 4 bits for the total length, and one for the component count.
-use Prim.Native.Nat.{ℕ, _+_, _<_}
-use Rattle.codec.specs.Header.{field, placed}
+use Prim.Native.Nat.{ℕ, _+_}
+use Rattle.codec.specs.Header.{bitsAt, placed}
 use Rattle.path_suffix.specs.declared.Tags.{Tags}
 
 -- where each tag starts
@@ -11,11 +11,7 @@ abbrev pub countAt : ℕ
 countAt = 4
 
 abbrev pub unpackTags : ℕ → Tags
-unpackTags b = record { total = field totalAt 4 b; count = field countAt 4 b }
+unpackTags b = record { total = bitsAt totalAt 4 b; count = bitsAt countAt 4 b }
 
 abbrev pub packTags : Tags → ℕ
 packTags t = placed totalAt 4 (t .total) + placed countAt 4 (t .count)
-
-pub record TagsFit (t : Tags) : Type 0 where
-  pub total : t .total < 16
-  pub count : t .count < 16

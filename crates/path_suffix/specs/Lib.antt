@@ -1,3 +1,3 @@
 pub mod Header
 pub mod Suffix
-pub mod Relations
+pub mod inside

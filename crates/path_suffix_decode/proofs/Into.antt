@@ -2,6 +2,7 @@
 use Rattle.codec.proofs.Prelude.{_≡_, refl, sym, ap, _∙_, List, [], _∷_, _++_, append-assoc, append-nil, Bool, true, false, ℕ, zero, suc, _+_, _-_, _*_, _≤_, _<_, zero-add, add-assoc, arith, leb, leb-true, leb-false, lt-leb, length, take, drop, drop-drop, length-drop, length-append, length-take-le}
 use Rattle.codec.specs.Answers.{Answer, accepted, refused}
 use Rattle.codec.specs.Reader.{shift, named}
+use Rattle.codec.specs.declared.Decoded.the-variants as decoded
 use Rattle.path.specs.declared.PathBuilder.{PathBuilder}
 use Rattle.path.specs.declared.Growth.{Growth}
 use Rattle.path.specs.Limits.{totalOf}
@@ -11,9 +12,9 @@ use Rattle.path.specs.Builder.{built, builtFrom, Appends}
 use Rattle.path.proofs.Limits.{total-append, total-snoc}
 use Rattle.path.proofs.Growing.{built-total, built-count, built-components, appends-built}
 use Rattle.path_suffix.specs.Suffix.{readSized, readLast, readComponents}
-use Rattle.path_suffix_decode.specs.declared.DecodedComponent.the-variants as component
-use Rattle.path_suffix_decode.specs.Answers.{ReadsSized}
-use Rattle.path_suffix_decode.specs.Inside.{Ready, readInto, lastInto}
+use Rattle.path_suffix.proofs.Components.{sized-bounded}
+use Rattle.path_suffix_decode.specs.declared.components.DecodedComponent.{DecodedComponent}
+use Rattle.path_suffix_decode.specs.inside.Components.{ReadsSized, Ready, readInto, lastInto}
 
 -- ---- components that were read, before those that are read from place at of the message on
 abbrev later : Bool → ℕ → ℕ → ℕ → List (List ℕ) → ℕ → List ℕ → Answer (List (List ℕ))
@@ -88,31 +89,37 @@ module _ {canonic : Bool} {m : List ℕ} {count total : ℕ} {first : List (List
   unfolding readInto
   turn-refused k l f = ap (named (λ ds. pathFlat (pathFrom (first ++ ds)))) (h .still ∙ next-refused canonic total (h .done) at m used left k l f)
 
+  module _ {r : DecodedComponent} {n : ℕ} (reads : ReadsSized canonic m at r) (told : r .answer ≡ decoded.Consumed n) where
+    part-long : length (take (r .end - r .begin) (drop (r .begin) m)) ≡ r .end - r .begin
+    part-long = length-take-le (r .end - r .begin) (drop (r .begin) m) (rw length-drop (omega (arith, reads .ordered, reads .inside)))
+
+    part-read : readSized canonic (drop at m) ≡ accepted (take (r .end - r .begin) (drop (r .begin) m)) n
+    part-read = sym (rw told at (reads .answer .answer))
+
+    pub part-inside : at + n ≤ length m
+    part-inside = omega (arith, h .inside, sized-bounded canonic .bound (drop at m) _ n part-read, length-drop at m)
+
+    pub turn : Room first count total → 1 < left → {g : Growth} {to : List ℕ} → Appends b (take (r .end - r .begin) (drop (r .begin) m)) s g to
+        → Held canonic m count total first (g .builder) to (used + (r .end - r .begin)) (at + n) (left - 1)
+    turn room l {g} {to} grows =
+        let c = take (r .end - r .begin) (drop (r .begin) m) in
+        let step = next-turn canonic total (h .done) at m used left c n l part-read in
+        record {
+          done = h .done ++ (c ∷ []);
+          more = omega arith;
+          counts = simp length-append (omega (arith, h .counts));
+          sums = omega (arith, total-snoc (h .done) c, h .sums, part-long);
+          small = omega (arith, h .small, reads .short);
+          inside = part-inside;
+          kept = λ within.
+              appends-built (first ++ h .done) (h .kept (omega arith)) c grows (omega (arith, part-long, reads .short))
+              (omega (arith, length-append first (h .done), h .counts, room .few))
+              (omega (arith, total-append first (h .done), h .sums, part-long, room .fits))
+              ∙ ap builtFrom (append-assoc first (h .done) (c ∷ []));
+          still = h .still ∙ rw part-long at step;
+        }
+
   module _ (room : Room first count total) where
-    module _ (f e : ℕ) (r : ReadsSized canonic m at (component.Bytes f e)) where
-      part-long : length (take (e - f) (drop f m)) ≡ e - f
-      part-long = length-take-le (e - f) (drop f m) (rw length-drop (omega (arith, r .inside .1, r .inside .2)))
-
-      pub turn : 1 < left → {g : Growth} {to : List ℕ} → Appends b (take (e - f) (drop f m)) s g to → Held canonic m count total first (g .builder) to (used + (e - f)) e (left - 1)
-      turn l {g} {to} grows =
-          let c = take (e - f) (drop f m) in
-          let step = next-turn canonic total (h .done) at m used left c (e - at) l (sym (r .answer)) in
-          let next : at + (e - at) ≡ e = omega (arith, r .inside .0, r .inside .1) in
-          record {
-            done = h .done ++ (c ∷ []);
-            more = omega arith;
-            counts = simp length-append (omega (arith, h .counts));
-            sums = omega (arith, total-snoc (h .done) c, h .sums, part-long);
-            small = omega (arith, h .small, r .inside .3);
-            inside = r .inside .2;
-            kept = λ within.
-                appends-built (first ++ h .done) (h .kept (omega arith)) c grows (omega (arith, part-long, r .inside .3))
-                (omega (arith, length-append first (h .done), h .counts, room .few))
-                (omega (arith, total-append first (h .done), h .sums, part-long, room .fits))
-                ∙ ap builtFrom (append-assoc first (h .done) (c ∷ []));
-            still = h .still ∙ rw (part-long, next) at step;
-          }
-
     -- ---- after the loop: the last component
     module _ (l : left ≤ 1) (within : used ≤ total) where
       end-few : length (first ++ h .done) + 1 ≤ 20

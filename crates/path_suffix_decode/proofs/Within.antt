@@ -2,7 +2,7 @@
 use Rattle.codec.proofs.Prelude.{_≡_, refl, sym, ap, _∙_, List, [], _∷_, _++_, append-nil, Bool, true, false, _&&_, ⊎-elim, OneOf, ℕ, _+_, _-_, _≤_, _<_, arith, leb, le-leb, lt-leb, ne-eqb, length, take, drop, length-drop, length-append}
 use denote.Enum.Declared as declared
 use Rattle.codec.specs.Answers.{Answer, AllBytes, accepted, refused}
-use Rattle.codec.specs.Format.{allowed, barred, verdictBy}
+use Rattle.codec.specs.Format.{allowed, refusedValue, verdictBy}
 use Rattle.codec.specs.Reader.{named, guard, mapped}
 use Rattle.codec.specs.Reads.{Bounded}
 use Rattle.codec.proofs.Bounded.{guard-bounded, mapped-bounded}
@@ -18,8 +18,8 @@ use Rattle.path.proofs.Growing.{flat-in, built-total, built-count, built-flat, 
 use Rattle.path_suffix.specs.Suffix.{readLast, readComponents}
 use Rattle.path_suffix.proofs.Components.{components-bounded}
 use Rattle.path_suffix.proofs.Yields.{components-yields}
-use Rattle.path_suffix_decode.specs.After.{readMore, readOn}
-use Rattle.path_suffix_decode.specs.Inside.{Ready, readInto, readWithin, lastInto}
+use Rattle.path_suffix_decode.specs.After.{readMore, readAfter}
+use Rattle.path_suffix_decode.specs.inside.Components.{Ready, readInto, readWithin, lastInto}
 
 -- ---- the last component
 module _ (cs : List (List ℕ)) (used total at : ℕ) (m : List ℕ) where
@@ -123,15 +123,15 @@ pub record NotGrown (formed inside : Bool) : Type 1 where
   pub test : (formed && inside) ≡ false
   pub beside : {A : Type 0} (x y : A) → ifAllowed (verdictBy formed inside) x y ≡ y
 
-barred-by : (k : ℕ) (formed inside : Bool) → barred k ≡ verdictBy formed inside → NotGrown formed inside
-barred-by k false i e = record { test = refl; beside = λ x y. refl }
-barred-by k true false e = record { test = refl; beside = λ x y. refl }
-barred-by k true true e = let z : _≡_ {A = ℕ} 0 1 = cc in absurd (omega arith)
+refused-value-by : (k : ℕ) (formed inside : Bool) → refusedValue k ≡ verdictBy formed inside → NotGrown formed inside
+refused-value-by k false i e = record { test = refl; beside = λ x y. refl }
+refused-value-by k true false e = record { test = refl; beside = λ x y. refl }
+refused-value-by k true true e = let z : _≡_ {A = ℕ} 0 1 = cc in absurd (omega arith)
 
 pub not-grown : (a : Appended) → OneOf (1 ∷ 2 ∷ []) (declared.tagOf Rattle.path.proofs.Appended.the-type a) → (formed inside : Bool) → appendedVerdict a ≡ verdictBy formed inside → NotGrown formed inside
 not-grown appended.Grown h f i e = absurd (⊎-elim (λ e. omega arith) (λ e. omega arith) h)
-not-grown appended.Outside h f i e = barred-by 3 f i e
-not-grown appended.Malformed h f i e = barred-by 5 f i e
+not-grown appended.Outside h f i e = refused-value-by 3 f i e
+not-grown appended.Malformed h f i e = refused-value-by 5 f i e
 
 pub record HasGrown (formed inside : Bool) : Type 0 where
   pub formed-is : formed ≡ true
@@ -143,12 +143,12 @@ has-grown false i e = let z : _≡_ {A = ℕ} 0 1 = cc in absurd (omega arith)
 has-grown true false e = let z : _≡_ {A = ℕ} 0 1 = cc in absurd (omega arith)
 
 module _ (canonic : Bool) (p : Path) (k total count : ℕ) (m : List ℕ) where
-  pub on-malformed : (sized p && leb k (p .count)) ≡ false → readOn canonic p k total count m ≡ refused 5
-  unfolding readOn
+  pub on-malformed : (sized p && leb k (p .count)) ≡ false → readAfter canonic p k total count m ≡ refused 5
+  unfolding readAfter
   on-malformed e = rw e
 
-  pub on-more : sized p ≡ true → k ≤ p .count → readOn canonic p k total count m ≡ readMore canonic (take k (componentsOf p)) total count m
-  unfolding readOn
+  pub on-more : sized p ≡ true → k ≤ p .count → readAfter canonic p k total count m ≡ readMore canonic (take k (componentsOf p)) total count m
+  unfolding readAfter
   on-more e h = rw (e, le-leb k (p .count) h)
 
 pub more-bounded : (canonic : Bool) (cs : List (List ℕ)) (total count : ℕ) → Bounded (readMore canonic cs total count)

@@ -17,5 +17,5 @@ readMore canonic cs total count =
     readComponents canonic count 0 total))
 
 -- after the first k of a path: 5 unless its sizes are within the limits and it has so many
-unfoldable pub readOn : Bool → Path → ℕ → ℕ → ℕ → Reader Path
-readOn canonic p k total count = onFormed (sized p && leb k (p .count)) (readMore canonic (take k (componentsOf p)) total count)
+unfoldable pub readAfter : Bool → Path → ℕ → ℕ → ℕ → Reader Path
+readAfter canonic p k total count = onFormed (sized p && leb k (p .count)) (readMore canonic (take k (componentsOf p)) total count)

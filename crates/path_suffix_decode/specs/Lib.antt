@@ -1,3 +1,3 @@
 pub mod After
 pub mod Answers
-pub mod Inside
+pub mod inside

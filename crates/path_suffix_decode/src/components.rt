@@ -6,32 +6,27 @@ ghost use lib.ListN.{length};
 ghost use Rattle.codec.specs.Answers.{answerOf, Gives};
 ghost use Rattle.path.specs.Record.{componentsOf, pathFrom};
 ghost use Rattle.path.specs.Flat.{pathIn};
-ghost use Rattle.path_suffix_decode.specs.Answers.{ReadsSized, lengthRefusal, componentRefusal};
+ghost use Rattle.path_suffix_decode.specs.inside.Components.{ReadsSized, Ready, readInto, readWithin, lastInto};
 ghost use Rattle.path_suffix_decode.specs.After.{readMore};
-ghost use Rattle.path_suffix_decode.specs.Inside.{Ready, readInto, readWithin, lastInto};
-use crate::DecodedComponent;
 use codec::Decoded;
 use compact_u64::DecodedU64;
 use path::Path;
 use path::PathBuilder;
 
-fn length_refusal(number: DecodedU64) -> DecodedComponent
-    ensures { λ r. ⌜ r ≡ lengthRefusal number ⌝ }
-{
-    match number {
-        DecodedU64::EndOfInput => DecodedComponent::EndOfInput,
-        DecodedU64::Value(_, _) => DecodedComponent::TheirFault,
-        DecodedU64::TheirFault => DecodedComponent::TheirFault,
-    }
+// Where a component's bytes start and end in the message; beside a refusal both are zero.
+struct DecodedComponent {
+    answer: Decoded,
+    begin: usize,
+    end: usize,
 }
 
-fn component_refusal(component: DecodedComponent) -> Decoded
-    ensures { λ r. ⌜ r ≡ componentRefusal component ⌝ }
+fn refuse(answer: Decoded) -> DecodedComponent
+    ensures { λ r. ⌜ (r .answer ≡ answer) × (r .begin ≡ 0) × (r .end ≡ 0) ⌝ }
 {
-    match component {
-        DecodedComponent::EndOfInput => Decoded::EndOfInput,
-        DecodedComponent::Bytes(_, _) => Decoded::TheirFault,
-        DecodedComponent::TheirFault => Decoded::TheirFault,
+    DecodedComponent {
+        answer: answer,
+        begin: 0,
+        end: 0,
     }
 }
 
@@ -42,17 +37,21 @@ fn decode_sized(message: &[u8], at: usize, canonic: bool) -> DecodedComponent
 {
     let number = compact_u64::decode(message, at, canonic);
     let DecodedU64::Value(n, u) = number else {
-        return length_refusal(number);
+        return refuse(compact_u64::unvalued(number));
     };
     if (Path::MAX_COMPONENT_LENGTH as u64) < n {
-        return DecodedComponent::TheirFault;
+        return refuse(Decoded::TheirFault);
     }
     let len = n as usize;
     let begin = at + u;
     if message.len() - begin < len {
-        return DecodedComponent::EndOfInput;
+        return refuse(Decoded::EndOfInput);
     }
-    DecodedComponent::Bytes(begin, begin + len)
+    DecodedComponent {
+        answer: Decoded::Consumed(u + len),
+        begin: begin,
+        end: begin + len,
+    }
 }
 
 // Reads the last component, which is what the total leaves.
@@ -100,13 +99,16 @@ fn decode_some(
     let mut left = count;
     while 1 < left {
         let component = decode_sized(message, at, canonic);
-        let DecodedComponent::Bytes(begin, end) = component else {
-            return component_refusal(component);
+        let answer = component.answer;
+        let Decoded::Consumed(n) = answer else {
+            return answer;
         };
+        let begin = component.begin;
+        let end = component.end;
         let growth = builder.append_component(out, &message[begin..end]);
         builder = growth.builder;
         used += end - begin;
-        at = end;
+        at += n;
         left -= 1;
     }
     decode_last(message, at, used, total, builder, out)

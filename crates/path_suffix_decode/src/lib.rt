@@ -5,9 +5,9 @@ ghost use lib.ListN.{drop};
 ghost use Rattle.codec.specs.Answers.{Gives};
 ghost use Rattle.path.specs.Record.{pathFrom};
 ghost use Rattle.path.specs.Flat.{pathIn};
-ghost use Rattle.path_suffix.specs.Suffix.{readSizes};
-ghost use Rattle.path_suffix_decode.specs.Answers.{sizesAnswer, numberRefusal, sizesRefusal};
-ghost use Rattle.path_suffix_decode.specs.After.{readMore, readOn};
+ghost use Rattle.path_suffix.specs.Suffix.{sizesFrom, readSizes};
+ghost use Rattle.path_suffix_decode.specs.Answers.{noSizes};
+ghost use Rattle.path_suffix_decode.specs.After.{readMore, readAfter};
 use codec::Decoded;
 use compact_u64::DecodedU64;
 use compact_u64::TagWidth;
@@ -16,52 +16,35 @@ use path::PathBuilder;
 
 mod components;
 
-// Total length, component count and the bytes consumed.
-pub enum DecodedSizes {
-    Sizes(u64, u64, usize),
-    EndOfInput,
-    TheirFault,
+// Total length and component count beside the answer; beside a refusal they are zero.
+pub struct DecodedSizes {
+    pub answer: Decoded,
+    pub total: u64,
+    pub count: u64,
 }
 
-// Where a component's bytes start and end in the message.
-pub enum DecodedComponent {
-    Bytes(usize, usize),
-    EndOfInput,
-    TheirFault,
-}
-
-fn number_refusal(number: DecodedU64) -> DecodedSizes
-    ensures { λ r. ⌜ r ≡ numberRefusal number ⌝ }
+fn refuse(answer: Decoded) -> DecodedSizes
+    ensures { λ r. ⌜ (r .answer ≡ answer) × (sizesFrom (r .total) (r .count) ≡ noSizes) ⌝ }
 {
-    match number {
-        DecodedU64::EndOfInput => DecodedSizes::EndOfInput,
-        DecodedU64::Value(_, _) => DecodedSizes::TheirFault,
-        DecodedU64::TheirFault => DecodedSizes::TheirFault,
-    }
-}
-
-pub fn sizes_refusal(sizes: DecodedSizes) -> Decoded
-    ensures { λ r. ⌜ r ≡ sizesRefusal sizes ⌝ }
-{
-    match sizes {
-        DecodedSizes::EndOfInput => Decoded::EndOfInput,
-        DecodedSizes::Sizes(_, _, _) => Decoded::TheirFault,
-        DecodedSizes::TheirFault => Decoded::TheirFault,
+    DecodedSizes {
+        answer: answer,
+        total: 0,
+        count: 0,
     }
 }
 
 // Reads the header byte and both numbers.
 pub fn decode_sizes(message: &[u8], start: usize, canonic: bool) -> DecodedSizes
-    ensures { λ r. ⌜ sizesAnswer r ≡ readSizes canonic (drop start (now (message .entry))) ⌝ }
+    ensures { λ r. ⌜ Gives noSizes (r .answer) (sizesFrom (r .total) (r .count)) (readSizes canonic (drop start (now (message .entry)))) ⌝ }
 {
     if message.len() <= start {
-        return DecodedSizes::EndOfInput;
+        return refuse(Decoded::EndOfInput);
     }
     let tags = path_suffix_encode::suffix_header::unpack_tags(message[start]);
     let first = start + 1;
     let number = compact_u64::relative_decode(message, first, TagWidth::Four, tags.total, canonic);
     let DecodedU64::Value(total, a) = number else {
-        return number_refusal(number);
+        return refuse(compact_u64::unvalued(number));
     };
     let number2 = compact_u64::relative_decode(
         message,
@@ -71,9 +54,13 @@ pub fn decode_sizes(message: &[u8], start: usize, canonic: bool) -> DecodedSizes
         canonic,
     );
     let DecodedU64::Value(count, b) = number2 else {
-        return number_refusal(number2);
+        return refuse(compact_u64::unvalued(number2));
     };
-    DecodedSizes::Sizes(total, count, 1 + (a + b))
+    DecodedSizes {
+        answer: Decoded::Consumed(1 + (a + b)),
+        total: total,
+        count: count,
+    }
 }
 
 // Reads the components of a whole path, from the message's first byte on. Beside a refusal the record is the empty one.
@@ -101,7 +88,7 @@ pub fn decode_after(
     k: usize,
     out: &mut [u8; 641],
 ) -> Decoded
-    ensures { λ r. ⌜ Gives (pathFrom []) r (pathIn (now (out .exit))) (readOn canonic (pathIn (now (prefix .entry))) k total count (now (message .entry))) ⌝ }
+    ensures { λ r. ⌜ Gives (pathFrom []) r (pathIn (now (out .exit))) (readAfter canonic (pathIn (now (prefix .entry))) k total count (now (message .entry))) ⌝ }
 {
     let growth = PathBuilder::new_from_prefix(prefix, k, out);
     let answer = growth.answer;

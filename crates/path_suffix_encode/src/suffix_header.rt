@@ -1,6 +1,7 @@
 // The header byte of a suffix.
 ghost use mathlib.Core.Path.{_≡_};
-ghost use Rattle.path_suffix.specs.Header.{unpackTags, packTags, TagsFit};
+ghost use Rattle.path_suffix.specs.Header.{unpackTags, packTags};
+ghost use Rattle.path_suffix.specs.inside.Header.{TagsFit};
 use path_suffix::Tags;
 
 // What one of each tag adds to the header byte.

@@ -2,7 +2,8 @@
 use Rattle.codec.proofs.Prelude.{_≡_, refl, sym, _∙_, List, [], _∷_, _++_, Bool, true, false, cond, ℕ, suc, _+_, _-_, _*_, _≤_, _<_, arith, leb, length, take, drop, length-append, drop-of-length-le, take-at}
 use Rattle.codec.specs.Format.{over}
 use Rattle.text.specs.Hex.{hexText}
-use Rattle.text.specs.Buffer.{overAt, putAt, placeAfter, Wrote}
+use Rattle.text.specs.Buffer.{overAt, putAt, placeAfter}
+use Rattle.text.proofs.Written.{Wrote}
 use Rattle.text.proofs.HexSteps.{hexText-long}
 use Rattle.text.proofs.Buffer.{overAt-none, wrote-first, wrote-next, wrote-long, wrote-rest}
 use Rattle.path.specs.Record.{Path, componentsOf, wellFormed}

@@ -16,7 +16,8 @@ use Rattle.codec.specs.Format.{allowed}
 use Rattle.codec.proofs.Lawful.{verdict-allowed}
 use Rattle.path.proofs.Builder.{Fitting, fitting, fits-after}
 use Rattle.path.proofs.Growing.{built-count, built-total, appends-built}
-use Rattle.path_text.specs.PathText.{readField, refusedField, allHex, fieldOf, readTexts, readComponentsText, AppendsText}
+use Rattle.path_text.specs.PathText.{readField, refusedField, allHex, fieldOf, readTexts, readComponentsText}
+use Rattle.path_text.specs.inside.PathText.{AppendsText}
 
 -- ---- the limits, one component more
 short-snoc : (cs : List (List ℕ)) (c : List ℕ) → allShort cs ≡ true → length c ≤ 300 → allShort (cs ++ (c ∷ [])) ≡ true
@@ -108,11 +109,11 @@ pub record Took (cs : List (List ℕ)) (t : List ℕ) (g : Growth) (left : List 
 -- no hex, or too long
 pub push-refused : (b : PathBuilder) (t s : List ℕ) → cond (isHex t) (ltb 300 (length (unhex t))) true ≡ true → AppendsText b t s (record { answer = appended.Outside; builder = b }) s
 unfolding fitsAfter
-push-refused b t s h = rw (barred-so (isHex t) h) (record { answer = refl; is = refl })
+push-refused b t s h = rw (refused-value-so (isHex t) h) (record { answer = refl; is = refl })
   where
-    barred-so : (d : Bool) → cond d (ltb 300 (length (unhex t))) true ≡ true → (d && fitsAfter (b .total) (b .count) (length (unhex t))) ≡ false
-    barred-so true h = rw (lt-leb (length (unhex t)) 300 (ltb-true 300 (length (unhex t)) h))
-    barred-so false h = refl
+    refused-value-so : (d : Bool) → cond d (ltb 300 (length (unhex t))) true ≡ true → (d && fitsAfter (b .total) (b .count) (length (unhex t))) ≡ false
+    refused-value-so true h = rw (lt-leb (length (unhex t)) 300 (ltb-true 300 (length (unhex t)) h))
+    refused-value-so false h = refl
 
 not-grown : (x : Appended) → OneOf (1 ∷ 2 ∷ []) (tagOf Rattle.path.proofs.Appended.the-type x) → appendedVerdict x ≡ allowed → ⊥
 not-grown appended.Grown k e = ⊎-elim (λ z. omega arith) (λ z. omega arith) k

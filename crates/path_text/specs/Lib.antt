@@ -1,2 +1,3 @@
 pub mod PathText
 pub mod Laws
+pub mod inside

@@ -7,7 +7,8 @@ ghost use Rattle.codec.specs.Format.{over};
 ghost use Rattle.text.specs.Buffer.{putAt, placeAfter};
 ghost use Rattle.path.specs.Record.{componentsOf, wellFormed};
 ghost use Rattle.path.specs.Flat.{pathIn};
-ghost use Rattle.path_text.specs.PathText.{tailText, componentsTextOf, pathTextOf, refusedField, AppendsText, readComponentsText, readPathText};
+ghost use Rattle.path_text.specs.PathText.{tailText, componentsTextOf, pathTextOf, refusedField, Finds, readComponentsText, readPathText};
+ghost use Rattle.path_text.specs.inside.PathText.{AppendsText};
 use path::Appended;
 use path::Growth;
 use path::Path;
@@ -27,7 +28,7 @@ pub struct PathField {
 }
 
 fn refuse() -> PathField
-    ensures { λ r. ⌜ r ≡ refusedField ⌝ }
+    ensures { λ r. ⌜ Finds r refusedField ⌝ }
 {
     let path = Path::new_empty();
     PathField {
@@ -53,7 +54,7 @@ fn push_text(builder: PathBuilder, t: &[u8], out: &mut [u8; 641]) -> Growth
 
 // Reads one or more components; no bytes are one component of no bytes.
 pub fn read_components(s: &[u8]) -> PathField
-    ensures { λ r. ⌜ r ≡ readComponentsText (now (s .entry)) ⌝ }
+    ensures { λ r. ⌜ Finds r (readComponentsText (now (s .entry))) ⌝ }
 {
     let mut flat = [0u8; path::lent::SIZE];
     let mut builder = PathBuilder::new();
@@ -79,7 +80,7 @@ pub fn read_components(s: &[u8]) -> PathField
 
 // Reads a path.
 pub fn read_path(s: &[u8]) -> PathField
-    ensures { λ r. ⌜ r ≡ readPathText (now (s .entry)) ⌝ }
+    ensures { λ r. ⌜ Finds r (readPathText (now (s .entry))) ⌝ }
 {
     if byte_codec::same_bytes(s, b"-") {
         let path = Path::new_empty();

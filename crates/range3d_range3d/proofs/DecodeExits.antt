@@ -7,7 +7,8 @@ use Rattle.codec.proofs.Bounded.{then-bounded, mapped-bounded, formed-bounded}
 use Rattle.codec.proofs.Readers.{named-inv, named-refused}
 use Rattle.grouping.specs.declared.TimeRange.{TimeRange}
 use Rattle.range_3d.specs.declared.SubspaceRange.{SubspaceRange}
-use Rattle.range_3d.specs.Record.{PathRange, Range3d, subspacesOf, subspacesFrom, pathsOf, pathsFrom, rangeOf, rangeFrom, wellFormedRange3d, sizedPaths, sizedRange3d}
+use Rattle.range_3d.specs.Record.{PathRange, Range3d, subspacesOf, subspacesFrom, pathsOf, pathsFrom, rangeOf, rangeFrom, wellFormedRange3d, sizedPaths}
+use Rattle.range_3d.specs.inside.Sizes.{sizedRange3d}
 use Rattle.range_3d.specs.Range3d.{Range, Range3dValue}
 use Rattle.range_subspaces.specs.Subspaces.{readSubspaces}
 use Rattle.range_subspaces.proofs.Subspaces.{subspaces-bounded}
@@ -20,7 +21,8 @@ use Rattle.range_times.proofs.Times.{times-bounded}
 use Rattle.range_header.specs.declared.Range3dHeader.{Range3dHeader}
 use Rattle.range_header.specs.Header.{unpackHeader}
 use Rattle.range3d_range3d.specs.Range.{sourcesIn, sidesIn, valueFrom, readParts, readRange}
-use Rattle.range3d_range3d.specs.Records.{readPathsTimes, readAgainstRange}
+use Rattle.range3d_range3d.specs.Records.{readAgainstRange}
+use Rattle.range3d_range3d.specs.inside.Reading.{readPathsTimes}
 
 -- ---- a 3d range: both header bytes
 module _ (r : Range3d) (s : List ℕ) where

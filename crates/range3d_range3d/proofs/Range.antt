@@ -9,7 +9,8 @@ use Rattle.codec.proofs.ReadsAs.{one-of, then-as, mapped-as}
 use Rattle.path.specs.Limits.{PathOk}
 use Rattle.grouping.specs.declared.TimeRange.{TimeRange}
 use Rattle.grouping.specs.Range.{isOpen, TypedRange}
-use Rattle.range_3d.specs.Range3d.{Range3dValue, Both}
+use Rattle.range_3d.specs.Range3d.{Range3dValue}
+use Rattle.range_3d.proofs.Facts.{Both}
 use Rattle.range_subspaces.proofs.Subspaces.{subspaces-as}
 use Rattle.range_paths.specs.Paths.{readPaths}
 use Rattle.range_paths.proofs.Paths.{paths-as}

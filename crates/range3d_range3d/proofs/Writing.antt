@@ -1,22 +1,27 @@
 -- What the writers' definitions say at each step of the code.
-use Rattle.codec.proofs.Prelude.{_≡_, refl, sym, ap, _∙_, List, [], _∷_, _++_, append-assoc, append-nil, Bool, true, false, cond, none, some, ℕ, _+_, _-_, _≤_, arith, putMid, length, take, drop, set, length-append, length-drop}
-use Rattle.codec.specs.Format.{allowed, barred, over, putBuffer}
+use Rattle.codec.proofs.Prelude.{_≡_, refl, sym, ap, _∙_, List, [], _∷_, _++_, append-assoc, append-nil, Bool, true, false, cond, _&&_, none, some, ℕ, _+_, _-_, _≤_, arith, putMid, length, take, drop, set, length-append, length-drop}
+use Rattle.codec.specs.Format.{allowed, refusedValue, over, putBuffer}
 use Rattle.codec.proofs.Lending.{put-over, over-then, to-end, put-end}
+use Rattle.codec.proofs.Tests.{and-left, and-right}
 use Rattle.path.specs.Record.{componentsOf, sized}
-use Rattle.path.specs.Answers.{said, unsaid}
+use Rattle.codec.specs.Answers.{said, unsaid}
+use Rattle.path.proofs.Verdicts.{said-known, unsaid-known}
 use Rattle.path_relative.specs.Records.{sharedBy}
-use Rattle.range_3d.specs.Record.{PathRange, Range3d, subspacesOf, pathsOf, headOf, wellFormedRange3d, sizedRange3d}
+use Rattle.range_3d.specs.Record.{PathRange, Range3d, subspacesOf, pathsOf, headOf, wellFormedRange3d}
+use Rattle.range_3d.specs.inside.Sizes.{sizedRange3d}
 use Rattle.range_3d.specs.declared.Range3dHead.{Range3dHead}
 use Rattle.range_3d.specs.Range3d.{openEnd}
 use Rattle.range_3d.proofs.Record.{well-sized-range}
 use Rattle.range_subspaces.specs.Subspaces.{subspacesBytes}
 use Rattle.range_paths.specs.declared.MeasuredPaths.{MeasuredPaths}
 use Rattle.range_paths.specs.Paths.{sidesOf}
-use Rattle.range_paths.specs.Records.{bothBytes, Shares, measureIn}
-use Rattle.range_paths.proofs.Writing.{untold, told-sized, told-is, told-shares, told-bytes, told-long, told-short}
+use Rattle.range_paths.specs.Records.{measureOf, measureIn}
+use Rattle.range_paths.specs.inside.Writing.{bothBytes, Shares}
+use Rattle.range_paths.proofs.Writing.{told-is, told-shares, told-bytes, told-long, told-short}
 use Rattle.range_times.specs.Times.{timesBytes}
 use Rattle.range3d_range3d.specs.Range.{headerOf, rangeBytes}
-use Rattle.range3d_range3d.specs.Records.{againstRangeBy, againstRange, headWith, measuredRange}
+use Rattle.range3d_range3d.specs.Records.{againstRange}
+use Rattle.range3d_range3d.specs.inside.Writing.{measureRange, headWith, measuredRange}
 
 -- two bytes set at the start
 pub over-two : (l : List ℕ) (x y : ℕ) → 2 ≤ length l → set (set l 0 x) 1 y ≡ over (x ∷ y ∷ []) l
@@ -51,35 +56,50 @@ open-is p = go (p .«end_open»)
 
 -- ---- what is measured
 pub record Measures (r v : Range3d) (m : MeasuredPaths) : Type 0 where
-  pub allows : againstRangeBy sizedRange3d r .check v ≡ allowed
+  pub allows : againstRange r .check v ≡ allowed
   pub shares : Shares (v .paths) m
   pub long : m .len ≡ length (bothBytes (v .paths) m)
   pub short : m .len ≤ 1800
   pub bytes : measuredRange (headOf r) m .encode v ≡ againstRange r .encode v
 
 module _ (r v : Range3d) where
-  pub unmeasured : unsaid 5 ≡ measureIn (r .paths) (v .paths) → againstRangeBy sizedRange3d r .check v ≡ barred 5
-  unfolding sizedRange3d
-  unmeasured e = rw (untold (r .paths) (v .paths) e)
+  pub reference-malformed : wellFormedRange3d r ≡ false → unsaid 5 ≡ measureRange r v
+  unfolding measureRange
+  reference-malformed w = rw w
 
-  module _ (m : MeasuredPaths) (e : said m ≡ measureIn (r .paths) (v .paths)) where
+  module _ (w : wellFormedRange3d r ≡ true) where
+    pub range-malformed : wellFormedRange3d v ≡ false → unsaid 5 ≡ measureRange r v
+    unfolding measureRange
+    range-malformed u = rw (w, u)
+
+    pub measure-whole : wellFormedRange3d v ≡ true → measureIn (r .paths) (v .paths) ≡ measureRange r v
+    unfolding measureIn measureRange sizedRange3d
+    measure-whole u = rw (well-sized-range r w, well-sized-range v u, w, u)
+
+  pub unmeasured : unsaid 5 ≡ measureRange r v → againstRange r .check v ≡ refusedValue 5
+  unfolding measureRange
+  unmeasured e = rw (unsaid-known (wellFormedRange3d r && wellFormedRange3d v) (measureOf (pathsOf (r .paths)) (pathsOf (v .paths))) 5 e .0)
+
+  module _ (m : MeasuredPaths) (e : said m ≡ measureRange r v) where
+    formed : (wellFormedRange3d r && wellFormedRange3d v) ≡ true
+    unfolding measureRange
+    formed = said-known (wellFormedRange3d r && wellFormedRange3d v) (measureOf (pathsOf (r .paths)) (pathsOf (v .paths))) m e .0
+
+    told : said m ≡ measureIn (r .paths) (v .paths)
+    told = e ∙ sym (measure-whole (and-left (wellFormedRange3d r) (wellFormedRange3d v) formed) (and-right (wellFormedRange3d r) (wellFormedRange3d v) formed))
+
     bytes-told : measuredRange (headOf r) m .encode v ≡ againstRange r .encode v
     unfolding rangeBytes headerOf sidesOf
-    bytes-told = rw (open-is (v .paths), ← (told-bytes (r .paths) (v .paths) m e), ← (told-is (r .paths) (v .paths) m e))
+    bytes-told = rw (open-is (v .paths), ← (told-bytes (r .paths) (v .paths) m told), ← (told-is (r .paths) (v .paths) m told))
 
     pub measures : Measures r v m
-    unfolding sizedRange3d
     measures = record {
-      allows = rw (told-sized (r .paths) (v .paths) m e);
-      shares = told-shares (r .paths) (v .paths) m e;
-      long = told-long (r .paths) (v .paths) m e;
-      short = told-short (r .paths) (v .paths) m e;
+      allows = rw formed;
+      shares = told-shares (r .paths) (v .paths) m told;
+      long = told-long (r .paths) (v .paths) m told;
+      short = told-short (r .paths) (v .paths) m told;
       bytes = bytes-told;
     }
-
-  -- records that were tested whole
-  pub against-whole : wellFormedRange3d r ≡ true → wellFormedRange3d v ≡ true → againstRangeBy sizedRange3d r .check v ≡ againstRange r .check v
-  against-whole w u = rw (well-sized-range r w, well-sized-range v u, w, u)
 
 -- ---- the parts of what is written
 module _ (r : Range3dHead) (v : Range3d) (m : MeasuredPaths) where

@@ -8,17 +8,20 @@ ghost use Rattle.codec.specs.Answers.{Gives};
 ghost use Rattle.codec.specs.Reader.{shift, mapped};
 ghost use Rattle.path.specs.Flat.{pathSize, pathIn};
 ghost use Rattle.range_3d.specs.Answers.{ReadsRange};
-ghost use Rattle.range_3d.specs.Record.{rangeWith, rangeOf, rangeFrom, sizedRange3d, noTimes};
+ghost use Rattle.range_3d.specs.Record.{rangeWith, rangeOf, rangeFrom};
+ghost use Rattle.range_3d.specs.inside.Sizes.{sizedRange3d};
+ghost use Rattle.grouping.specs.Answers.{noTimes};
 ghost use Rattle.range_paths.specs.Records.{pathsWith, emptyPaths};
 ghost use Rattle.range3d_range3d.specs.Range.{readParts};
-ghost use Rattle.range3d_range3d.specs.Records.{readPathsTimes, readAgainstRange};
+ghost use Rattle.range3d_range3d.specs.Records.{readAgainstRange};
+ghost use Rattle.range3d_range3d.specs.inside.Reading.{readPathsTimes};
 use codec::Decoded;
+use grouping::DecodedTimes;
 use range_3d::DecodedRange3dHead;
 use range_3d::Range3dHead;
 use range_header::Range3dHeader;
 use range_paths::Sides;
 use range_subspaces::Sources;
-use range_times::DecodedTimes;
 
 // Whether two header bytes lie at `start`.
 fn has_header(len: usize, start: usize) -> bool
@@ -59,7 +62,7 @@ fn decode_rest<'a>(
         end,
     );
     let Decoded::Consumed(a) = first else {
-        return range_times::refuse(first);
+        return grouping::refuse_times(first);
     };
     let times_open = header.times_end_open;
     let second = range_times::relative_decode(&message[a..], times, times_open, reference.times);

@@ -1,3 +1,4 @@
 pub mod Record
 pub mod Typed
 pub mod Heads
+pub mod Facts

@@ -8,8 +8,9 @@ use Rattle.path.specs.Limits.{PathOk}
 use Rattle.path.proofs.Record.{well-formed, apart}
 use Rattle.path.proofs.Components.{well-sized}
 use Rattle.range_3d.specs.declared.SubspaceRange.{SubspaceRange}
-use Rattle.range_3d.specs.Record.{PathRange, Range3d, subspacesOf, subspacesFor, subspacesFrom, pathsOf, pathsFor, pathsFrom, rangeOf, rangeFrom, wellFormedSubspaces, wellFormedPaths, wellFormedRange3d, sizedPaths, sizedRange3d, TypedSubspaces, TypedPaths, TypedRange3d}
-use Rattle.range_3d.specs.Range3d.{OnEnd, Both}
+use Rattle.range_3d.specs.Record.{PathRange, Range3d, subspacesOf, subspacesFor, subspacesFrom, pathsOf, pathsFor, pathsFrom, rangeOf, rangeFrom, wellFormedSubspaces, wellFormedPaths, wellFormedRange3d, sizedPaths, TypedSubspaces, TypedPaths, TypedRange3d}
+use Rattle.range_3d.specs.inside.Sizes.{sizedRange3d}
+use Rattle.range_3d.proofs.Facts.{OnEnd, Both}
 
 -- ---- subspaces
 pub typed-ids : (s : SubspaceRange) → TypedSubspaces s → Both TypedId (subspacesOf s)

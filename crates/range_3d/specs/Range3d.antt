@@ -18,12 +18,3 @@ pub record Range3dValue : Type 0 where
 abbrev pub openEnd : {A : Type 0} → Option A → Bool
 openEnd none = true
 openEnd (some a) = false
-
--- a fact of the start, and of the end unless it is open
-abbrev pub OnEnd : {A : Type 0} → (A → Type 0) → Option A → Type 0
-OnEnd P none = Unit {0}
-OnEnd P (some a) = P a
-
-pub record Both {A : Type 0} (P : A → Type 0) (r : Range A) : Type 0 where
-  pub start : P (r .start)
-  pub end : OnEnd P (r .end)

@@ -6,9 +6,9 @@ use Prim.Native.Nat.{ℕ}
 use lib.Dec.{eqb}
 use Rattle.codec.specs.Bytes.{sameBytes, zeroId, TypedId}
 use Rattle.path.specs.Record.{Path, componentsOf, pathFrom, sized, wellFormed, TypedPath}
-use Rattle.grouping.specs.declared.RangeEnd.the-variants.{Closed}
 use Rattle.grouping.specs.declared.TimeRange.{TimeRange}
 use Rattle.grouping.specs.Range.{TypedRange}
+use Rattle.grouping.specs.Answers.{noTimes}
 use Rattle.range_3d.specs.declared.SubspaceRange.{SubspaceRange}
 use Rattle.range_3d.specs.declared.Range3dHead.{Range3dHead}
 use Rattle.range_3d.specs.Range3d.{Range, Range3dValue}
@@ -72,18 +72,12 @@ wellFormedRange3d r = wellFormedSubspaces (r .subspaces) && wellFormedPaths (r .
 unfoldable pub sizedPaths : PathRange → Bool
 sizedPaths p = sized (p .start) && sized (p .end)
 
-unfoldable pub sizedRange3d : Range3d → Bool
-sizedRange3d r = sizedPaths (r .paths)
-
 -- ---- ranges in which nothing lies: what stands beside a refusal
 abbrev pub noSubspaces : SubspaceRange
 noSubspaces = record { start = zeroId; «end_open» = false; end = zeroId }
 
 abbrev pub noPaths : PathRange
 noPaths = record { start = pathFrom []; «end_open» = false; end = pathFrom [] }
-
-abbrev pub noTimes : TimeRange
-noTimes = record { start = 0; end = Closed 0 }
 
 abbrev pub noRange : Range3d
 noRange = record { subspaces = noSubspaces; paths = noPaths; times = noTimes }

@@ -1,6 +1,6 @@
 -- The first header byte of a 3d range: packing and taking apart undo each other. No law here knows a place.
 use Rattle.codec.proofs.Prelude.{_≡_, refl, ℕ, _+_, _≤_, _<_, arith}
-use Rattle.codec.specs.Header.{field, placed, bit, Layout}
+use Rattle.codec.specs.Header.{bitsAt, placed, bit, Layout}
 use Rattle.codec.proofs.Header.{bit-small, flag-of, same-bytes}
 use Rattle.range_subspaces.specs.declared.IdSource.{IdSource}
 use Rattle.range_subspaces.specs.declared.IdSource.the-variants.{Nowhere, Start, End, Written}
@@ -27,12 +27,12 @@ sum s t a b d e =
 
 record Parts (p s t a b d e : ℕ) : Type 0 where
   byte : p < 256
-  s-is : field subspaceStartAt 2 p ≡ s
-  t-is : field subspaceEndAt 2 p ≡ t
-  a-is : field pathStartFromStartAt 1 p ≡ a
-  b-is : field pathEndOpenAt 1 p ≡ b
-  d-is : field pathEndFromStartAt 1 p ≡ d
-  e-is : field timesEndOpenAt 1 p ≡ e
+  s-is : bitsAt subspaceStartAt 2 p ≡ s
+  t-is : bitsAt subspaceEndAt 2 p ≡ t
+  a-is : bitsAt pathStartFromStartAt 1 p ≡ a
+  b-is : bitsAt pathEndOpenAt 1 p ≡ b
+  d-is : bitsAt pathEndFromStartAt 1 p ≡ d
+  e-is : bitsAt timesEndOpenAt 1 p ≡ e
 
 parts : (s t a b d e : ℕ) → s < 4 → t < 4 → a ≤ 1 → b ≤ 1 → d ≤ 1 → e ≤ 1 → Parts (sum s t a b d e) s t a b d e
 parts s t a b d e i j k l m n =
@@ -47,8 +47,8 @@ header-apart h =
     (bit-small (h .«path_end_from_start»)) (bit-small (h .«times_end_open»)) in (
       x .byte,
       rw (
-        source-of (field subspaceStartAt 2 p) (h .«subspace_start») (x .s-is),
-        source-of (field subspaceEndAt 2 p) (h .«subspace_end») (x .t-is),
+        source-of (bitsAt subspaceStartAt 2 p) (h .«subspace_start») (x .s-is),
+        source-of (bitsAt subspaceEndAt 2 p) (h .«subspace_end») (x .t-is),
         flag-of pathStartFromStartAt p (h .«path_start_from_start») (x .a-is),
         flag-of pathEndOpenAt p (h .«path_end_open») (x .b-is),
         flag-of pathEndFromStartAt p (h .«path_end_from_start») (x .d-is),

@@ -2,7 +2,7 @@
 use mathlib.Core.Bool.{cond}
 use Prim.Native.Nat.{ℕ, _+_}
 use lib.Dec.{eqb}
-use Rattle.codec.specs.Header.{field, flag, placed, bit}
+use Rattle.codec.specs.Header.{bitsAt, flag, placed, bit}
 use Rattle.range_subspaces.specs.declared.IdSource.{IdSource}
 use Rattle.range_subspaces.specs.declared.IdSource.the-variants.{Nowhere, Start, End, Written}
 use Rattle.range_header.specs.declared.Range3dHeader.{Range3dHeader}
@@ -38,8 +38,8 @@ sourceFrom n = cond (eqb n 0) Nowhere (cond (eqb n 1) Start (cond (eqb n 2) End 
 
 abbrev pub unpackHeader : ℕ → Range3dHeader
 unpackHeader b = record {
-  «subspace_start» = sourceFrom (field subspaceStartAt 2 b);
-  «subspace_end» = sourceFrom (field subspaceEndAt 2 b);
+  «subspace_start» = sourceFrom (bitsAt subspaceStartAt 2 b);
+  «subspace_end» = sourceFrom (bitsAt subspaceEndAt 2 b);
   «path_start_from_start» = flag pathStartFromStartAt b;
   «path_end_open» = flag pathEndOpenAt b;
   «path_end_from_start» = flag pathEndFromStartAt b;

@@ -11,7 +11,8 @@ use Rattle.range_3d.specs.Record.{PathRange, pathsOf, pathsFrom, sizedPaths}
 use Rattle.range_3d.specs.Range3d.{Range}
 use Rattle.range_paths.specs.declared.Sides.{Sides}
 use Rattle.range_paths.specs.Paths.{readFromEnd, readSide, readPaths}
-use Rattle.range_paths.specs.Records.{readPathsBy, pathsWith, readSideIn}
+use Rattle.range_paths.specs.Records.{readPathsBy, pathsWith}
+use Rattle.range_paths.specs.inside.Reading.{readSideIn}
 use Rattle.range_paths.proofs.Paths.{side-bounded}
 
 -- ---- one path

@@ -8,7 +8,8 @@ use Rattle.path.specs.Limits.{PathOk}
 use Rattle.path.specs.Prefix.{shared}
 use Rattle.path_relative.specs.Against.{againstBytes, readAgainst}
 use Rattle.path_relative.proofs.Against.{against-back, against-bounded}
-use Rattle.range_3d.specs.Range3d.{Range, OnEnd, Both, openEnd}
+use Rattle.range_3d.specs.Range3d.{Range, openEnd}
+use Rattle.range_3d.proofs.Facts.{OnEnd, Both}
 use Rattle.range_paths.specs.declared.Sides.{Sides}
 use Rattle.range_paths.specs.Paths.{startNearer, fromStart, endFromStart, sidesOf, nearer, pathBytes, endBytes, pathsBytes, readFromEnd, readSide, readEnd, pathsUpTo, readPaths}
 

@@ -6,7 +6,8 @@ use Rattle.compact_u64.specs.Number.{standaloneBytes}
 use Rattle.compact_u64.proofs.Standalone.{standalone-short}
 use Rattle.path.specs.Record.{Path, componentsOf, sized}
 use Rattle.path.specs.Prefix.{shared}
-use Rattle.path.specs.Answers.{Said, said, unsaid, saidIf}
+use Rattle.codec.specs.Answers.{Said, said, unsaid}
+use Rattle.path.specs.Answers.{saidIf}
 use Rattle.path.proofs.Components.{sized-formed, count-is, rest-count, rest-small}
 use Rattle.path.proofs.Prefix.{shares}
 use Rattle.path.proofs.Verdicts.{said-known, unsaid-known}
@@ -17,7 +18,8 @@ use Rattle.range_3d.specs.Record.{PathRange, pathsOf, sizedPaths}
 use Rattle.range_paths.specs.declared.NearPath.{NearPath}
 use Rattle.range_paths.specs.declared.MeasuredPaths.{MeasuredPaths}
 use Rattle.range_paths.specs.Paths.{nearer, endShared, pathBytes, endBytes, pathsBytes}
-use Rattle.range_paths.specs.Records.{nearOf, nearIn, measureOf, measureIn, bothBytes, Shares}
+use Rattle.range_paths.specs.Records.{nearOf, measureOf, measureIn}
+use Rattle.range_paths.specs.inside.Writing.{nearIn, bothBytes, Shares}
 
 -- ---- tests that fail
 first-fails : (a b c : Bool) → (a && c) ≡ false → ((a && b) && c) ≡ false
@@ -159,24 +161,17 @@ module _ (r v : PathRange) where
         measured-by _ (reference-fits r (v .start) s es) (path-fits r (v .start) s es) (path-fits r (v .end) t et) (rw (o, near-is r (v .start) s es, near-is r (v .end) t et, long))
 
 -- what an answer tells
-pub untold : (r v : PathRange) → unsaid 5 ≡ measureIn r v → (sizedPaths r && sizedPaths v) ≡ false
-unfolding measureIn
-untold r v e = unsaid-known (sizedPaths r && sizedPaths v) (measureOf (pathsOf r) (pathsOf v)) 5 e .0
-
 module _ (r v : PathRange) (m : MeasuredPaths) (e : said m ≡ measureIn r v) where
   told : ((sizedPaths r && sizedPaths v) ≡ true) × (measureOf (pathsOf r) (pathsOf v) ≡ m)
   unfolding measureIn
   told = said-known (sizedPaths r && sizedPaths v) (measureOf (pathsOf r) (pathsOf v)) m e
-
-  pub told-sized : (sizedPaths r && sizedPaths v) ≡ true
-  told-sized = told .0
 
   pub told-is : measureOf (pathsOf r) (pathsOf v) ≡ m
   told-is = told .1
 
   both-fit : (sized (v .start) && sized (v .end)) ≡ true
   unfolding sizedPaths
-  both-fit = and-right (sizedPaths r) _ told-sized
+  both-fit = and-right (sizedPaths r) _ (told .0)
 
   start-fits : sized (v .start) ≡ true
   start-fits = and-left (sized (v .start)) (sized (v .end)) both-fit

@@ -1,2 +1,3 @@
 pub mod Paths
 pub mod Records
+pub mod inside

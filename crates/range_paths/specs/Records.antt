@@ -1,21 +1,18 @@
 -- docs/FORMAT.md, "3d ranges": the same, on records. 5 is tested on the reference and on the paths.
-use mathlib.Core.Path.{_≡_}
-use mathlib.Core.List.{List, [], _++_}
-use mathlib.Core.Bool.{Bool, false, cond, _&&_}
+use mathlib.Core.List.{List, []}
+use mathlib.Core.Bool.{Bool, _&&_}
 use Prim.Native.Nat.{ℕ}
 use lib.ListN.{length}
-use Rattle.codec.specs.Format.{allowed}
-use Rattle.codec.specs.Reader.{Reader, give, guard, mapped, choose, onFormed}
-use Rattle.path.specs.Record.{Path, componentsOf, pathFrom, sized}
-use Rattle.path.specs.Answers.{Said, said, unsaid, saidIf}
-use Rattle.path_relative.specs.Records.{sharedBy, readAgainstBy}
+use Rattle.codec.specs.Reader.{Reader, mapped, onFormed}
+use Rattle.path.specs.Record.{Path, pathFrom, sized}
+use Rattle.codec.specs.Answers.{Said, said, unsaid}
+use Rattle.path.specs.Answers.{saidIf}
 use Rattle.range_3d.specs.Record.{PathRange, pathsOf, pathsFrom, sizedPaths}
 use Rattle.range_3d.specs.Range3d.{Range}
 use Rattle.range_paths.specs.declared.Sides.{Sides}
 use Rattle.range_paths.specs.declared.NearPath.{NearPath}
 use Rattle.range_paths.specs.declared.MeasuredPaths.{MeasuredPaths}
 use Rattle.range_paths.specs.declared.Near.{Near}
-use Rattle.range_paths.specs.declared.Near.the-variants as near
 use Rattle.range_paths.specs.declared.Measured.{Measured}
 use Rattle.range_paths.specs.declared.Measured.the-variants as measured
 use Rattle.range_paths.specs.Paths.{fromStart, endFromStart, sharedWith, endShared, pathsBytes, readPaths}
@@ -38,13 +35,6 @@ emptyPaths endOpen = pathsWith (pathFrom []) endOpen (pathFrom [])
 abbrev pub nearOf : Range (List (List ℕ)) → List (List ℕ) → NearPath
 nearOf r p = record { «from_start» = fromStart r p; shared = sharedWith r p }
 
-abbrev pub nearAnswer : Near → Said NearPath
-nearAnswer (near.At n) = said n
-nearAnswer near.Malformed = unsaid 5
-
-unfoldable pub nearIn : PathRange → Path → Said NearPath
-nearIn r p = saidIf (sizedPaths r && sized p) (nearOf (pathsOf r) (componentsOf p))
-
 -- the same of start and end, and the length of their bytes
 abbrev pub measureOf : Range (List (List ℕ)) → Range (List (List ℕ)) → MeasuredPaths
 measureOf r v = record {
@@ -59,16 +49,3 @@ measuredAnswer measured.Malformed = unsaid 5
 
 unfoldable pub measureIn : PathRange → PathRange → Said MeasuredPaths
 measureIn r v = saidIf (sizedPaths r && sizedPaths v) (measureOf (pathsOf r) (pathsOf v))
-
--- ---- inside: bytes by what is shared
-abbrev pub bothBytes : PathRange → MeasuredPaths → List ℕ
-bothBytes v m = sharedBy sized (m .start .shared) .encode (v .start) ++ cond (v .«end_open») [] (sharedBy sized (m .end .shared) .encode (v .end))
-
--- counts that the paths have
-pub record Shares (v : PathRange) (m : MeasuredPaths) : Type 0 where
-  pub start : sharedBy sized (m .start .shared) .check (v .start) ≡ allowed
-  pub end : v .«end_open» ≡ false → sharedBy sized (m .end .shared) .check (v .end) ≡ allowed
-
--- ---- inside the reader into lent records: one path, by its side
-abbrev pub readSideIn : PathRange → Bool → Reader Path
-readSideIn r fromStart = choose fromStart (readAgainstBy sized false (r .start)) (choose (r .«end_open») (guard false (give (pathFrom []))) (readAgainstBy sized false (r .end)))

@@ -15,7 +15,7 @@ pub struct NearPath {
     pub shared: usize,
 }
 
-pub enum Near {
+enum Near {
     At(NearPath),
     Malformed,
 }

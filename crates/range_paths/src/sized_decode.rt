@@ -4,7 +4,8 @@ ghost use Rattle.codec.specs.Answers.{Gives};
 ghost use Rattle.path.specs.Record.{pathFrom};
 ghost use Rattle.path.specs.Flat.{pathIn};
 ghost use Rattle.range_3d.specs.Record.{sizedPaths};
-ghost use Rattle.range_paths.specs.Records.{pathsWith, emptyPaths, readPathsBy, readSideIn};
+ghost use Rattle.range_paths.specs.Records.{pathsWith, emptyPaths, readPathsBy};
+ghost use Rattle.range_paths.specs.inside.Reading.{readSideIn};
 use crate::Sides;
 use codec::Decoded;
 

@@ -6,7 +6,8 @@ use Rattle.codec.specs.Reads.{ReadsAs, Bounded}
 use Rattle.codec.proofs.Bounded.{give-bounded, someBytes-bounded, then-bounded, guard-bounded, checked-bounded, mapped-bounded}
 use Rattle.codec.proofs.ReadsAs.{give-as, bytes-as, then-as, checked-as, mapped-as}
 use Rattle.codec.proofs.SameBytes.{same-eq}
-use Rattle.range_3d.specs.Range3d.{Range, OnEnd, Both}
+use Rattle.range_3d.specs.Range3d.{Range}
+use Rattle.range_3d.proofs.Facts.{OnEnd, Both}
 use Rattle.range_subspaces.specs.declared.IdSource.{IdSource}
 use Rattle.range_subspaces.specs.declared.IdSource.the-variants.{Nowhere, Start, End, Written}
 use Rattle.range_subspaces.specs.declared.Sources.{Sources}

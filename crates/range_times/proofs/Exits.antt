@@ -1,13 +1,15 @@
 -- What the definitions say at each exit of the code.
 use Rattle.codec.proofs.Prelude.{_≡_, List, _++_, append-nil, Bool, true, false, ℕ, _+_, drop}
 use Rattle.codec.specs.Answers.{accepted, refused}
+use Rattle.codec.specs.Reader.{named}
 use Rattle.compact_u64.specs.Number.{numberBytes}
 use Rattle.grouping.specs.declared.RangeEnd.{RangeEnd}
 use Rattle.grouping.specs.declared.RangeEnd.the-variants.{Closed, Open}
 use Rattle.grouping.specs.declared.TimeRange.{TimeRange}
 use Rattle.time_distance.specs.Distance.{nearestOf, sideOf, readFrom}
 use Rattle.range_times.specs.declared.RangeTimesHeader.{RangeTimesHeader}
-use Rattle.range_times.specs.Times.{timesBytes, readEnd, timesFrom, readTimes}
+use Rattle.range_times.specs.Times.{timesBytes, readEnd, readTimes}
+use Rattle.grouping.specs.Range.{timesFrom}
 
 -- ---- reading
 module _ (r : TimeRange) (endOpen : Bool) (h : RangeTimesHeader) (s : List ℕ) where
@@ -15,14 +17,9 @@ module _ (r : TimeRange) (endOpen : Bool) (h : RangeTimesHeader) (s : List ℕ) 
   unfolding readEnd
   end-open o = rw o
 
-  module _ (o : endOpen ≡ false) where
-    pub end-refused : (k : ℕ) → readFrom (sideOf r (h .«end_from_start»)) (h .«end_added») (h .«end_tag») s ≡ refused k → readEnd r endOpen h s ≡ refused k
-    unfolding readEnd
-    end-refused k e = rw (o, e)
-
-    pub end-read : (x n : ℕ) → readFrom (sideOf r (h .«end_from_start»)) (h .«end_added») (h .«end_tag») s ≡ accepted x n → readEnd r endOpen h s ≡ accepted (Closed x) n
-    unfolding readEnd
-    end-read x n e = rw (o, e)
+  pub end-closed : endOpen ≡ false → readEnd r endOpen h s ≡ named Closed (readFrom (sideOf r (h .«end_from_start»)) (h .«end_added») (h .«end_tag») s)
+  unfolding readEnd
+  end-closed o = rw o
 
   pub times-start : (k : ℕ) → readFrom (sideOf r (h .«start_from_start»)) (h .«start_added») (h .«start_tag») s ≡ refused k → readTimes r endOpen h s ≡ refused k
   unfolding readTimes

@@ -1,11 +1,12 @@
 -- The header of the times: packing and taking apart undo each other. No law here knows a place.
 use Rattle.codec.proofs.Prelude.{_≡_, refl, ℕ, _+_, _≤_, _<_, arith}
-use Rattle.codec.specs.Header.{field, placed, bit, Layout}
+use Rattle.codec.specs.Header.{bitsAt, placed, bit, Layout}
 use Rattle.codec.proofs.Header.{field-fits, bit-small, flag-of, same-bytes}
 use Rattle.compact_u64.proofs.Tags.{min-tag-fits}
 use Rattle.grouping.specs.declared.TimeRange.{TimeRange}
 use Rattle.range_times.specs.declared.RangeTimesHeader.{RangeTimesHeader}
-use Rattle.range_times.specs.Header.{startFromStartAt, startAddedAt, startTagAt, endFromStartAt, endAddedAt, endTagAt, unpackHeader, packHeader, HeaderFits}
+use Rattle.range_times.specs.Header.{startFromStartAt, startAddedAt, startTagAt, endFromStartAt, endAddedAt, endTagAt, unpackHeader, packHeader}
+use Rattle.range_times.specs.inside.Header.{HeaderFits}
 use Rattle.range_times.specs.Times.{headerOf}
 
 -- the sum of the parts, each a number that fits its bits
@@ -15,12 +16,12 @@ sum a b s d e t =
 
 record Parts (p a b s d e t : ℕ) : Type 0 where
   byte : p < 256
-  a-is : field startFromStartAt 1 p ≡ a
-  b-is : field startAddedAt 1 p ≡ b
-  s-is : field startTagAt 2 p ≡ s
-  d-is : field endFromStartAt 1 p ≡ d
-  e-is : field endAddedAt 1 p ≡ e
-  t-is : field endTagAt 2 p ≡ t
+  a-is : bitsAt startFromStartAt 1 p ≡ a
+  b-is : bitsAt startAddedAt 1 p ≡ b
+  s-is : bitsAt startTagAt 2 p ≡ s
+  d-is : bitsAt endFromStartAt 1 p ≡ d
+  e-is : bitsAt endAddedAt 1 p ≡ e
+  t-is : bitsAt endTagAt 2 p ≡ t
 
 parts : (a b s d e t : ℕ) → a ≤ 1 → b ≤ 1 → s < 4 → d ≤ 1 → e ≤ 1 → t < 4 → Parts (sum a b s d e t) a b s d e t
 parts a b s d e t i j k l m n =

@@ -7,11 +7,11 @@ use Rattle.codec.proofs.ReadsAs.{give-as, then-as, mapped-as}
 use Rattle.grouping.specs.declared.RangeEnd.{RangeEnd}
 use Rattle.grouping.specs.declared.RangeEnd.the-variants.{Closed, Open}
 use Rattle.grouping.specs.declared.TimeRange.{TimeRange}
-use Rattle.grouping.specs.Range.{top, isOpen, endValue, TypedRange}
+use Rattle.grouping.specs.Range.{top, isOpen, endValue, TypedRange, timesFrom}
 use Rattle.time_distance.specs.Distance.{sideOf, readFrom}
 use Rattle.time_distance.proofs.Distance.{from-bounded, nearest-as}
 use Rattle.range_times.specs.declared.RangeTimesHeader.{RangeTimesHeader}
-use Rattle.range_times.specs.Times.{headerOf, endBytes, timesBytes, readEnd, timesFrom, readTimes}
+use Rattle.range_times.specs.Times.{headerOf, endBytes, timesBytes, readEnd, readTimes}
 
 module _ (r : TimeRange) (endOpen : Bool) (h : RangeTimesHeader) where
   end-bounded : Bounded (readEnd r endOpen h)

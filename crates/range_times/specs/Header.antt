@@ -1,6 +1,6 @@
 -- docs/FORMAT.md, "3d ranges": the second header byte, that of the times.
-use Prim.Native.Nat.{ℕ, _+_, _<_}
-use Rattle.codec.specs.Header.{field, flag, placed, bit}
+use Prim.Native.Nat.{ℕ, _+_}
+use Rattle.codec.specs.Header.{bitsAt, flag, placed, bit}
 use Rattle.range_times.specs.declared.RangeTimesHeader.{RangeTimesHeader}
 
 -- where each part stands
@@ -26,10 +26,10 @@ abbrev pub unpackHeader : ℕ → RangeTimesHeader
 unpackHeader b = record {
   «start_from_start» = flag startFromStartAt b;
   «start_added» = flag startAddedAt b;
-  «start_tag» = field startTagAt 2 b;
+  «start_tag» = bitsAt startTagAt 2 b;
   «end_from_start» = flag endFromStartAt b;
   «end_added» = flag endAddedAt b;
-  «end_tag» = field endTagAt 2 b;
+  «end_tag» = bitsAt endTagAt 2 b;
 }
 
 abbrev pub packHeader : RangeTimesHeader → ℕ
@@ -40,7 +40,3 @@ packHeader h =
     + placed endFromStartAt 1 (bit (h .«end_from_start»))
     + placed endAddedAt 1 (bit (h .«end_added»))
     + placed endTagAt 2 (h .«end_tag»)
-
-pub record HeaderFits (h : RangeTimesHeader) : Type 0 where
-  pub start : h .«start_tag» < 4
-  pub end : h .«end_tag» < 4

@@ -7,6 +7,7 @@ use Rattle.compact_u64.specs.Number.{minTag, numberBytes}
 use Rattle.grouping.specs.declared.RangeEnd.{RangeEnd}
 use Rattle.grouping.specs.declared.RangeEnd.the-variants.{Closed, Open}
 use Rattle.grouping.specs.declared.TimeRange.{TimeRange}
+use Rattle.grouping.specs.Range.{timesFrom}
 use Rattle.time_distance.specs.Distance.{nearestOf, endNearest, sideOf, readFrom}
 use Rattle.range_times.specs.declared.RangeTimesHeader.{RangeTimesHeader}
 
@@ -34,9 +35,6 @@ readEnd r endOpen h =
     choose endOpen
     (give Open)
     (mapped Closed (readFrom (sideOf r (h .«end_from_start»)) (h .«end_added») (h .«end_tag»)))
-
-abbrev pub timesFrom : ℕ → RangeEnd → TimeRange
-timesFrom start end = record { start = start; end = end }
 
 unfoldable pub readTimes : TimeRange → Bool → RangeTimesHeader → Reader TimeRange
 readTimes r endOpen h =

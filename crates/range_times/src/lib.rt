@@ -2,16 +2,19 @@
 ghost use mathlib.Core.Path.{_≡_};
 ghost use Prim.Native.Nat.{_≤_};
 ghost use lib.ListN.{length, drop};
-ghost use Rattle.codec.specs.Answers.{answerOf, outcomeOf, Gives};
+ghost use Rattle.codec.specs.Answers.{outcomeOf, Gives};
 ghost use Rattle.codec.specs.Format.{allowed, putAnswer, putBuffer};
 ghost use Rattle.time_distance.specs.Distance.{sideOf};
-ghost use Rattle.range_3d.specs.Record.{noTimes};
+ghost use Rattle.grouping.specs.Answers.{noTimes};
+ghost use Rattle.grouping.specs.declared.RangeEnd.the-variants.{Open};
 ghost use Rattle.range_times.specs.Header.{unpackHeader, packHeader};
 ghost use Rattle.range_times.specs.Times.{headerOf, timesBytes, readEnd, readTimes};
 use codec::Decoded;
 use codec::Encoded;
 use compact_u64::DecodedU64;
 use compact_u64::TagWidth;
+use grouping::DecodedEnd;
+use grouping::DecodedTimes;
 use grouping::RangeEnd;
 use grouping::TimeRange;
 
@@ -25,17 +28,6 @@ pub struct RangeTimesHeader {
     pub end_from_start: bool,
     pub end_added: bool,
     pub end_tag: u8,
-}
-
-// Times beside the answer; beside a refusal no time lies in them.
-pub struct DecodedTimes {
-    pub answer: Decoded,
-    pub times: TimeRange,
-}
-
-pub struct DecodedEnd {
-    pub answer: Decoded,
-    pub end: RangeEnd,
 }
 
 fn header_of(times: TimeRange, reference: TimeRange) -> RangeTimesHeader
@@ -70,19 +62,6 @@ fn side(reference: TimeRange, from_start: bool) -> RangeEnd
     reference.end
 }
 
-// A refusal beside times in which none lies.
-pub fn refuse(answer: Decoded) -> DecodedTimes
-    ensures { λ r. ⌜ (r .answer ≡ answer) × (r .times ≡ noTimes) ⌝ }
-{
-    DecodedTimes {
-        answer: answer,
-        times: TimeRange {
-            start: 0,
-            end: RangeEnd::Closed(0),
-        },
-    }
-}
-
 // The end starts at `start`.
 fn decode_end(
     message: &[u8],
@@ -91,7 +70,7 @@ fn decode_end(
     end_open: bool,
     reference: TimeRange,
 ) -> DecodedEnd
-    ensures { λ r. ⌜ answerOf (r .answer) (r .end) ≡ readEnd reference «end_open» header (drop start (now (message .entry))) ⌝ }
+    ensures { λ r. ⌜ Gives Open (r .answer) (r .end) (readEnd reference «end_open» header (drop start (now (message .entry)))) ⌝ }
 {
     if end_open {
         return DecodedEnd {
@@ -100,23 +79,13 @@ fn decode_end(
         };
     }
     let from = side(reference, header.end_from_start);
-    let read = time_distance::relative_decode(
+    grouping::closed_end(time_distance::relative_decode(
         message,
         start,
         from,
         header.end_added,
         header.end_tag,
-    );
-    let DecodedU64::Value(end, n) = read else {
-        return DecodedEnd {
-            answer: compact_u64::refusal(read),
-            end: RangeEnd::Open,
-        };
-    };
-    DecodedEnd {
-        answer: Decoded::Consumed(n),
-        end: RangeEnd::Closed(end),
-    }
+    ))
 }
 
 // Reads times by their header byte; whether the end is open is told elsewhere.
@@ -132,12 +101,12 @@ pub fn relative_decode(
     let from = side(reference, said.start_from_start);
     let first = time_distance::relative_decode(message, 0, from, said.start_added, said.start_tag);
     let DecodedU64::Value(start, a) = first else {
-        return refuse(compact_u64::refusal(first));
+        return grouping::refuse_times(compact_u64::unvalued(first));
     };
     let second = decode_end(message, a, said, end_open, reference);
     let answer = second.answer;
     let Decoded::Consumed(b) = answer else {
-        return refuse(answer);
+        return grouping::refuse_times(answer);
     };
     let end = second.end;
     DecodedTimes {

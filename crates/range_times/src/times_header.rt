@@ -1,6 +1,7 @@
 // The header byte of the times of a 3d range.
 ghost use mathlib.Core.Path.{_≡_};
-ghost use Rattle.range_times.specs.Header.{unpackHeader, packHeader, HeaderFits};
+ghost use Rattle.range_times.specs.Header.{unpackHeader, packHeader};
+ghost use Rattle.range_times.specs.inside.Header.{HeaderFits};
 use crate::RangeTimesHeader;
 
 // What one of each part adds to the byte.

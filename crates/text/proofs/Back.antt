@@ -1,16 +1,14 @@
 -- There and back: what was printed is read as it was.
 use Rattle.codec.proofs.Prelude.{_≡_, refl, _∙_, sym, List, [], _∷_, _++_, Bool, true, false, cond, ℕ, zero, suc, _+_, _-_, _*_, _/_, _%_, _^_, _≤_, _<_, pow-suc, arith, ltb, eqb, ltb-true, ltb-false, eqb-true, eqb-false, lt-ltb, le-ltb, length, getD, List·getD-append}
 use Rattle.io.specs.Digits.{glyph, digits}
-use Rattle.codec.specs.Answers.{AllBytes}
+use Rattle.codec.specs.Answers.{said, AllBytes}
 use Rattle.codec.specs.Format.{over}
 use Rattle.decimal.specs.Decimal.{decimalValue, allDigits, isDecimal, digitsAfter, readDecimal}
-use Rattle.decimal.specs.declared.Decimal.the-variants.{Value}
 use Rattle.decimal.proofs.DecimalSteps.{other-start, read-value}
 use Rattle.text.specs.Hex.{hexValue, isHex, unhex, hexText}
 use Rattle.text.specs.Decimal.{digitCount, decimalText}
 use Rattle.text.specs.Fields.{readHex, hexBuffer}
 use Rattle.text.specs.Laws.{TextLaws}
-use Rattle.text.specs.declared.Hex.the-variants.{Bytes}
 use Rattle.text.proofs.DecimalPrinted.{digits-long}
 use Rattle.text.proofs.Tests.{both}
 
@@ -41,7 +39,7 @@ hex-back (b ∷ bs) h =
     (rw (x, y, lt-ltb (b / 16) 16 (omega arith), lt-ltb (b % 16) 16 (omega arith)) (r .0), rw (x, y, z, r .1))
 
 hex-read : (bs buf : List ℕ) → AllBytes bs → length bs ≤ length buf
-    → (readHex (hexText bs) (length buf) ≡ Bytes (length bs)) × (hexBuffer (hexText bs) buf ≡ over bs buf)
+    → (readHex (hexText bs) (length buf) ≡ said (length bs)) × (hexBuffer (hexText bs) buf ≡ over bs buf)
 unfolding readHex hexBuffer
 hex-read bs buf h room =
     let r = hex-back bs h in
@@ -120,7 +118,7 @@ form-back n h = by-cases (eqb n 0) refl
         let f = starts-above 19 n (omega arith) (omega arith) in
         other-start (digits 10 (digitCount 19 n) n) (omega (arith, digits-long (digitCount 19 n) n, f .1)) (f .0) ∙ all-digits (digitCount 19 n) n
 
-pub decimal-back : (n : ℕ) → n < 2 ^ 64 → readDecimal (decimalText n) ≡ Value n
+pub decimal-back : (n : ℕ) → n < 2 ^ 64 → readDecimal (decimalText n) ≡ said n
 unfolding decimalText
 decimal-back n h = read-value (decimalText n) n (form-back n h) (number-back (digitCount 19 n) n (count-holds 19 n (omega arith))) h
 

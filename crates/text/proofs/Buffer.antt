@@ -2,7 +2,8 @@
 use Rattle.codec.proofs.Prelude.{_≡_, refl, sym, ap, _∙_, List, [], _∷_, _++_, append-assoc, ℕ, suc, _+_, _≤_, _<_, add-one, arith, le-leb, lt-leb, length, take, drop, set, length-append, length-drop, take-append-drop, drop-drop, drop-set-lt, take-suc-set, length-take-le}
 use Rattle.codec.specs.Format.{over}
 use Rattle.codec.proofs.Lending.{over-turn}
-use Rattle.text.specs.Buffer.{overAt, putAt, placeAfter, Wrote}
+use Rattle.text.specs.Buffer.{overAt, putAt, placeAfter}
+use Rattle.text.proofs.Written.{Wrote}
 
 -- ---- stores
 pub overAt-start : (bs l : List ℕ) → overAt 0 bs l ≡ over bs l

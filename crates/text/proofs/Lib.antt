@@ -6,3 +6,4 @@ pub mod HexAnswers
 pub mod DecimalPrinted
 pub mod Back
 pub mod IdSteps
+pub mod Written

@@ -1,8 +1,7 @@
 -- Bytes put into a lent buffer from a place on.
-use mathlib.Core.Path.{_≡_}
 use mathlib.Core.List.{List, _++_}
 use mathlib.Core.Bool.{cond}
-use Prim.Native.Nat.{ℕ, _+_, _≤_}
+use Prim.Native.Nat.{ℕ, _+_}
 use lib.Dec.{leb}
 use lib.ListN.{length, take, drop}
 use Rattle.codec.specs.Format.{over}
@@ -18,9 +17,3 @@ putAt at bs l = cond (leb (at + length bs) (length l)) (overAt at bs l) l
 -- the next place: the same where they do not fit
 unfoldable pub placeAfter : ℕ → List ℕ → List ℕ → ℕ
 placeAfter at bs l = cond (leb (at + length bs) (length l)) (at + length bs) at
-
--- the bytes a, at most m of them, were written from a place of the buffer l on; it is now l', and p is the next place
-pub record Wrote (l : List ℕ) (at : ℕ) (a l' : List ℕ) (p m : ℕ) : Type 0 where
-  pub place : p ≡ at + length a
-  pub buffer : l' ≡ overAt at a l
-  pub few : length a ≤ m

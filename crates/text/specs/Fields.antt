@@ -4,14 +4,21 @@ use mathlib.Core.Bool.{cond}
 use Prim.Native.Nat.{ℕ}
 use lib.Dec.{ltb}
 use lib.ListN.{length}
+use Rattle.codec.specs.Answers.{Said, said, unsaid}
 use Rattle.codec.specs.Format.{over}
 use Rattle.text.specs.Hex.{isHex, unhex}
 use Rattle.text.specs.declared.Hex.{Hex}
 use Rattle.text.specs.declared.Hex.the-variants.{Bytes, NoHex, NoRoom}
 
--- bytes in hex, read into a buffer of `room` bytes
-unfoldable pub readHex : List ℕ → ℕ → Hex
-readHex s room = cond (isHex s) (cond (ltb room (length (unhex s))) NoRoom (Bytes (length (unhex s)))) NoHex
+-- how many bytes in hex are read into a buffer of `room` bytes; 6 where the text is no hex, 4 where they do not fit
+unfoldable pub readHex : List ℕ → ℕ → Said ℕ
+readHex s room = cond (isHex s) (cond (ltb room (length (unhex s))) (unsaid 4) (said (length (unhex s)))) (unsaid 6)
+
+-- the numbers of the code's refusals
+abbrev pub hexAnswer : Hex → Said ℕ
+hexAnswer (Bytes n) = said n
+hexAnswer NoHex = unsaid 6
+hexAnswer NoRoom = unsaid 4
 
 -- the buffer afterwards: as it was where the text is refused
 unfoldable pub hexBuffer : List ℕ → List ℕ → List ℕ

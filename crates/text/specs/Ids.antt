@@ -13,5 +13,5 @@ noId = record { ok = false; id = replicate 32 0 }
 abbrev pub someId : List ℕ → IdField
 someId bs = record { ok = true; id = bs }
 
-unfoldable pub readId : List ℕ → IdField
-readId s = cond (isHex s) (cond (eqb (length s) 64) (someId (unhex s)) noId) noId
+unfoldable pub readIdText : List ℕ → IdField
+readIdText s = cond (isHex s) (cond (eqb (length s) 64) (someId (unhex s)) noId) noId

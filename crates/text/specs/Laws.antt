@@ -3,18 +3,16 @@ use mathlib.Core.Path.{_≡_}
 use mathlib.Core.List.{List}
 use Prim.Native.Nat.{ℕ, _≤_, _<_, _^_}
 use lib.ListN.{length}
-use Rattle.codec.specs.Answers.{AllBytes}
+use Rattle.codec.specs.Answers.{said, AllBytes}
 use Rattle.codec.specs.Format.{over}
 use Rattle.decimal.specs.Decimal.{readDecimal}
-use Rattle.decimal.specs.declared.Decimal.the-variants.{Value}
 use Rattle.text.specs.Hex.{hexText}
 use Rattle.text.specs.Decimal.{decimalText}
 use Rattle.text.specs.Fields.{readHex, hexBuffer}
-use Rattle.text.specs.declared.Hex.the-variants.{Bytes}
 
 pub record TextLaws : Type 0 where
   -- every number of 64 bits
-  pub decimal : (n : ℕ) → n < 2 ^ 64 → readDecimal (decimalText n) ≡ Value n
+  pub decimal : (n : ℕ) → n < 2 ^ 64 → readDecimal (decimalText n) ≡ said n
   -- all bytes, in a buffer that has room for them
   pub hex : (bs buf : List ℕ) → AllBytes bs → length bs ≤ length buf
-      → (readHex (hexText bs) (length buf) ≡ Bytes (length bs)) × (hexBuffer (hexText bs) buf ≡ over bs buf)
+      → (readHex (hexText bs) (length buf) ≡ said (length bs)) × (hexBuffer (hexText bs) buf ≡ over bs buf)

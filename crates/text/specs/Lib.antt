@@ -1,3 +1,4 @@
+pub mod Ascii
 pub mod Parts
 pub mod Hex
 pub mod Decimal

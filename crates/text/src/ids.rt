@@ -1,6 +1,6 @@
 // Ids and digests: 32 bytes in hex.
 ghost use mathlib.Core.Path.{_≡_};
-ghost use Rattle.text.specs.Ids.{noId, readId};
+ghost use Rattle.text.specs.Ids.{noId, readIdText};
 use crate::Hex;
 use crate::IdField;
 
@@ -15,7 +15,7 @@ fn refuse() -> IdField
 
 // Reads 64 hexadecimal digits.
 pub fn read_id(s: &[u8]) -> IdField
-    ensures { λ r. ⌜ r ≡ readId (now (s .entry)) ⌝ }
+    ensures { λ r. ⌜ r ≡ readIdText (now (s .entry)) ⌝ }
 {
     let mut id = [0u8; 32];
     let got = crate::read_hex(s, &mut id);

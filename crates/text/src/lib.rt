@@ -9,7 +9,7 @@ ghost use Rattle.text.specs.Parts.{before, parts, partAt};
 ghost use Rattle.text.specs.Hex.{hexValue, isHex, unhex, hexText};
 ghost use Rattle.text.specs.Decimal.{decimalText};
 ghost use Rattle.text.specs.Buffer.{overAt, putAt, placeAfter};
-ghost use Rattle.text.specs.Fields.{readHex, hexBuffer};
+ghost use Rattle.text.specs.Fields.{readHex, hexAnswer, hexBuffer};
 
 pub mod ids;
 
@@ -134,7 +134,7 @@ fn fill_hex(s: &[u8], out: &mut [u8])
 
 // Reads bytes in hex to the start of the buffer; where the text is refused, the buffer is left as it was.
 pub fn read_hex(s: &[u8], out: &mut [u8]) -> Hex
-    ensures { λ r. ⌜ (r ≡ readHex (now (s .entry)) (length (now (out .entry)))) × (now (out .exit) ≡ hexBuffer (now (s .entry)) (now (out .entry))) ⌝ }
+    ensures { λ r. ⌜ (hexAnswer r ≡ readHex (now (s .entry)) (length (now (out .entry)))) × (now (out .exit) ≡ hexBuffer (now (s .entry)) (now (out .entry))) ⌝ }
 {
     if !is_hex(s) {
         return Hex::NoHex;

@@ -1,6 +1,6 @@
 -- What the reader's definition answers at each exit of the code.
 use Rattle.codec.proofs.Prelude.{_≡_, refl, ap, List, Bool, true, false, cond, _&&_, not, ℕ, _+_, _-_, _≤_, _<_, arith, le-leb, lt-leb, ne-eqb}
-use Rattle.codec.specs.Answers.{accepted, refused}
+use Rattle.codec.specs.Answers.{Answer, accepted, refused}
 use Rattle.codec.specs.Reader.{named, passed}
 use Rattle.compact_u64.specs.Number.{readNumber}
 use Rattle.grouping.specs.declared.TimeRange.{TimeRange}
@@ -37,38 +37,30 @@ past-reach canonic r t false d h = go (bounds r (timeAt r false d)) refl
     go true e = farther canonic r false d (timeAt r false d) e (λ q. omega (arith, h, ap (λ (x : ℕ). differenceOf r x .difference) nought, at-nought, q))
     go false e = outside canonic r false d (timeAt r false d) e
 
--- ---- reading
+-- ---- reading, by the one test or the other
+abbrev readTold : Bool → Bool → TimeRange → Bool → ℕ → List ℕ → Answer ℕ
+readTold included canonic r added tag s = cond included (readIncluded canonic r added tag s) (readTime canonic r added tag s)
+
 module _ (canonic : Bool) (r : TimeRange) (added : Bool) (tag : ℕ) (s : List ℕ) where
-  pub time-refused : (k : ℕ) → readNumber canonic 2 tag s ≡ refused k → readTime canonic r added tag s ≡ refused k
-  unfolding readTime
-  time-refused k e = rw e
+  pub told-refused : (included : Bool) (k : ℕ) → readNumber canonic 2 tag s ≡ refused k → readTold included canonic r added tag s ≡ refused k
+  unfolding readTime readIncluded
+  told-refused true k e = rw e
+  told-refused false k e = rw e
 
   module _ (d n : ℕ) (e : readNumber canonic 2 tag s ≡ accepted d n) where
-    pub time-fault : isNearest canonic r added d (timeAt r added d) ≡ false → readTime canonic r added tag s ≡ refused 2
-    unfolding readTime
-    time-fault f = rw (e, f)
+    pub told-past : (included : Bool) → TypedRange r → reachOf r added < d → readTold included canonic r added tag s ≡ refused 2
+    unfolding readTime readIncluded isIncluded
+    told-past true ty h = rw (e, lt-leb d (reachOf r added) h)
+    told-past false ty h = rw (e, past-reach canonic r ty added d h)
 
-    pub time-read : isNearest canonic r added d (timeAt r added d) ≡ true → readTime canonic r added tag s ≡ accepted (timeAt r added d) n
-    unfolding readTime
-    time-read f = rw (e, f)
+    module _ (h : d ≤ reachOf r added) (t : Bool) where
+      passed-time : (b : Bool) → named (timeAt r added) (passed b (accepted d n)) ≡ passed b (accepted (timeAt r added d) n)
+      passed-time true = refl
+      passed-time false = refl
 
--- ---- reading a time that the range includes
-module _ (canonic : Bool) (r : TimeRange) (added : Bool) (tag : ℕ) (s : List ℕ) where
-  pub included-refused : (k : ℕ) → readNumber canonic 2 tag s ≡ refused k → readIncluded canonic r added tag s ≡ refused k
-  unfolding readIncluded
-  included-refused k e = rw e
-
-  module _ (d n : ℕ) (e : readNumber canonic 2 tag s ≡ accepted d n) where
-    pub included-past : reachOf r added < d → readIncluded canonic r added tag s ≡ refused 2
-    unfolding readIncluded isIncluded
-    included-past h = rw (e, lt-leb d (reachOf r added) h)
-
-    module _ (h : d ≤ reachOf r added) (t : Bool)
-        (f : (includesTime r (timeAt r added d) && cond canonic (cond (differenceOf r (timeAt r added d) .added) added (not added)) true) ≡ t) where
-      pub included-told : readIncluded canonic r added tag s ≡ passed t (accepted (timeAt r added d) n)
-      unfolding readIncluded isIncluded
-      included-told = rw (e, le-leb d (reachOf r added) h, f) (go t)
-        where
-          go : (b : Bool) → named (timeAt r added) (passed b (accepted d n)) ≡ passed b (accepted (timeAt r added d) n)
-          go true = refl
-          go false = refl
+      pub told-tested : (included : Bool)
+          → cond included (includesTime r (timeAt r added d) && cond canonic (cond (differenceOf r (timeAt r added d) .added) added (not added)) true) (isNearest canonic r added d (timeAt r added d)) ≡ t
+          → readTold included canonic r added tag s ≡ passed t (accepted (timeAt r added d) n)
+      unfolding readTime readIncluded isIncluded
+      told-tested true f = rw (e, le-leb d (reachOf r added) h, f) (passed-time t)
+      told-tested false f = rw (e, f) (passed-time t)

@@ -1,6 +1,7 @@
 -- The laws of a time that a range includes, read by either of its differences.
 use Rattle.codec.proofs.Prelude.{_≡_, refl, List, Bool, true, false, true≢false, false≢true, ℕ, _+_, _-_, _≤_, arith, leb, leb-true, ltb-true, le-leb}
-use Rattle.codec.specs.Reads.{Reads, Relaxes, Bounded, Tested, Mapped}
+use Rattle.codec.specs.Reads.{Reads, Relaxes, Bounded}
+use Rattle.codec.proofs.Relations.{Tested, Mapped}
 use Rattle.codec.proofs.Tests.{and-left, and-right}
 use Rattle.codec.proofs.Readers.{reads-as, mapped-reads, checked-reads}
 use Rattle.codec.proofs.Relaxes.{mapped-relaxes, checked-relaxes}
@@ -11,7 +12,8 @@ use Rattle.grouping.specs.declared.RangeEnd.{RangeEnd}
 use Rattle.grouping.specs.declared.RangeEnd.the-variants.{Closed, Open}
 use Rattle.grouping.specs.declared.TimeRange.{TimeRange}
 use Rattle.grouping.specs.Range.{TypedRange, top, endValue, endAfter, bounds, includesTime}
-use Rattle.time_relative.specs.Difference.{differenceOf, timeAt, reachOf, isIncluded, readIncluded, IncludedAs}
+use Rattle.time_relative.specs.Difference.{differenceOf, timeAt, reachOf, isIncluded, readIncluded}
+use Rattle.time_relative.proofs.Relations.{IncludedAs}
 use Rattle.time_relative.proofs.Time.{difference-says, difference-small, same-flag, flag-same}
 
 -- a time that is included lies between start and end

@@ -1,3 +1,4 @@
 pub mod Exits
 pub mod Time
 pub mod Included
+pub mod Relations

@@ -1,6 +1,7 @@
 -- The laws of a time against a range.
 use Rattle.codec.proofs.Prelude.{_≡_, refl, sym, List, Bool, true, false, cond, not, ℕ, _-_, _≤_, arith, leb, eqb, leb-true, eqb-true, eq-eqb}
-use Rattle.codec.specs.Reads.{Reads, Relaxes, Bounded, Tested, Mapped}
+use Rattle.codec.specs.Reads.{Reads, Relaxes, Bounded}
+use Rattle.codec.proofs.Relations.{Tested, Mapped}
 use Rattle.codec.proofs.Tests.{and-left, and-right}
 use Rattle.codec.proofs.Readers.{reads-as, mapped-reads, checked-reads}
 use Rattle.codec.proofs.Relaxes.{mapped-relaxes, checked-relaxes}
@@ -9,7 +10,8 @@ use Rattle.compact_u64.specs.Laws.{NumberAs}
 use Rattle.compact_u64.proofs.Number.{number-reads, number-relaxes, number-bounded}
 use Rattle.grouping.specs.declared.TimeRange.{TimeRange}
 use Rattle.grouping.specs.Range.{TypedRange, endValue, bounds}
-use Rattle.time_relative.specs.Difference.{differenceOf, timeAt, isNearest, readTime, TimeAs}
+use Rattle.time_relative.specs.Difference.{differenceOf, timeAt, isNearest, readTime}
+use Rattle.time_relative.proofs.Relations.{TimeAs}
 
 -- ---- a time in the range
 pub record Within (r : TimeRange) (x : ℕ) : Type 0 where

@@ -1,11 +1,9 @@
 -- docs/FORMAT.md, "Times": a time against a range is the smaller of the differences from the range's start and to its end, an open end counting as top; a tie adds.
-use mathlib.Core.Path.{_≡_}
-use mathlib.Core.List.{List}
 use mathlib.Core.Bool.{Bool, true, false, cond, _&&_, not}
-use Prim.Native.Nat.{ℕ, _+_, _-_, _≤_}
+use Prim.Native.Nat.{ℕ, _+_, _-_}
 use lib.Dec.{leb, eqb}
 use Rattle.codec.specs.Reader.{Reader, checked, mapped}
-use Rattle.compact_u64.specs.Number.{minTag, numberBytes, readNumber}
+use Rattle.compact_u64.specs.Number.{readNumber}
 use Rattle.grouping.specs.declared.RangeEnd.{RangeEnd}
 use Rattle.grouping.specs.declared.RangeEnd.the-variants.{Closed, Open}
 use Rattle.grouping.specs.declared.TimeRange.{TimeRange}
@@ -58,16 +56,3 @@ readIncluded canonic r added tag =
     readNumber canonic 2 tag))
 
 -- ---- the laws: the bytes e after the flag and the tag are what writing the time x gives
-pub record TimeAs (r : TimeRange) (added : Bool) (tag x : ℕ) (e : List ℕ) : Type 0 where
-  pub inside : bounds r x ≡ true
-  pub near : differenceOf r x .added ≡ added
-  pub tagged : minTag 2 (differenceOf r x .difference) ≡ tag
-  pub bytes : e ≡ numberBytes 2 (differenceOf r x .difference)
-
--- the same of a time that the range includes
-pub record IncludedAs (r : TimeRange) (added : Bool) (tag x : ℕ) (e : List ℕ) : Type 0 where
-  pub small : x ≤ top
-  pub included : includesTime r x ≡ true
-  pub near : differenceOf r x .added ≡ added
-  pub tagged : minTag 2 (differenceOf r x .difference) ≡ tag
-  pub bytes : e ≡ numberBytes 2 (differenceOf r x .difference)

@@ -102,32 +102,6 @@ fn is_nearest(canonic: bool, range: TimeRange, added: bool, told: u64, time: u64
     !added
 }
 
-// Reads the difference after its tag, which starts at `start`, and answers the time.
-pub fn relative_decode(
-    message: &[u8],
-    start: usize,
-    canonic: bool,
-    range: TimeRange,
-    added: bool,
-    tag: u8,
-) -> DecodedU64
-    ensures { λ r. ⌜ numberAnswer r ≡ readTime canonic range added tag (drop start (now (message .entry))) ⌝ }
-{
-    let number = compact_u64::relative_decode(message, start, TagWidth::Two, tag, canonic);
-    let DecodedU64::Value(told, n) = number else {
-        return number;
-    };
-    if reach(range, added) < told {
-        return DecodedU64::TheirFault;
-    }
-    let time = time_at(range, added, told);
-    let nearest = is_nearest(canonic, range, added, told, time);
-    if !nearest {
-        return DecodedU64::TheirFault;
-    }
-    DecodedU64::Value(time, n)
-}
-
 // Whether the range includes the time that a difference says; strictly, also whether it is the smaller and rightly added.
 fn is_included(canonic: bool, range: TimeRange, added: bool, time: u64) -> bool
     ensures { λ r. ⌜ r ≡ (includesTime range time && cond canonic (cond (differenceOf range time .added) added (not added)) true) ⌝ }
@@ -146,6 +120,64 @@ fn is_included(canonic: bool, range: TimeRange, added: bool, time: u64) -> bool
     !added
 }
 
+// Whether a difference and its time pass the test: `is_included` where `included` says so, else `is_nearest`.
+fn is_taken(
+    canonic: bool,
+    range: TimeRange,
+    added: bool,
+    told: u64,
+    time: u64,
+    included: bool,
+) -> bool
+    ensures { λ r. ⌜ r ≡ cond included (includesTime range time && cond canonic (cond (differenceOf range time .added) added (not added)) true) (isNearest canonic range added told time) ⌝ }
+{
+    if included {
+        return is_included(canonic, range, added, time);
+    }
+    is_nearest(canonic, range, added, told, time)
+}
+
+// Reads the difference after its tag, which starts at `start`, and answers the time, where it passes the test.
+fn decode_told(
+    message: &[u8],
+    start: usize,
+    canonic: bool,
+    range: TimeRange,
+    added: bool,
+    tag: u8,
+    included: bool,
+) -> DecodedU64
+    ensures { λ r. ⌜ numberAnswer r ≡ cond included (readIncluded canonic range added tag (drop start (now (message .entry)))) (readTime canonic range added tag (drop start (now (message .entry)))) ⌝ }
+{
+    let number = compact_u64::relative_decode(message, start, TagWidth::Two, tag, canonic);
+    let DecodedU64::Value(told, n) = number else {
+        return number;
+    };
+    if reach(range, added) < told {
+        return DecodedU64::TheirFault;
+    }
+    let time = time_at(range, added, told);
+    let taken = is_taken(canonic, range, added, told, time, included);
+    if !taken {
+        return DecodedU64::TheirFault;
+    }
+    DecodedU64::Value(time, n)
+}
+
+// Reads the smaller difference of a time that lies between the range's start and end.
+pub fn relative_decode(
+    message: &[u8],
+    start: usize,
+    canonic: bool,
+    range: TimeRange,
+    added: bool,
+    tag: u8,
+) -> DecodedU64
+    ensures { λ r. ⌜ numberAnswer r ≡ readTime canonic range added tag (drop start (now (message .entry))) ⌝ }
+{
+    decode_told(message, start, canonic, range, added, tag, false)
+}
+
 // Reads the difference of a time that the range includes.
 pub fn decode_included(
     message: &[u8],
@@ -157,17 +189,5 @@ pub fn decode_included(
 ) -> DecodedU64
     ensures { λ r. ⌜ numberAnswer r ≡ readIncluded canonic range added tag (drop start (now (message .entry))) ⌝ }
 {
-    let number = compact_u64::relative_decode(message, start, TagWidth::Two, tag, canonic);
-    let DecodedU64::Value(told, n) = number else {
-        return number;
-    };
-    if reach(range, added) < told {
-        return DecodedU64::TheirFault;
-    }
-    let time = time_at(range, added, told);
-    let included = is_included(canonic, range, added, time);
-    if !included {
-        return DecodedU64::TheirFault;
-    }
-    DecodedU64::Value(time, n)
+    decode_told(message, start, canonic, range, added, tag, true)
 }

@@ -1,35 +1,22 @@
-use Rattle.codec.proofs.Prelude.{sym, ap, _∙_, now, drop, needs}
-use Rattle.compact_u64.specs.Answers.{numberAnswer}
-use Rattle.compact_u64.proofs.Exits.{refused-number}
-use Rattle.grouping.specs.declared.RangeEnd.the-variants.{Open}
-use Rattle.area_times.proofs.Exits.{end-fault, end-open, end-refused, end-read}
+use Rattle.codec.proofs.Prelude.{refl, now, drop, needs}
+use Rattle.codec.proofs.Answers.{gives-refused, gives-accepted}
+use Rattle.area_times.proofs.Exits.{end-fault, end-open, end-closed}
 use Rattle.area_times.proofs.decode_end.Statement.{statement}
 use Rattle.area_times.proofs.decode_end.Tie as tie
 
 returns : tie.Need-returns
-returns c = sym (end-fault _ _ _ _ (c .before .if1 .taken) (c .if2 .taken))
+returns c = gives-refused 2 refl (end-fault _ _ _ _ (c .before .if1 .taken) (c .if2 .taken))
 
 returns-2 : tie.Need-returns-2
-returns-2 c = sym (end-open _ _ _ _ (c .before .if1 .taken) (c .if2 .left))
+returns-2 c = gives-accepted (end-open _ _ _ _ (c .before .if1 .taken) (c .if2 .left))
 
 returns-3 : tie.Need-returns-3
 returns-3 c =
     let else1 : tie.Else1 = search in
     let start : tie.Start = search in
     let a = start .args in
-    let x = refused-number Open (c .before .before .relative-decode .result) (c .before .match .keys2) in
-    rw (c .refusal .ensures) (x .whole ∙ sym
-    (end-refused (a .canonic) (a .reference) (a .header) (drop (a .start) (now (a .message))) (else1 .if1 .left) (x .why) (sym (c .before .before .relative-decode .ensures) ∙ x .number)))
-
-returns-4 : tie.Need-returns-4
-returns-4 c =
-    let after-relative-decode : tie.After-relative-decode = search in
-    let else1 : tie.Else1 = search in
-    let start : tie.Start = search in
-    let a = start .args in
-    sym (end-read (a .canonic) (a .reference) (a .header) (drop (a .start) (now (a .message))) (else1 .if1 .left) _ _
-    (sym (after-relative-decode .relative-decode .ensures) ∙ ap numberAnswer (c .before .read .given .1)))
+    rw (end-closed (a .canonic) (a .reference) (a .header) (drop (a .start) (now (a .message))) (else1 .if1 .left), ← c .before .relative-decode .ensures)
+    (c .closed-end .ensures)
 
 pub decode-end-spec : {M : Type 1} → statement M
-decode-end-spec =
-    tie.close (tie.spec returns returns-2 (λ c κs. search needs) (λ c. search needs) (λ c κs. search needs) returns-3 returns-4)
+decode-end-spec = tie.close (tie.spec returns returns-2 (λ c κs. search needs) (λ c κs. search needs) returns-3)

@@ -6,8 +6,8 @@ use Rattle.area_text.specs.declared.EndField.{EndField}
 use Rattle.area_text.specs.AreaText.{readSubspaceText, readEndText}
 use Rattle.path_text.specs.declared.PathField.{PathField}
 use Rattle.path_text.specs.declared.Found.the-variants as found
-use Rattle.path_text.specs.PathText.{readPathText}
-use Rattle.decimal.specs.Decimal.{readDecimal}
+use Rattle.path_text.specs.PathText.{readPathText, Finds}
+use Rattle.decimal.specs.Decimal.{readDecimal, decimalAnswer}
 use Rattle.decimal.specs.declared.Decimal.{Decimal}
 use Rattle.decimal.specs.declared.Decimal.the-variants as decimal
 use Rattle.case_text.specs.Fields.{field, Says}
@@ -20,20 +20,20 @@ module _ (i : ℕ) (line : List ℕ) {b : List ℕ} {s : SubspaceField} (first :
   no-subspace : (a : Area) → not (s .ok) ≡ true → Says (areaField i line) false a
   no-subspace a e = record { said = λ k. rw (← at, ← first, not-true (s .ok) e) }
 
-  module _ (e : not (s .ok) ≡ false) {b2 : List ℕ} {p : PathField} (second : p ≡ readPathText b2) (at2 : b2 ≡ field (i + 1) line) where
+  module _ (e : not (s .ok) ≡ false) {b2 : List ℕ} {p : PathField} (second : Finds p (readPathText b2)) (at2 : b2 ≡ field (i + 1) line) where
     no-path : (a : Area) → p .found ≡ found.Refused → Says (areaField i line) false a
-    no-path a f = record { said = λ k. rw (← at, ← first, not-false (s .ok) e, ← at2, ← second, f) }
+    no-path a f = record { said = λ k. rw (← at, ← first, not-false (s .ok) e, ← at2, ← (second .answer), f) }
 
-    module _ (f : p .found ≡ found.Read) {b3 : List ℕ} {t : Decimal} (third : t ≡ readDecimal b3) (at3 : b3 ≡ field (i + 2) line) where
+    module _ (f : p .found ≡ found.Read) {b3 : List ℕ} {t : Decimal} (third : decimalAnswer t ≡ readDecimal b3) (at3 : b3 ≡ field (i + 2) line) where
       no-start : (a : Area) → t ≡ decimal.Refused → Says (areaField i line) false a
-      no-start a g = record { said = λ k. rw (← at, ← first, not-false (s .ok) e, ← at2, ← second, f, ← at3, ← third, g) }
+      no-start a g = record { said = λ k. rw (← at, ← first, not-false (s .ok) e, ← at2, ← (second .answer), f, ← at3, ← third, g) }
 
       module _ {v : ℕ} (g : t ≡ decimal.Value v) {b4 : List ℕ} {n : EndField} (fourth : n ≡ readEndText b4) (at4 : b4 ≡ field (i + 3) line) where
         no-end : (a : Area) → not (n .ok) ≡ true → Says (areaField i line) false a
-        no-end a h = record { said = λ k. rw (← at, ← first, not-false (s .ok) e, ← at2, ← second, f, ← at3, ← third, g, ← at4, ← fourth, not-true (n .ok) h) }
+        no-end a h = record { said = λ k. rw (← at, ← first, not-false (s .ok) e, ← at2, ← (second .answer), f, ← at3, ← third, g, ← at4, ← fourth, not-true (n .ok) h) }
 
         all-four : not (n .ok) ≡ false → Says (areaField i line) true (record { subspace = s .subspace; path = pathIn (p .path .flat); times = record { start = v; end = n .end } })
-        all-four h = record { said = λ k. rw (← at, ← first, not-false (s .ok) e, ← at2, ← second, f, ← at3, ← third, g, ← at4, ← fourth, not-false (n .ok) h) }
+        all-four h = record { said = λ k. rw (← at, ← first, not-false (s .ok) e, ← at2, ← (second .answer), f, ← at3, ← third, g, ← at4, ← fourth, not-false (n .ok) h) }
 
 pub read-area-spec : {M : Type 1} → statement M
 unfolding noArea
@@ -47,7 +47,7 @@ read-area-spec =
     rw (c .no-area2 .ensures) (no-path _ _ (f .read-subspace .ensures) (search) (search) (g .read-path .ensures) (search) _ (search), refl))
     (λ c. search needs) (λ c κs. search needs) (λ c κs. search needs) (λ c. search needs) (λ c. search needs) (λ c κs. search needs)
     (λ c. let h : tie.After-read-decimal = search in let g : tie.After-read-path = search in let f : tie.After-read-subspace = search in
-    rw (c .no-area3 .ensures) (no-start _ _ (f .read-subspace .ensures) (search) (search) (g .read-path .ensures) (search) (search) (h .read-decimal .ensures) (search) _ (search), refl))
+    rw (c .no-area3 .ensures) (no-start _ _ (f .read-subspace .ensures) (search) (search) (g .read-path .ensures) (search) (search) {t = h .read-decimal .result} (h .read-decimal .ensures) (search) _ (search), refl))
     (λ c. search needs) (λ c κs. search needs) (λ c κs. search needs) (λ c κs. search needs)
     (λ c. let l : tie.After-read-end = search in let w : tie.After-third = search in let h : tie.After-read-decimal = search in let g : tie.After-read-path = search in
     let f : tie.After-read-subspace = search in

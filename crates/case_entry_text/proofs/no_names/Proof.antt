@@ -1,4 +1,4 @@
-use Rattle.case_entry_text.specs.Fields.{noNames}
+use Rattle.case_entry_text.specs.inside.Fields.{noNames}
 use Rattle.codec.proofs.Prelude.{needs}
 use Rattle.case_entry_text.proofs.no_names.Statement.{statement}
 use Rattle.case_entry_text.proofs.no_names.Tie as tie

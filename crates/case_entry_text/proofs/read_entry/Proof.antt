@@ -1,10 +1,10 @@
 use Rattle.codec.proofs.Prelude.{_≡_, refl, List, Bool, not, true, false, ℕ, _+_, not-true, not-false, needs}
 use Rattle.case_text.specs.Fields.{decimalField, idField, field, Says}
-use Rattle.decimal.specs.Decimal.{readDecimal}
+use Rattle.decimal.specs.Decimal.{readDecimal, decimalAnswer}
 use Rattle.decimal.specs.declared.Decimal.{Decimal}
 use Rattle.decimal.specs.declared.Decimal.the-variants as decimal
 use Rattle.text.specs.declared.IdField.{IdField}
-use Rattle.text.specs.Ids.{readId}
+use Rattle.text.specs.Ids.{readIdText}
 use Rattle.entry.specs.Record.{Entry}
 use Rattle.case_text.proofs.Steps.{says-then, says-none, says-as}
 use Rattle.case_entry_text.specs.Fields.{Names, namesField, entryField, noEntry}
@@ -22,15 +22,15 @@ module _ (i : ℕ) (line : List ℕ) {ok1 : Bool} {x1 : Names} (said1 : Says (na
   no-names : (a : Entry) → not ok1 ≡ true → Says (entryField i line) false a
   no-names a e = says-none (names-of i line) a (says-as said1 (not-true ok1 e))
 
-  module _ (so1 : not ok1 ≡ false) {s2 : List ℕ} {x2 : Decimal} (read2 : x2 ≡ readDecimal s2) (part2 : s2 ≡ field (i + 3) line) where
+  module _ (so1 : not ok1 ≡ false) {s2 : List ℕ} {x2 : Decimal} (read2 : decimalAnswer x2 ≡ readDecimal s2) (part2 : s2 ≡ field (i + 3) line) where
     no-time : (a : Entry) → x2 ≡ decimal.Refused → Says (entryField i line) false a
     no-time a e = says-then (names-of i line) (says-as said1 (not-false ok1 so1)) (record { said = λ k. rw (← part2, ← read2, e) })
 
-    module _ {v2 : ℕ} (ok2 : x2 ≡ decimal.Value v2) {s3 : List ℕ} {x3 : Decimal} (read3 : x3 ≡ readDecimal s3) (part3 : s3 ≡ field (i + 4) line) where
+    module _ {v2 : ℕ} (ok2 : x2 ≡ decimal.Value v2) {s3 : List ℕ} {x3 : Decimal} (read3 : decimalAnswer x3 ≡ readDecimal s3) (part3 : s3 ≡ field (i + 4) line) where
       no-size : (a : Entry) → x3 ≡ decimal.Refused → Says (entryField i line) false a
       no-size a e = says-then (names-of i line) (says-as said1 (not-false ok1 so1)) (record { said = λ k. rw (← part2, ← read2, ok2, ← part3, ← read3, e) })
 
-      module _ {v3 : ℕ} (ok3 : x3 ≡ decimal.Value v3) {s4 : List ℕ} {x4 : IdField} (read4 : x4 ≡ readId s4) (part4 : s4 ≡ field (i + 5) line) where
+      module _ {v3 : ℕ} (ok3 : x3 ≡ decimal.Value v3) {s4 : List ℕ} {x4 : IdField} (read4 : x4 ≡ readIdText s4) (part4 : s4 ≡ field (i + 5) line) where
         no-digest : (a : Entry) → not (x4 .ok) ≡ true → Says (entryField i line) false a
         no-digest a e =
             says-then (names-of i line) (says-as said1 (not-false ok1 so1))
@@ -51,11 +51,11 @@ read-entry-spec =
     (λ c. let a : tie.After-read-names = search in rw (c .no-entry .ensures) (no-names _ _ (a .read-names .ensures) _ (search), refl))
     (λ c. search needs) (λ c κs. search needs) (λ c κs. search needs) (λ c. search needs) (λ c. search needs) (λ c κs. search needs)
     (λ c. let b : tie.After-read-decimal = search in let a : tie.After-read-names = search in
-    rw (c .no-entry2 .ensures) (no-time _ _ (a .read-names .ensures) (search) (b .read-decimal .ensures) (search) _ (search), refl))
+    rw (c .no-entry2 .ensures) (no-time _ _ (a .read-names .ensures) (search) {x2 = b .read-decimal .result} (b .read-decimal .ensures) (search) _ (search), refl))
     (λ c. search needs) (λ c κs. search needs) (λ c κs. search needs) (λ c. search needs) (λ c. search needs) (λ c κs. search needs)
     (λ c. let d : tie.After-read-decimal2 = search in let b' : tie.After-fourth = search in let b : tie.After-read-decimal = search in let a : tie.After-read-names = search in
     rw (c .no-entry3 .ensures) (
-      no-size _ _ (a .read-names .ensures) (search) (b .read-decimal .ensures) (search) (b' .fourth .given .1) (d .read-decimal2 .ensures) (search) _
+      no-size _ _ (a .read-names .ensures) (search) (b .read-decimal .ensures) (search) (b' .fourth .given .1) {x3 = d .read-decimal2 .result} (d .read-decimal2 .ensures) (search) _
           (search),
       refl,
     ))

@@ -1,7 +1,7 @@
-use Rattle.codec.proofs.Prelude.{_≡_, refl, now, needs}
+use Rattle.codec.proofs.Prelude.{refl, now, needs}
 use Rattle.case_text.specs.Fields.{pathField}
 use Rattle.text.specs.Parts.{partAt}
-use Rattle.path_text.specs.PathText.{readPathText}
+use Rattle.path_text.specs.PathText.{readPathText, Finds}
 use Rattle.case_text.proofs.Steps.{path-says, path-says-no}
 use Rattle.case_text.proofs.Ways.{says-not, says-so}
 use Rattle.case_paths.specs.Lines.{encodingLine}
@@ -9,7 +9,7 @@ use Rattle.case_paths.proofs.relative.Statement.{statement}
 use Rattle.case_paths.proofs.relative.Tie as tie
 
 -- the field was read
-read : (r : tie.After-read-path) → let s = r .before .before .before .before in r .read-path .result ≡ readPathText (partAt 9 2 (now (s .args .line)))
+read : (r : tie.After-read-path) → let s = r .before .before .before .before in Finds (r .read-path .result) (readPathText (partAt 9 2 (now (s .args .line))))
 read r = rw (r .before .part .ensures) at (r .read-path .ensures)
 
 pub relative-spec : {M : Type 1} → statement M

@@ -1,4 +1,4 @@
-use Rattle.case_range_text.specs.Fields.{noPathsField}
+use Rattle.case_range_text.specs.inside.Fields.{noPathsField}
 use Rattle.codec.proofs.Prelude.{needs}
 use Rattle.case_range_text.proofs.no_paths.Statement.{statement}
 use Rattle.case_range_text.proofs.no_paths.Tie as tie

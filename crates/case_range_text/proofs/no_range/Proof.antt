@@ -1,4 +1,5 @@
-use Rattle.case_range_text.specs.Fields.{noSubspacesField, noTimesField, noRangeField}
+use Rattle.case_range_text.specs.Fields.{noRangeField}
+use Rattle.case_range_text.specs.inside.Fields.{noSubspacesField, noTimesField}
 use Rattle.codec.proofs.Prelude.{needs}
 use Rattle.case_range_text.proofs.no_range.Statement.{statement}
 use Rattle.case_range_text.proofs.no_range.Tie as tie

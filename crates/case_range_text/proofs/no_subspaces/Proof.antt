@@ -1,5 +1,5 @@
 use Rattle.codec.proofs.Prelude.{refl}
-use Rattle.case_range_text.specs.Fields.{noSubspacesField}
+use Rattle.case_range_text.specs.inside.Fields.{noSubspacesField}
 use Rattle.case_range_text.proofs.no_subspaces.Statement.{statement}
 use Rattle.case_range_text.proofs.no_subspaces.Tie as tie
 

@@ -1,5 +1,5 @@
 use Rattle.codec.proofs.Prelude.{refl}
-use Rattle.case_range_text.specs.Fields.{noTimesField}
+use Rattle.case_range_text.specs.inside.Fields.{noTimesField}
 use Rattle.case_range_text.proofs.no_times.Statement.{statement}
 use Rattle.case_range_text.proofs.no_times.Tie as tie
 

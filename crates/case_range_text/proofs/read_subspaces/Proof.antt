@@ -1,16 +1,17 @@
 use Rattle.codec.proofs.Prelude.{_≡_, List, not, true, false, ℕ, _+_, not-true, not-false, needs}
 use Rattle.text.specs.declared.IdField.{IdField}
-use Rattle.text.specs.Ids.{readId}
+use Rattle.text.specs.Ids.{readIdText}
 use Rattle.area_text.specs.declared.SubspaceField.{SubspaceField}
 use Rattle.area_text.specs.AreaText.{readSubspaceText}
 use Rattle.range_3d.specs.declared.SubspaceRange.{SubspaceRange}
 use Rattle.case_text.specs.Fields.{field, Says}
-use Rattle.case_range_text.specs.Fields.{subspacesField, noSubspacesField}
+use Rattle.case_range_text.specs.Fields.{subspacesField}
+use Rattle.case_range_text.specs.inside.Fields.{noSubspacesField}
 use Rattle.case_range_text.proofs.read_subspaces.Statement.{statement}
 use Rattle.case_range_text.proofs.read_subspaces.Tie as tie
 
 -- the two fields, one after the other
-module _ (i : ℕ) (line : List ℕ) {s1 : List ℕ} {x1 : IdField} (read1 : x1 ≡ readId s1) (part1 : s1 ≡ field i line) where
+module _ (i : ℕ) (line : List ℕ) {s1 : List ℕ} {x1 : IdField} (read1 : x1 ≡ readIdText s1) (part1 : s1 ≡ field i line) where
   no-start : (a : SubspaceRange) → not (x1 .ok) ≡ true → Says (subspacesField i line) false a
   no-start a e = record { said = λ k. rw (← part1, ← read1, not-true (x1 .ok) e) }
 

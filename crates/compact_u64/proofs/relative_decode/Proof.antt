@@ -1,4 +1,4 @@
-use Rattle.codec.proofs.Prelude.{_-_, ℕ, _^_, _≡_, _∙_, sym, ap, now, arith, drop, length-drop, needs}
+use Rattle.codec.proofs.Prelude.{_-_, _^_, _≡_, _∙_, sym, ap, now, arith, drop, length-drop, needs}
 use Rattle.codec.specs.Answers.{accepted}
 use Rattle.codec.proofs.Lending.{to-end}
 use Rattle.compact_u64.specs.BigEndian.{readBigEndian}
@@ -53,7 +53,7 @@ returns-4 c =
     let start : tie.Start = search in
     let a = start .args in
     let d = c .before .decode-big-endian in
-    let x = refused-number {A = ℕ} 0 (d .result) (c .match .keys2) in
+    let x = refused-number (d .result) (c .match .keys2) in
     x .number
     ∙ sym (read-refused _ _ _ (drop (a .start) (now (a .message))) (omega arith) (omega (arith, four-tags (a .width))) (n .two-to .result) (follows n)
     (n .two-to .ensures .2) (x .why) (sym (rw (to-end (a .start) (now (a .message))) at (d .ensures)) ∙ x .number))

@@ -10,7 +10,7 @@ use Rattle.path.proofs.Growing.{in-empty}
 use Rattle.path_relative.specs.Records.{readWithinBy}
 use Rattle.grouping.specs.Record.{Area, subspaceOf, areaOf, areaWith}
 use Rattle.entry.specs.Record.{entryFrom}
-use Rattle.entry_area_end.specs.End.{readEnd}
+use Rattle.entry_area_end.specs.End.{readAfterPath}
 use Rattle.entry_area.specs.Entry.{readId, readRest, readParts}
 use Rattle.entry_area.proofs.DecodeExits.{reads-refused, parts-id, id-inside, parts-rest, within-refused, within-inside, within-end, within-whole, within-read}
 use Rattle.entry_area_decode.proofs.decode_parts.Statement.{statement}
@@ -79,7 +79,7 @@ path-in c =
 -- the fields after it
 end-told : (c : tie.After-relative-decode) → let u = last-told2 c in let t = told2-told u in let a = told-start t .args in
     answerOf (c .relative-decode .result .answer) (c .relative-decode .result .end)
-    ≡ readEnd (a .canonic) (a .reference .times) (a .header) (drop (u .before .path-answer .given .0 .0) (drop (t .before .answer .given .0 .0) (now (a .message))))
+    ≡ readAfterPath (a .canonic) (a .reference .times) (a .header) (drop (u .before .path-answer .given .0 .0) (drop (t .before .answer .given .0 .0) (now (a .message))))
 end-told c =
     let u = last-told2 c in
     let t = told2-told u in
@@ -87,7 +87,7 @@ end-told c =
     rw drop-drop (rw (to-end (t .before .answer .given .0 .0 + u .before .path-answer .given .0 .0) (now (a .message))) at (c .relative-decode .ensures .answer))
 
 end-is : (c : tie.After-known-told3) → let l = told3-last c in let u = last-told2 l in let t = told2-told u in let a = told-start t .args in
-    readEnd (a .canonic) (a .reference .times) (a .header) (drop (u .before .path-answer .given .0 .0) (drop (t .before .answer .given .0 .0) (now (a .message))))
+    readAfterPath (a .canonic) (a .reference .times) (a .header) (drop (u .before .path-answer .given .0 .0) (drop (t .before .answer .given .0 .0) (now (a .message))))
     ≡ accepted (l .relative-decode .result .end) (c .before .last-answer .given .0 .0)
 end-is c = let l = told3-last c in sym (end-told l) ∙ ap (λ (d : Decoded). answerOf d (l .relative-decode .result .end)) (c .before .last-answer .given .1)
 

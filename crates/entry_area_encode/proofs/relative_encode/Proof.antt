@@ -1,50 +1,57 @@
-use Rattle.codec.proofs.Prelude.{_≡_, refl, sym, _∙_, true, now, not-true, not-false, needs}
+use Rattle.codec.proofs.Prelude.{sym, ap, _∙_, now, needs}
 use Rattle.codec.specs.Format.{Format}
-use Rattle.codec.proofs.Lending.{put-barred, same-writing, writes-into}
+use Rattle.codec.proofs.Lending.{put-refused-value, writes-into}
+use Rattle.path.specs.Record.{Path}
 use Rattle.path.specs.Flat.{pathIn}
-use Rattle.grouping.specs.Record.{Area, areaWith, sizedArea, wellFormedSubspace}
-use Rattle.entry.specs.Record.{Entry, entryWith, sizedEntry}
-use Rattle.entry_area.specs.Records.{againstNamespaceAreaBy, againstNamespaceArea}
-use Rattle.entry_area.proofs.Writing.{subspace-malformed, paths-malformed, paths-whole}
+use Rattle.path.specs.Answers.{comparedAnswer}
+use Rattle.grouping.specs.Record.{areaWith}
+use Rattle.entry.specs.Record.{Entry, entryWith}
+use Rattle.entry_area.specs.Records.{againstNamespaceArea}
+use Rattle.entry_area.proofs.Writing.{unformed, outside, contained, shared-allowed, entry-bytes}
 use Rattle.entry_area_encode.proofs.relative_encode.Statement.{statement}
 use Rattle.entry_area_encode.proofs.relative_encode.Tie as tie
 
-abbrev entry : tie.Start → Entry
-entry c = entryWith (c .args .fields) (pathIn (now (c .args .path)))
+abbrev path : tie.Start → Path
+path c = pathIn (now (c .args .path))
 
-abbrev area : tie.Start → Area
-area c = areaWith (c .args .reference) (pathIn (now (c .args .reference-path)))
+abbrev entry : tie.Start → Entry
+entry c = entryWith (c .args .fields) (path c)
 
 abbrev format : tie.Start → Format Entry
-format c = againstNamespaceArea (c .args .namespace) (area c)
+format c = againstNamespaceArea (c .args .namespace) (areaWith (c .args .reference) (pathIn (now (c .args .reference-path))))
 
-well : (c : tie.Else1) → wellFormedSubspace (c .before .before .before .before .before .args .reference .subspace) ≡ true
-well c = sym (c .before .well-formed .ensures) ∙ not-false _ (c .if1 .left)
+put-entry-requires : tie.Need-put-entry-requires
+put-entry-requires c κs =
+    let told : tie.After-enum-told = search in
+    let after : tie.After-lies-inside = search in
+    let after-count : tie.After-count = search in
+    let s : tie.Start = search in
+    shared-allowed (s .args .namespace) (s .args .reference) (s .args .fields) (now (s .args .reference-path)) (path s) (sym (ap comparedAnswer (told .enum-told .given .1)) ∙ after .lies-inside .ensures) _ (after-count .count .ensures)
 
 returns : tie.Need-returns
 returns c =
+    let told : tie.After-enum-told = search in
+    let after : tie.After-lies-inside = search in
+    let after-count : tie.After-count = search in
     let s : tie.Start = search in
-    writes-into (put-barred (format s .check (entry s)) _ (now (s .args .buffer)) 5
-    (subspace-malformed (s .args .namespace) (area s) (entry s) (sym (c .before .well-formed .ensures) ∙ not-true _ (c .if1 .taken))))
+    let yes = sym (ap comparedAnswer (told .enum-told .given .1)) ∙ after .lies-inside .ensures in
+    writes-into (rw (contained (s .args .namespace) (s .args .reference) (s .args .fields) (now (s .args .reference-path)) (path s) yes, entry-bytes (s .args .namespace) (s .args .reference) (s .args .fields) (now (s .args .reference-path)) (path s) yes _ (after-count .count .ensures)) (c .before .before .put-entry .ensures))
 
 returns-2 : tie.Need-returns-2
 returns-2 c =
-    let else1 : tie.Else1 = search in
     let s : tie.Start = search in
-    writes-into (put-barred (format s .check (entry s)) _ (now (s .args .buffer)) 5
-    (paths-malformed (s .args .namespace) (area s) (entry s) (well else1) (sym (c .before .both-formed .ensures) ∙ not-true _ (c .if2 .taken))))
+    writes-into (put-refused-value (format s .check (entry s)) _ (now (s .args .buffer)) 3
+    (outside (s .args .namespace) (s .args .reference) (s .args .fields) (now (s .args .reference-path)) (path s) (sym (ap comparedAnswer (c .enum-told2 .given .1)) ∙ c .before .before .lies-inside .ensures)))
 
 returns-3 : tie.Need-returns-3
 returns-3 c =
-    let else2 : tie.Else2 = search in
-    let else1 : tie.Else1 = search in
     let s : tie.Start = search in
-    let same = paths-whole (s .args .namespace) (area s) (entry s) (well else1) (sym (else2 .before .both-formed .ensures) ∙ not-false _ (else2 .if2 .left)) in
-    let w = same-writing (againstNamespaceAreaBy sizedArea sizedEntry (s .args .namespace) (area s)) (entry s) (format s) same refl (now (s .args .buffer)) in
-    let put = c .before .before .relative-encode .ensures in
-    writes-into (put .answer ∙ w .0, put .buffer ∙ w .1)
+    writes-into (put-refused-value (format s .check (entry s)) _ (now (s .args .buffer)) 5
+    (unformed (s .args .namespace) (s .args .reference) (s .args .fields) (now (s .args .reference-path)) (path s) (sym (ap comparedAnswer (c .enum-told3 .given .1)) ∙ c .before .before .lies-inside .ensures)))
 
 pub relative-encode-spec : {M : Type 1} → statement M
 relative-encode-spec =
     tie.close
-    (tie.spec (λ c κs. search needs) returns (λ c κs. search needs) returns-2 (λ c κs. search needs) (λ c. search needs) returns-3)
+    (tie.spec
+    (λ c κs. search needs) (λ c. search needs) (λ c κs. search needs) put-entry-requires (λ c. search needs) (λ c. search needs)
+    (λ c. search needs) returns returns-2 returns-3)

@@ -55,9 +55,9 @@ returns c =
     let after-decode-included : tie.After-decode-included = search in
     let start : tie.Start = search in
     let a = start .args in
-    let x = refused-number noEnd (after-decode-included .decode-included .result) (c .before .before .match .keys2) in
-    rw (c .refuse .ensures .0, c .refuse .ensures .1, c .before .refusal .ensures)
-    (gives-refused (x .why) (x .whole) (end-time (a .canonic) (a .times) (a .header) (now (a .message)) (x .why) (sym (after-decode-included .decode-included .ensures) ∙ x .number)))
+    let x = refused-number (after-decode-included .decode-included .result) (c .before .before .match .keys2) in
+    rw (c .refuse .ensures .0, c .refuse .ensures .1)
+    (gives-refused (x .why) (x .whole noEnd (c .before .unvalued .result) (c .before .unvalued .ensures)) (end-time (a .canonic) (a .times) (a .header) (now (a .message)) (x .why) (sym (after-decode-included .decode-included .ensures) ∙ x .number)))
 
 returns-2 : tie.Need-returns-2
 returns-2 c =
@@ -65,9 +65,9 @@ returns-2 c =
     let after-known-told : tie.After-known-told = search in
     let start : tie.Start = search in
     let a = start .args in
-    let x = refused-number noEnd (after-relative-decode .relative-decode .result) (c .before .before .match2 .keys2) in
-    rw (c .refuse2 .ensures .0, c .refuse2 .ensures .1, c .before .refusal2 .ensures)
-    (gives-refused (x .why) (x .whole)
+    let x = refused-number (after-relative-decode .relative-decode .result) (c .before .before .match2 .keys2) in
+    rw (c .refuse2 .ensures .0, c .refuse2 .ensures .1)
+    (gives-refused (x .why) (x .whole noEnd (c .before .unvalued2 .result) (c .before .unvalued2 .ensures))
     (end-size (a .canonic) (a .times) (a .header) (now (a .message)) _ _ (time-is after-known-told) (x .why) (sym (after-relative-decode .relative-decode .ensures) ∙ x .number)))
 
 add-at : tie.Need-add-at

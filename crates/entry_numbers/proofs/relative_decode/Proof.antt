@@ -28,9 +28,9 @@ returns c =
     let after-relative-decode : tie.After-relative-decode = search in
     let start : tie.Start = search in
     let a = start .args in
-    let x = refused-number noNumbers (after-relative-decode .relative-decode .result) (c .before .before .match .keys2) in
-    rw (c .refuse .ensures .0, c .refuse .ensures .1, c .before .refusal .ensures)
-    (gives-refused (x .why) (x .whole) (numbers-first (a .reference) (a .header) (now (a .message)) (x .why) (sym (after-relative-decode .relative-decode .ensures) ∙ x .number)))
+    let x = refused-number (after-relative-decode .relative-decode .result) (c .before .before .match .keys2) in
+    rw (c .refuse .ensures .0, c .refuse .ensures .1)
+    (gives-refused (x .why) (x .whole noNumbers (c .before .unvalued .result) (c .before .unvalued .ensures)) (numbers-first (a .reference) (a .header) (now (a .message)) (x .why) (sym (after-relative-decode .relative-decode .ensures) ∙ x .number)))
 
 returns-2 : tie.Need-returns-2
 returns-2 c =
@@ -38,9 +38,9 @@ returns-2 c =
     let after-known-told : tie.After-known-told = search in
     let start : tie.Start = search in
     let a = start .args in
-    let x = refused-number noNumbers (after-relative-decode2 .relative-decode2 .result) (c .before .before .match2 .keys2) in
-    rw (c .refuse2 .ensures .0, c .refuse2 .ensures .1, c .before .refusal2 .ensures)
-    (gives-refused (x .why) (x .whole)
+    let x = refused-number (after-relative-decode2 .relative-decode2 .result) (c .before .before .match2 .keys2) in
+    rw (c .refuse2 .ensures .0, c .refuse2 .ensures .1)
+    (gives-refused (x .why) (x .whole noNumbers (c .before .unvalued2 .result) (c .before .unvalued2 .ensures))
     (numbers-second (a .reference) (a .header) (now (a .message)) _ _ (time-is after-known-told) (x .why) (sym (after-relative-decode2 .relative-decode2 .ensures) ∙ x .number)))
 
 add-t14 : tie.Need-add-t14

@@ -19,7 +19,7 @@ there c =
 returns : tie.Need-returns
 returns c =
     let d : tie.After-decode-big-endian = search in
-    let r = refused-number {A = ℕ} 0 (d .decode-big-endian .result) (c .match .keys2) in
+    let r = refused-number (d .decode-big-endian .result) (c .match .keys2) in
     let f = sym (r .number) ∙ there d in
     let z : _≡_ {A = ℕ} 0 1 = cc in
     absurd (omega arith)

@@ -26,7 +26,7 @@ read-line-spec =
     (λ c. search needs) (λ c κs. search needs) (λ c. search needs) (λ c. search needs) (λ c κs. search needs) (λ c. search needs)
     (λ c. let h : tie.After-hex = search in let a : tie.After-read-area = search in let s : tie.Start = search in
     counted 6 _ _ (omega arith) (says-so (λ i line k. areaField line k) 1 (now (s .args .line)) (said (s .args .canonic) (now (s .args .line))) (a .read-area .ensures) (search) (hex-not
-    (h .hex .ensures) _ (search) search)))
+    (h .hex .ensures) (λ message. readText areaText (readAgainstArea (s .args .canonic) (areaWith (a .read-area .result .head) (pathIn (a .read-area .result .path .flat))) message)) (search) search)))
     (λ c. let h : tie.After-hex = search in hex-inside (h .hex .ensures) (c .before .hex2 .given .1))
     (λ c. let h : tie.After-hex = search in sym (hex-long (h .hex .ensures) (c .before .before .hex2 .given .1)))
     (λ c κs. search needs) (λ c κs. search needs) (λ c κs. search needs) (λ c. search needs)

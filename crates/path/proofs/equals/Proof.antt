@@ -2,7 +2,8 @@ use Rattle.codec.proofs.Prelude.{_≡_, refl, sym, ap, _∙_, ℕ, _&&_, now, e
 use Rattle.path.specs.Record.{componentsOf, wellFormed}
 use Rattle.path.specs.Flat.{pathIn, lent}
 use Rattle.path.specs.Prefix.{shared, samePath}
-use Rattle.path.specs.Answers.{said, saidIf, countAnswer}
+use Rattle.codec.specs.Answers.{said}
+use Rattle.path.specs.Answers.{saidIf, countAnswer}
 use Rattle.path.proofs.Verdicts.{unsaid-known}
 use Rattle.path.proofs.Compare.{equal-told}
 use Rattle.path.proofs.equals.Statement.{statement}

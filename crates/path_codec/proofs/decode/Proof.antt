@@ -1,16 +1,16 @@
 use Rattle.codec.proofs.Prelude.{[], _≡_, ap, _∙_, sym, _+_, _≤_, now, arith, length, drop, length-drop, needs}
 use Rattle.codec.specs.Answers.{accepted, answerOf, Gives}
 use Rattle.codec.specs.declared.Decoded.{Decoded}
-use Rattle.codec.proofs.Answers.{gives-refused, later-accepted, later-refused}
+use Rattle.codec.proofs.Answers.{no-value, gives-refused, later-accepted, later-refused}
 use Rattle.codec.proofs.Lending.{to-end}
 use Rattle.path.specs.Record.{pathFrom}
 use Rattle.path.specs.Flat.{pathIn}
 use Rattle.path.proofs.Growing.{in-empty}
 use Rattle.path_suffix.specs.Suffix.{sizesFrom, readSizes}
 use Rattle.path_suffix_decode.specs.After.{readMore}
-use Rattle.path_suffix_decode.specs.Answers.{sizesAnswer}
+use Rattle.path_suffix_decode.specs.declared.DecodedSizes.{DecodedSizes}
 use Rattle.path_suffix_decode.proofs.Within.{more-bounded}
-use Rattle.path_suffix_decode.proofs.Exits.{no-sizes, sizes-inside}
+use Rattle.path_suffix_decode.proofs.Exits.{sizes-inside}
 use Rattle.path_codec.proofs.Exits.{path-refused, path-more}
 use Rattle.path_codec.proofs.decode.Statement.{statement}
 use Rattle.path_codec.proofs.decode.Tie as tie
@@ -19,28 +19,29 @@ use Rattle.path_codec.proofs.decode.Tie as tie
 abbrev known-told-start : tie.After-known-told → tie.Start
 known-told-start c = c .before .before .before .before .before
 
--- the sizes, and where the components begin
-sizes-are : (c : tie.After-known-told) → let a = known-told-start c .args in let h = c .before .sizes .given .0 in
-    readSizes (a .canonic) (drop (a .start) (now (a .message))) ≡ accepted (sizesFrom (h .0) (h .1 .0)) (h .1 .1 .0)
-sizes-are c =
-    let after-decode-sizes : tie.After-decode-sizes = search in
-    sym (after-decode-sizes .decode-sizes .ensures) ∙ ap sizesAnswer (c .before .sizes .given .1)
+abbrev read : tie.After-known-told → DecodedSizes
+read c = c .before .before .before .decode-sizes .result
 
-begins : (c : tie.After-known-told) → known-told-start c .args .start + c .before .sizes .given .0 .1 .1 .0 ≤ length (now (known-told-start c .args .message))
+-- the sizes, and where the components begin
+sizes-are : (c : tie.After-known-told) → let a = known-told-start c .args in
+    readSizes (a .canonic) (drop (a .start) (now (a .message))) ≡ accepted (sizesFrom (read c .total) (read c .count)) (c .before .sizes-answer .given .0 .0)
+sizes-are c = sym (rw (c .before .sizes-answer .given .1) at (c .before .before .before .decode-sizes .ensures .answer))
+
+begins : (c : tie.After-known-told) → known-told-start c .args .start + c .before .sizes-answer .given .0 .0 ≤ length (now (known-told-start c .args .message))
 begins c =
     let start : tie.Start = search in
     let a = start .args in
     sizes-inside (a .canonic) (now (a .message)) (a .start) _ _ (sizes-are c)
 
 -- the components, read after none
-components-are : (c : tie.After-decode-components) → let a = known-told-start (c .before .before .before) .args in
-    let h = c .before .before .before .before .sizes .given .0 in
-    Gives (pathFrom []) (c .decode-components .result) (pathIn (c .decode-components .last .1 .1 .1 .1 .0)) (readMore (a .canonic) [] (h .0) (h .1 .0) (drop (a .start + h .1 .1 .0) (now (a .message))))
+components-are : (c : tie.After-decode-components) → let t = c .before .before .before in let a = known-told-start t .args in
+    Gives (pathFrom []) (c .decode-components .result) (pathIn (c .decode-components .last .1 .1 .1 .1 .0))
+    (readMore (a .canonic) [] (read t .total) (read t .count) (drop (a .start + t .before .sizes-answer .given .0 .0) (now (a .message))))
 components-are c =
-    let after-sizes : tie.After-sizes = search in
+    let after-sizes-answer : tie.After-sizes-answer = search in
     let start : tie.Start = search in
     let a = start .args in
-    let at = a .start + after-sizes .sizes .given .0 .1 .1 .0 in
+    let at = a .start + after-sizes-answer .sizes-answer .given .0 .0 in
     rw (to-end at (now (a .message))) at (c .decode-components .ensures)
 
 returns : tie.Need-returns
@@ -48,9 +49,9 @@ returns c =
     let after-decode-sizes : tie.After-decode-sizes = search in
     let start : tie.Start = search in
     let a = start .args in
-    let x = no-sizes (after-decode-sizes .decode-sizes .result) (c .before .before .before .match .keys2) in
-    rw (c .sizes-refusal .ensures, c .before .clear .ensures, in-empty)
-    (gives-refused (x .why) (x .path) (path-refused (a .canonic) (now (a .message)) (a .start) (x .why) (sym (after-decode-sizes .decode-sizes .ensures) ∙ x .sizes)))
+    let x = no-value (after-decode-sizes .decode-sizes .result .answer) (c .before .before .match .keys2) in
+    rw (c .clear .ensures, in-empty)
+    (gives-refused (x .why) (x .beside _) (path-refused (a .canonic) (now (a .message)) (a .start) (x .why) (sym (after-decode-sizes .decode-sizes .ensures .answer) ∙ x .beside _)))
 
 add-at : tie.Need-add-at
 add-at c = omega (arith, begins c)
@@ -72,14 +73,14 @@ returns-2 c =
     let a = start .args in
     rw (path-more (a .canonic) (now (a .message)) (a .start) _ _ _ (sizes-are told)) (later-refused _ _ (c .match2 .keys2) (components-are (c .before)))
 
-add-t16 : tie.Need-add-t16
-add-t16 c =
+add-t15 : tie.Need-add-t15
+add-t15 c =
     let read : tie.After-decode-components = search in
     let told : tie.After-known-told = search in
-    let after-sizes : tie.After-sizes = search in
+    let after-sizes-answer : tie.After-sizes-answer = search in
     let start : tie.Start = search in
     let a = start .args in
-    let n = after-sizes .sizes .given .0 .1 .1 .0 in
+    let n = after-sizes-answer .sizes-answer .given .0 .0 in
     let e = sym (components-are read .answer) ∙ ap (λ (d : Decoded). answerOf d (pathIn (read .decode-components .last .1 .1 .1 .1 .0))) (c .before .answer .given .1) in
     omega (arith, begins told, more-bounded (a .canonic) [] _ _ .bound (drop (a .start + n) (now (a .message))) _ _ e, length-drop (a .start + n) (now (a .message)))
 
@@ -95,5 +96,5 @@ pub decode-spec : {M : Type 1} → statement M
 decode-spec =
     tie.close
     (tie.spec
-    (λ c κs. search needs) (λ c. search needs) (λ c κs. search needs) (λ c κs. search needs) returns add-at sub-rest part-rest-start
-    (λ c. search needs) (λ c κs. search needs) (λ c. search needs) returns-2 add-t16 returns-3)
+    (λ c κs. search needs) (λ c. search needs) (λ c κs. search needs) returns add-at sub-rest part-rest-start (λ c. search needs)
+    (λ c κs. search needs) (λ c. search needs) returns-2 add-t15 returns-3)

@@ -1,9 +1,10 @@
-use Rattle.codec.proofs.Prelude.{sym, _∙_, refl, now, not-true, not-false, needs}
-use Rattle.codec.proofs.Lending.{length-barred, same-length}
+use Rattle.codec.proofs.Prelude.{sym, ap, _∙_, now, needs}
+use Rattle.codec.proofs.Lending.{length-refused-value, same-length}
 use Rattle.path.specs.Record.{Path, sized}
 use Rattle.path.specs.Flat.{pathIn}
-use Rattle.path_relative.specs.Records.{againstBy, againstPath}
-use Rattle.path_relative.proofs.Lent.{against-whole}
+use Rattle.path.specs.Answers.{countAnswer}
+use Rattle.path_relative.specs.Records.{sharedBy, againstPath}
+use Rattle.path_relative.proofs.Lent.{uncommon-refused-value, shared-against}
 use Rattle.path_relative_encode.proofs.relative_len_of_encoding.Statement.{statement}
 use Rattle.path_relative_encode.proofs.relative_len_of_encoding.Tie as tie
 
@@ -16,14 +17,17 @@ reference c = pathIn (now (c .args .reference))
 returns : tie.Need-returns
 returns c =
     let s : tie.Start = search in
-    length-barred (againstPath (reference s)) (path s) 5 (rw (← (c .before .both-formed .ensures), not-true (c .before .both-formed .result) (c .if1 .taken)))
+    length-refused-value (againstPath (reference s)) (path s) 5
+    (uncommon-refused-value (reference s) (path s) (sym (ap countAnswer (c .enum-told .given .1)) ∙ c .before .before .longest-common-prefix .ensures))
 
 returns-2 : tie.Need-returns-2
 returns-2 c =
-    let after-both-formed : tie.After-both-formed = search in
+    let after-common : tie.After-common = search in
+    let after-longest-common-prefix : tie.After-longest-common-prefix = search in
     let s : tie.Start = search in
-    let formed = sym (after-both-formed .both-formed .ensures) ∙ not-false _ (c .before .if1 .left) in
-    c .relative-len-of-encoding .ensures ∙ same-length (againstBy sized (reference s)) (path s) (againstPath (reference s)) (against-whole (reference s) (path s) formed) refl
+    let same = shared-against (reference s) (path s) _ (sym (ap countAnswer (after-common .common .given .1)) ∙ after-longest-common-prefix .longest-common-prefix .ensures) in
+    c .shared-len .ensures ∙ same-length (sharedBy sized (after-common .common .given .0 .0)) (path s) (againstPath (reference s)) (same .0) (same .1)
 
 pub relative-len-of-encoding-spec : {M : Type 1} → statement M
-relative-len-of-encoding-spec = tie.close (tie.spec (λ c κs. search needs) returns (λ c κs. search needs) returns-2)
+relative-len-of-encoding-spec =
+    tie.close (tie.spec (λ c κs. search needs) (λ c. search needs) (λ c. search needs) returns (λ c κs. search needs) returns-2)

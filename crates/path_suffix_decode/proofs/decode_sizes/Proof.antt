@@ -1,10 +1,13 @@
-use Rattle.codec.proofs.Prelude.{_≡_, ap, _∙_, sym, _+_, _≤_, now, arith, length, drop, getD, length-drop, needs}
+use Rattle.codec.proofs.Prelude.{_≡_, refl, ap, _∙_, sym, _+_, _≤_, now, arith, length, drop, getD, length-drop, needs}
 use Rattle.codec.specs.Answers.{accepted}
+use Rattle.codec.proofs.Answers.{gives-refused, gives-accepted}
 use Rattle.compact_u64.specs.Number.{readNumber}
 use Rattle.compact_u64.specs.Answers.{numberAnswer}
 use Rattle.compact_u64.proofs.Number.{number-bounded}
+use Rattle.compact_u64.proofs.Exits.{refused-number}
 use Rattle.path_suffix.specs.Header.{unpackTags}
-use Rattle.path_suffix_decode.proofs.Exits.{no-number, sizes-none, sizes-first, sizes-second, sizes-both}
+use Rattle.path_suffix_decode.specs.Answers.{noSizes}
+use Rattle.path_suffix_decode.proofs.Exits.{sizes-none, sizes-first, sizes-second, sizes-both}
 use Rattle.path_suffix_decode.proofs.decode_sizes.Statement.{statement}
 use Rattle.path_suffix_decode.proofs.decode_sizes.Tie as tie
 
@@ -64,15 +67,20 @@ second-inside c =
     omega (arith, first-inside after-known-told, number-bounded 4 _ (a .canonic) .bound (drop at (now (a .message))) _ _ (second-value c), length-drop at (now (a .message)))
 
 returns : tie.Need-returns
-returns c = sym (sizes-none _ (now (c .before .before .args .message)) _ (c .if1 .taken))
+returns c =
+    let start : tie.Start = search in
+    rw (c .refuse .ensures .0, c .refuse .ensures .1) (gives-refused 1 refl (sizes-none _ (now (start .args .message)) _ (c .before .if1 .taken)))
 
 returns-2 : tie.Need-returns-2
 returns-2 c =
     let else1 : tie.Else1 = search in
     let start : tie.Start = search in
     let a = start .args in
-    let x = no-number (c .before .before .relative-decode .result) (c .before .match .keys2) in
-    rw (c .number-refusal .ensures) (x .sizes ∙ sym (sizes-first (a .canonic) (now (a .message)) (a .start) (else1 .if1 .left) (x .why) (first-is (c .before .before) ∙ x .number)))
+    let after-relative-decode : tie.After-relative-decode = search in
+    let x = refused-number (after-relative-decode .relative-decode .result) (c .before .before .match .keys2) in
+    rw (c .refuse2 .ensures .0, c .refuse2 .ensures .1)
+    (gives-refused (x .why) (x .whole noSizes (c .before .unvalued .result) (c .before .unvalued .ensures))
+    (sizes-first (a .canonic) (now (a .message)) (a .start) (else1 .if1 .left) (x .why) (first-is after-relative-decode ∙ x .number)))
 
 add-relative-decode : tie.Need-add-relative-decode
 add-relative-decode c = omega (arith, first-inside c)
@@ -83,17 +91,19 @@ returns-3 c =
     let else1 : tie.Else1 = search in
     let start : tie.Start = search in
     let a = start .args in
-    let x = no-number (c .before .before .relative-decode2 .result) (c .before .match2 .keys2) in
-    rw (c .number-refusal2 .ensures)
-    (x .sizes ∙ sym (sizes-second (a .canonic) (now (a .message)) (a .start) (else1 .if1 .left) _ _ (first-value after-known-told) (x .why) (second-is (c .before .before) ∙ x .number)))
+    let after-relative-decode2 : tie.After-relative-decode2 = search in
+    let x = refused-number (after-relative-decode2 .relative-decode2 .result) (c .before .before .match2 .keys2) in
+    rw (c .refuse3 .ensures .0, c .refuse3 .ensures .1)
+    (gives-refused (x .why) (x .whole noSizes (c .before .unvalued2 .result) (c .before .unvalued2 .ensures))
+    (sizes-second (a .canonic) (now (a .message)) (a .start) (else1 .if1 .left) _ _ (first-value after-known-told) (x .why) (second-is after-relative-decode2 ∙ x .number)))
 
 add-t12 : tie.Need-add-t12
 add-t12 c =
     let after-known-told : tie.After-known-told = search in
     omega (arith, first-inside after-known-told, second-inside c)
 
-add-t17 : tie.Need-add-t17
-add-t17 c =
+add-t20 : tie.Need-add-t20
+add-t20 c =
     let after-known-told : tie.After-known-told = search in
     omega (arith, first-inside after-known-told, second-inside c)
 
@@ -103,11 +113,12 @@ returns-4 c =
     let else1 : tie.Else1 = search in
     let start : tie.Start = search in
     let a = start .args in
-    sym (sizes-both (a .canonic) (now (a .message)) (a .start) (else1 .if1 .left) _ _ (first-value after-known-told) _ _ (second-value c))
+    gives-accepted (sizes-both (a .canonic) (now (a .message)) (a .start) (else1 .if1 .left) _ _ (first-value after-known-told) _ _ (second-value c))
 
 pub decode-sizes-spec : {M : Type 1} → statement M
 decode-sizes-spec =
     tie.close
     (tie.spec
-    returns (λ c. search needs) (λ c κs. search needs) (λ c. search needs) (λ c κs. search needs) (λ c. search needs) (λ c κs. search needs)
-    returns-2 add-relative-decode (λ c κs. search needs) (λ c. search needs) (λ c κs. search needs) returns-3 add-t12 add-t17 returns-4)
+    (λ c κs. search needs) returns (λ c. search needs) (λ c κs. search needs) (λ c. search needs) (λ c κs. search needs) (λ c. search needs)
+    (λ c κs. search needs) (λ c κs. search needs) returns-2 add-relative-decode (λ c κs. search needs) (λ c. search needs) (λ c κs. search needs)
+    (λ c κs. search needs) returns-3 add-t12 add-t20 returns-4)

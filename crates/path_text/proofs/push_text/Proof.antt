@@ -1,17 +1,17 @@
-use Rattle.codec.proofs.Prelude.{_≡_, _∙_, sym, now, arith, take, length-take-le, needs}
+use Rattle.codec.proofs.Prelude.{_≡_, _∙_, ap, sym, now, arith, take, length-take-le, needs}
+use Rattle.codec.specs.Answers.{said}
 use Rattle.text.specs.Hex.{unhex}
-use Rattle.text.specs.Fields.{readHex}
-use Rattle.text.specs.declared.Hex.the-variants.{Bytes}
+use Rattle.text.specs.Fields.{readHex, hexAnswer}
 use Rattle.text.proofs.HexAnswers.{hex-refused, some-bytes, bytes-are}
 use Rattle.path_text.proofs.Reading.{push-refused}
 use Rattle.path_text.proofs.push_text.Statement.{statement}
 use Rattle.path_text.proofs.push_text.Tie as tie
 
 -- the bytes that were read
-hex-here : (c : tie.After-known-told) → Bytes (c .before .got .given .0 .0) ≡ readHex (now (c .before .before .before .before .before .before .before .args .t)) 300
+hex-here : (c : tie.After-known-told) → said (c .before .got .given .0 .0) ≡ readHex (now (c .before .before .before .before .before .before .before .args .t)) 300
 hex-here c =
     let after-read-hex : tie.After-read-hex = search in
-    sym (c .before .got .given .1) ∙ after-read-hex .read-hex .ensures .0
+    sym (ap hexAnswer (c .before .got .given .1)) ∙ after-read-hex .read-hex .ensures .0
 
 bytes-here : (c : tie.After-known-told)
     → take (c .before .got .given .0 .0) (c .before .before .before .before .read-hex .last .1 .0) ≡ unhex (now (c .before .before .before .before .before .before .before .args .t))

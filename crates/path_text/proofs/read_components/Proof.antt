@@ -3,10 +3,11 @@ use Rattle.codec.proofs.Lending.{to-end}
 use Rattle.text.specs.Parts.{before, parts}
 use Rattle.text.specs.Hex.{unhex}
 use Rattle.text.proofs.Parts.{parts-more, parts-last}
+use Rattle.path.specs.Record.{pathFrom}
 use Rattle.path.specs.Limits.{pathOk}
 use Rattle.path.specs.Builder.{builtFrom}
 use Rattle.path.proofs.Growing.{flat-empty, built-flat}
-use Rattle.path_text.specs.PathText.{readComponentsText}
+use Rattle.path_text.specs.PathText.{readField, readComponentsText}
 use Rattle.path_text.proofs.Reading.{ok-next, texts-more, texts-last, texts-stop-at, took, not-took, Held}
 use Rattle.path_text.proofs.read_components.Statement.{statement}
 use Rattle.path_text.proofs.read_components.Tie as tie
@@ -38,7 +39,7 @@ returns c =
     let t = take (after-find .find .result) r in
     let grows = rw (to-end (l .at) s) at (after-push-text .push-text .ensures) in
     let no = not-took (l .inv .done) (l .inv .made) t grows (c .before .match .keys2) in
-    c .refuse .ensures ∙ sym (l .inv .still ∙ texts-stop-at (l .inv .done) t no r (rw k refl))
+    rw (l .inv .still ∙ texts-stop-at (l .inv .done) t no r (rw k refl)) (c .refuse .ensures)
 
 returns-2 : tie.Need-returns-2 Inv-loop μ-loop
 returns-2 c =
@@ -57,7 +58,8 @@ returns-2 c =
     let grows = rw (to-end (l .at) s, all) at (after-push-text .push-text .ensures) in
     let w = took cs (l .inv .made) r grows (after-enum-told .enum-told .given .1) in
     let ok = ok-next cs (unhex r) (l .inv .ok) (w .fits) in
-    sym (l .inv .still ∙ rw (parts-last 47 r (omega (arith, k, n)), built-flat _ (w .made)) (texts-last cs r (w .hex) ok))
+    let all-read : readComponentsText s ≡ readField (pathFrom (cs ++ (unhex r ∷ []))) = l .inv .still ∙ rw (parts-last 47 r (omega (arith, k, n))) (texts-last cs r (w .hex) ok) in
+    rw (all-read, built-flat _ (w .made)) (record { answer = refl; path = refl })
 
 add-at : tie.Need-add-at Inv-loop μ-loop
 add-at c =

@@ -1,4 +1,4 @@
-use Rattle.codec.proofs.Prelude.{_∙_, sym, needs}
+use Rattle.codec.proofs.Prelude.{refl, _∙_, sym, needs}
 use Rattle.path_text.specs.PathText.{readPathText}
 use Rattle.path_text.proofs.read_path.Statement.{statement}
 use Rattle.path_text.proofs.read_path.Tie as tie
@@ -7,13 +7,13 @@ returns : tie.Need-returns
 unfolding readPathText
 returns c =
     let e = sym (c .before .before .same-bytes .ensures) ∙ c .before .if1 .taken in
-    rw (e, c .new-empty .ensures)
+    rw (e, c .new-empty .ensures) (record { answer = refl; path = refl })
 
 returns-2 : tie.Need-returns-2
 unfolding readPathText
 returns-2 c =
     let e = sym (c .before .before .same-bytes .ensures) ∙ c .before .if1 .left in
-    c .read-components .ensures ∙ rw e
+    rw e (c .read-components .ensures)
 
 pub read-path-spec : {M : Type 1} → statement M
 read-path-spec =

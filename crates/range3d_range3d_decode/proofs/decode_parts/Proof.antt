@@ -7,12 +7,13 @@ use Rattle.codec.proofs.Lending.{to-end}
 use Rattle.path.specs.Flat.{pathIn}
 use Rattle.path.proofs.Growing.{in-empty}
 use Rattle.grouping.specs.declared.TimeRange.{TimeRange}
-use Rattle.range_3d.specs.Record.{PathRange, Range3d, subspacesOf, subspacesFrom, rangeWith, noTimes}
+use Rattle.range_3d.specs.Record.{PathRange, Range3d, subspacesOf, subspacesFrom, rangeWith}
+use Rattle.grouping.specs.Answers.{noTimes}
 use Rattle.range_3d.specs.Answers.{headRefusal}
 use Rattle.range_subspaces.specs.Subspaces.{readSubspaces}
 use Rattle.range_paths.specs.Records.{pathsWith, emptyPaths}
 use Rattle.range3d_range3d.specs.Range.{sourcesIn}
-use Rattle.range3d_range3d.specs.Records.{readPathsTimes}
+use Rattle.range3d_range3d.specs.inside.Reading.{readPathsTimes}
 use Rattle.range3d_range3d.proofs.DecodeExits.{rangeOn, subspaces-inside, ids-refused, after-ids, ends-bounded}
 use Rattle.range3d_range3d_decode.proofs.decode_parts.Statement.{statement}
 use Rattle.range3d_range3d_decode.proofs.decode_parts.Tie as tie

@@ -5,7 +5,8 @@ use Rattle.codec.proofs.Answers.{gives-refused, gives-accepted, no-value}
 use Rattle.codec.proofs.Lending.{to-end}
 use Rattle.path.specs.Flat.{pathIn}
 use Rattle.path.proofs.Growing.{in-empty}
-use Rattle.range_3d.specs.Record.{PathRange, sizedPaths, noTimes}
+use Rattle.range_3d.specs.Record.{PathRange, sizedPaths}
+use Rattle.grouping.specs.Answers.{noTimes, timesRefusal}
 use Rattle.range_paths.specs.Records.{pathsWith, emptyPaths, readPathsBy}
 use Rattle.range_times.specs.Header.{unpackHeader as unpackTimes}
 use Rattle.range_times.specs.Times.{readTimes}
@@ -61,13 +62,14 @@ times-are : (c : tie.After-known-told2) → let r = told2-times c in let t = tim
 times-are c = let r = told2-times c in sym (times-told r .answer) ∙ ap (λ (d : Decoded). answerOf d (r .relative-decode2 .result .times)) (c .before .answer .given .1)
 
 returns : tie.Need-returns
+unfolding timesRefusal
 returns c =
     let read : tie.After-relative-decode = search in
     let s : tie.Start = search in
     let x = no-value (read .relative-decode .result) (c .before .match .keys2) in
     let e = sym (read .relative-decode .ensures .answer) ∙ x .beside _ in
     let none : paths read ≡ emptyPaths (s .args .header .«path_end_open») = rw e at (read .relative-decode .ensures .value) in
-    rw (c .refuse .ensures .0, c .refuse .ensures .1, ap (λ (p : PathRange). p .start) none, ap (λ (p : PathRange). p .end) none)
+    rw (c .refuse-times .ensures, ap (λ (p : PathRange). p .start) none, ap (λ (p : PathRange). p .end) none)
     (gives-refused (x .why) (x .beside _) (paths-refused (known s) (s .args .reference .times) (s .args .header) (s .args .times) (now (s .args .message)) (x .why) e))
 
 sub-relative-decode : tie.Need-sub-relative-decode

@@ -1,9 +1,10 @@
-use Rattle.codec.proofs.Prelude.{_≡_, refl, sym, _∙_, true, now, not-true, not-false, needs}
-use Rattle.codec.proofs.Lending.{length-barred, same-length}
+use Rattle.codec.proofs.Prelude.{sym, ap, _∙_, arith, now, needs}
+use Rattle.codec.proofs.Lending.{length-refused-value, length-allowed}
 use Rattle.path.specs.Flat.{pathIn}
-use Rattle.range_3d.specs.Record.{Range3d, rangeWith, wellFormedRange3d, sizedRange3d}
-use Rattle.range3d_range3d.specs.Records.{againstRangeBy, againstRange}
-use Rattle.range3d_range3d.proofs.Writing.{against-whole}
+use Rattle.range_3d.specs.Record.{Range3d, rangeWith}
+use Rattle.range_paths.specs.Records.{measuredAnswer}
+use Rattle.range3d_range3d.specs.Records.{againstRange}
+use Rattle.range3d_range3d.proofs.Writing.{Measures, measures, unmeasured, range-long}
 use Rattle.range3d_range3d_encode.proofs.relative_len_of_encoding.Statement.{statement}
 use Rattle.range3d_range3d_encode.proofs.relative_len_of_encoding.Tie as tie
 
@@ -14,32 +15,44 @@ abbrev known : tie.Start → Range3d
 known c = rangeWith (c .args .reference) (pathIn (now (c .args .reference-start))) (pathIn (now (c .args .reference-end)))
 
 -- earlier places
-abbrev else1-start : tie.Else1 → tie.Start
-else1-start c = c .before .before .before .before .before .before
+abbrev measured-start : tie.After-measured → tie.Start
+measured-start c = c .before .before .before .before .before .before .before
 
-known-well : (c : tie.Else1) → wellFormedRange3d (known (else1-start c)) ≡ true
-known-well c = sym (c .before .well-formed .ensures) ∙ not-false _ (c .if1 .left)
+paths-are : (c : tie.After-measured) → let s = measured-start c in Measures (known s) (value s) (c .measured .given .0 .0)
+paths-are c = let s = measured-start c in measures (known s) (value s) _ (sym (ap measuredAnswer (c .measured .given .1)) ∙ c .before .before .measure .ensures)
 
 returns : tie.Need-returns
 returns c =
     let s : tie.Start = search in
-    length-barred (againstRange (known s)) (value s) 5 (rw (← (c .before .well-formed .ensures), not-true (c .before .well-formed .result) (c .if1 .taken)))
+    length-refused-value (againstRange (known s)) (value s) 5
+    (unmeasured (known s) (value s) (sym (ap measuredAnswer (c .enum-told .given .1)) ∙ c .before .before .measure .ensures))
+
+add-t11 : tie.Need-add-t11
+add-t11 c =
+    let after-measured : tie.After-measured = search in
+    omega (arith, paths-are after-measured .short, c .before .relative-len-of-encoding2 .ensures .1)
+
+add-t12 : tie.Need-add-t12
+add-t12 c =
+    let after-measured : tie.After-measured = search in
+    omega (arith, paths-are after-measured .short, c .before .relative-len-of-encoding2 .ensures .1, c .before .before .relative-len-of-encoding .ensures .1)
+
+add-t13 : tie.Need-add-t13
+add-t13 c =
+    let after-measured : tie.After-measured = search in
+    omega (arith, paths-are after-measured .short, c .before .relative-len-of-encoding2 .ensures .1, c .before .before .relative-len-of-encoding .ensures .1)
 
 returns-2 : tie.Need-returns-2
 returns-2 c =
-    let else1 : tie.Else1 = search in
+    let after-measured : tie.After-measured = search in
     let s : tie.Start = search in
-    length-barred (againstRange (known s)) (value s) 5
-    (rw (known-well else1, ← (c .before .well-formed2 .ensures), not-true (c .before .well-formed2 .result) (c .if2 .taken)))
-
-returns-3 : tie.Need-returns-3
-returns-3 c =
-    let else1 : tie.Else1 = search in
-    let s : tie.Start = search in
-    let well : wellFormedRange3d (value s) ≡ true = sym (c .before .before .well-formed2 .ensures) ∙ not-false _ (c .before .if2 .left) in
-    c .relative-len-of-encoding .ensures
-    ∙ same-length (againstRangeBy sizedRange3d (known s)) (value s) (againstRange (known s)) (against-whole (known s) (value s) (known-well else1) well) refl
+    let m = paths-are after-measured in
+    length-allowed (againstRange (known s)) (value s) _ (m .allows)
+    (range-long (known s) (value s) m _ _ (c .before .before .relative-len-of-encoding .ensures .0) (c .before .relative-len-of-encoding2 .ensures .0))
 
 pub relative-len-of-encoding-spec : {M : Type 1} → statement M
 relative-len-of-encoding-spec =
-    tie.close (tie.spec (λ c κs. search needs) returns (λ c κs. search needs) returns-2 (λ c κs. search needs) returns-3)
+    tie.close
+    (tie.spec
+    (λ c κs. search needs) (λ c. search needs) (λ c. search needs) returns (λ c κs. search needs) (λ c κs. search needs) add-t11 add-t12
+    add-t13 returns-2)

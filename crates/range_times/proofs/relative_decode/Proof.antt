@@ -1,4 +1,4 @@
-use Rattle.range_3d.specs.Record.{noTimes}
+use Rattle.grouping.specs.Answers.{noTimes, timesRefusal}
 use Rattle.codec.proofs.Prelude.{_≡_, sym, ap, _∙_, _+_, arith, now, needs}
 use Rattle.codec.specs.Answers.{accepted, answerOf}
 use Rattle.codec.specs.declared.Decoded.{Decoded}
@@ -7,7 +7,8 @@ use Rattle.compact_u64.specs.Answers.{numberAnswer}
 use Rattle.compact_u64.proofs.Exits.{refused-number}
 use Rattle.time_distance.specs.Distance.{sideOf, readFrom}
 use Rattle.range_times.specs.Header.{unpackHeader}
-use Rattle.range_times.specs.Times.{timesFrom, readTimes}
+use Rattle.range_times.specs.Times.{readTimes}
+use Rattle.grouping.specs.Range.{timesFrom}
 use Rattle.range_times.proofs.Exits.{times-start, times-end, times-read}
 use Rattle.range_times.proofs.Times.{times-bounded}
 use Rattle.range_times.proofs.relative_decode.Statement.{statement}
@@ -32,30 +33,32 @@ times-are c =
     let start : tie.Start = search in
     let a = start .args in
     let e = rw (after-unpack .unpack .ensures) at
-    (sym (after-decode-end .decode-end .ensures) ∙ ap (λ (d : Decoded). answerOf d (after-decode-end .decode-end .result .end)) (c .before .answer .given .1)) in
+    (sym (after-decode-end .decode-end .ensures .answer) ∙ ap (λ (d : Decoded). answerOf d (after-decode-end .decode-end .result .end)) (c .before .answer .given .1)) in
     times-read (a .reference) (a .end-open) (unpackHeader (a .header)) (now (a .message)) _ _ (start-is after-known-told) _ _ e
 
 returns : tie.Need-returns
+unfolding timesRefusal
 returns c =
     let after-relative-decode : tie.After-relative-decode = search in
     let after-side : tie.After-side = search in
     let after-unpack : tie.After-unpack = search in
     let start : tie.Start = search in
     let a = start .args in
-    let x = refused-number noTimes (after-relative-decode .relative-decode .result) (c .before .before .match .keys2) in
+    let x = refused-number (after-relative-decode .relative-decode .result) (c .before .before .match .keys2) in
     let e = rw (after-side .side .ensures, after-unpack .unpack .ensures) at (sym (after-relative-decode .relative-decode .ensures) ∙ x .number) in
-    rw (c .refuse .ensures .0, c .refuse .ensures .1, c .before .refusal .ensures)
-    (gives-refused (x .why) (x .whole) (times-start (a .reference) (a .end-open) (unpackHeader (a .header)) (now (a .message)) (x .why) e))
+    rw (c .refuse-times .ensures)
+    (gives-refused (x .why) (x .whole noTimes (c .before .unvalued .result) (c .before .unvalued .ensures)) (times-start (a .reference) (a .end-open) (unpackHeader (a .header)) (now (a .message)) (x .why) e))
 
 returns-2 : tie.Need-returns-2
+unfolding timesRefusal
 returns-2 c =
     let after-known-told : tie.After-known-told = search in
     let after-unpack : tie.After-unpack = search in
     let start : tie.Start = search in
     let a = start .args in
     let x = no-value (c .before .before .decode-end .result .answer) (c .before .match2 .keys2) in
-    let e = rw (after-unpack .unpack .ensures) at (sym (c .before .before .decode-end .ensures) ∙ x .beside (c .before .before .decode-end .result .end)) in
-    rw (c .refuse2 .ensures .0, c .refuse2 .ensures .1)
+    let e = rw (after-unpack .unpack .ensures) at (sym (c .before .before .decode-end .ensures .answer) ∙ x .beside (c .before .before .decode-end .result .end)) in
+    rw (c .refuse-times2 .ensures)
     (gives-refused (x .why) (x .beside noTimes) (times-end (a .reference) (a .end-open) (unpackHeader (a .header)) (now (a .message)) _ _ (start-is after-known-told) (x .why) e))
 
 add-t15 : tie.Need-add-t15

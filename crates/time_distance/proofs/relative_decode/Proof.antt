@@ -1,4 +1,4 @@
-use Rattle.codec.proofs.Prelude.{_≡_, sym, ap, _∙_, now, drop, arith, ℕ, _+_, _-_, le-leb, lt-leb, needs, false}
+use Rattle.codec.proofs.Prelude.{_≡_, sym, ap, _∙_, now, drop, arith, _+_, _-_, le-leb, lt-leb, needs, false}
 use Rattle.codec.specs.Answers.{accepted}
 use Rattle.compact_u64.specs.Number.{readNumber}
 use Rattle.compact_u64.specs.Answers.{numberAnswer}
@@ -20,7 +20,7 @@ returns : tie.Need-returns
 returns c =
     let start : tie.Start = search in
     let a = start .args in
-    let n = refused-number {A = ℕ} 0 (c .before .relative-decode .result) (c .match .keys2) in
+    let n = refused-number (c .before .relative-decode .result) (c .match .keys2) in
     n .number ∙ sym (from-refused (a .from) (a .added) (a .tag) (drop (a .start) (now (a .message))) (n .why) (sym (c .before .relative-decode .ensures) ∙ n .number))
 
 returns-2 : tie.Need-returns-2

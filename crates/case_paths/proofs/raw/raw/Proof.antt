@@ -1,6 +1,6 @@
 use Rattle.codec.proofs.Prelude.{_≡_, refl, sym, _∙_, arith, now, not-true, not-false, needs}
 use Rattle.text.specs.Parts.{partAt}
-use Rattle.decimal.specs.Decimal.{readDecimal}
+use Rattle.decimal.specs.Decimal.{readDecimal, decimalAnswer}
 use Rattle.case_text.proofs.Steps.{decimal-says, decimal-says-no, says-refused, says-value}
 use Rattle.case_text.proofs.Ways.{puts}
 use Rattle.case_paths.proofs.RawSteps.{raw-fields, raw-count, raw-lengths, raw-bytes, raw-answer}
@@ -8,7 +8,7 @@ use Rattle.case_paths.proofs.raw.raw.Statement.{statement}
 use Rattle.case_paths.proofs.raw.raw.Tie as tie
 
 -- the field was read
-read : (r : tie.After-read-decimal) → let s = r .before .before .before .before .before .before in r .read-decimal .result ≡ readDecimal (partAt 9 1 (now (s .args .line)))
+read : (r : tie.After-read-decimal) → let s = r .before .before .before .before .before .before in decimalAnswer (r .read-decimal .result) ≡ readDecimal (partAt 9 1 (now (s .args .line)))
 read r = rw (r .before .part .ensures) at (r .read-decimal .ensures)
 
 pub raw-spec : {M : Type 1} → statement M
@@ -18,8 +18,8 @@ raw-spec =
     (λ c κs. search needs) (λ c κs. search needs) (λ c. search needs)
     (λ c. let s : tie.Start = search in puts (raw-fields (now (s .args .line)) refl (λ e. omega arith)) search)
     (λ c κs. search needs) (λ c κs. search needs) (λ c. search needs) (λ c. search needs) (λ c κs. search needs) (λ c. search needs)
-    (λ c. let k : tie.Else1 = search in let s : tie.Start = search in
-    puts (raw-count (now (s .args .line)) refl (sym (k .before .part-count .ensures) ∙ k .if1 .left) (says-refused (decimal-says-no 1 (now (s .args .line)) (sym (read (search)) ∙ search)) refl)) search)
+    (λ c. let d : tie.After-read-decimal = search in let k : tie.Else1 = search in let s : tie.Start = search in
+    puts (raw-count (now (s .args .line)) refl (sym (k .before .part-count .ensures) ∙ k .if1 .left) (says-refused (decimal-says-no 1 (now (s .args .line)) {x = d .read-decimal .result} (search) (read d)) refl)) search)
     (λ c κs. search needs) (λ c κs. search needs) (λ c κs. search needs) (λ c. search needs)
     (λ c. let l : tie.After-read-lengths = search in let n : tie.After-count = search in let k : tie.Else1 = search in let s : tie.Start = search in
     puts (raw-lengths (now (s .args .line)) refl (sym (k .before .part-count .ensures) ∙ k .if1 .left) _ (says-value (decimal-says 1 (now (s .args .line)) (n .count .given .1) (read (search))) refl)

@@ -1,4 +1,5 @@
-use Rattle.codec.proofs.Prelude.{sym, _∙_, now, arith, needs}
+use Rattle.codec.proofs.Prelude.{ap, sym, _∙_, now, arith, needs}
+use Rattle.text.specs.Fields.{hexAnswer}
 use Rattle.case_text.proofs.FieldLaws.{hex-left, hex-taken}
 use Rattle.case_text.proofs.fields.hex.Statement.{statement}
 use Rattle.case_text.proofs.fields.hex.Tie as tie
@@ -22,7 +23,7 @@ returns-2 c =
     let part = after-part .part .ensures in
     let read = after-read-hex .read-hex .ensures in
     let told = c .before .read .given in
-    hex-taken (a .i) (now (a .line)) (now (a .buffer)) (told .0 .0) (sym (told .1) ∙ rw part at (read .0)) _ (rw part at (read .1)) (omega arith)
+    hex-taken (a .i) (now (a .line)) (now (a .buffer)) (told .0 .0) (sym (ap hexAnswer (told .1)) ∙ rw part at (read .0)) _ (rw part at (read .1)) (omega arith)
 
 pub hex-spec : {M : Type 1} → statement M
 hex-spec =

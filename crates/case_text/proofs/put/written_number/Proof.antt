@@ -9,7 +9,7 @@ returns c =
     let at-match-keys2 : tie.At-match-keys2 = search in
     let start : tie.Start = search in
     let a = start .args in
-    rw (← (refused-number (a .answer) (a .tag) (take (a .n) (now (a .buffer))) (at-match-keys2 .match .keys2))) (c .before .before .written .ensures)
+    rw (← (refused-number (a .answer) (a .tag) (take (a .n) (now (a .buffer))) (at-match-keys2 .match .keys2))) (c .before .before .output .ensures)
 
 returns-2 : tie.Need-returns-2
 returns-2 c = within-full (omega arith)

@@ -1,21 +1,21 @@
 use Rattle.codec.proofs.Prelude.{sym, _∙_, not-true, not-false, needs}
 use Rattle.grouping.specs.Record.{subspaceIncludes}
-use Rattle.entry.specs.Record.{fieldsInside}
+use Rattle.entry.specs.Record.{fieldsLieInside}
 use Rattle.entry.proofs.EntryFields.lies_inside.Statement.{statement}
 use Rattle.entry.proofs.EntryFields.lies_inside.Tie as tie
 
 returns : tie.Need-returns
-unfolding fieldsInside
+unfolding fieldsLieInside
 returns c = rw (sym (c .before .same-bytes .ensures) ∙ not-true _ (c .if1 .taken))
 
 returns-2 : tie.Need-returns-2
-unfolding fieldsInside subspaceIncludes
+unfolding fieldsLieInside subspaceIncludes
 returns-2 c =
     let else1 : tie.Else1 = search in
     rw ((sym (else1 .before .same-bytes .ensures) ∙ not-false _ (else1 .if1 .left)), (sym (c .before .includes-area-subspace .ensures) ∙ not-true _ (c .if2 .taken)))
 
 returns-3 : tie.Need-returns-3
-unfolding fieldsInside subspaceIncludes
+unfolding fieldsLieInside subspaceIncludes
 returns-3 c =
     let else2 : tie.Else2 = search in
     let else1 : tie.Else1 = search in

@@ -7,7 +7,7 @@ use Rattle.path_relative.proofs.Writing.{rest-refused, rest-written}
 use Rattle.grouping.specs.Record.{subspaceOf}
 use Rattle.entry.proofs.Typed.{subspace-long}
 use Rattle.entry_area.specs.Entry.{startOf}
-use Rattle.entry_area.specs.Records.{endIn, tailBytes}
+use Rattle.entry_area.specs.inside.Writing.{endIn, tailBytes}
 use Rattle.entry_area_encode.proofs.entry_encode.put_entry.Statement.{statement}
 use Rattle.entry_area_encode.proofs.entry_encode.put_entry.Tie as tie
 

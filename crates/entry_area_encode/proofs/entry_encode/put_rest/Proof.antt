@@ -1,12 +1,12 @@
 use Rattle.codec.proofs.Prelude.{_≡_, refl, sym, ap, _∙_, List, ℕ, _+_, _≤_, arith, now, length, length-append, needs}
 use Rattle.codec.specs.Answers.{outcomeOf}
 use Rattle.codec.specs.Format.{allowed}
-use Rattle.codec.proofs.Lending.{no-length, length-wrote, length-not-denied, put-full, put-fits, pair-inside, pair-put}
+use Rattle.codec.proofs.Lending.{no-length, length-wrote, length-not-refused-writing, put-full, put-fits, pair-inside, pair-put}
 use Rattle.path.specs.Record.{Path, sized}
 use Rattle.path.specs.Flat.{pathIn}
 use Rattle.path_relative.specs.Records.{sharedBy}
 use Rattle.entry_area_end.specs.End.{endOf}
-use Rattle.entry_area.specs.Records.{tailBytes}
+use Rattle.entry_area.specs.inside.Writing.{tailBytes}
 use Rattle.entry_area.proofs.Writing.{shared-short}
 use Rattle.entry_area_encode.proofs.entry_encode.put_rest.Statement.{statement}
 use Rattle.entry_area_encode.proofs.entry_encode.put_rest.Tie as tie
@@ -54,7 +54,7 @@ returns : tie.Need-returns
 returns c =
     let s : tie.Start = search in
     let none = no-length (c .before .shared-len .result) (c .match .keys2) in
-    absurd (length-not-denied (sharedBy sized (s .args .k)) (path s) (none .why) (s .pre) (sym (c .before .shared-len .ensures) ∙ none .is))
+    absurd (length-not-refused-writing (sharedBy sized (s .args .k)) (path s) (none .why) (s .pre) (sym (c .before .shared-len .ensures) ∙ none .is))
 
 add-whole : tie.Need-add-whole
 add-whole c =

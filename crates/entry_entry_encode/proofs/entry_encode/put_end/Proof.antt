@@ -1,7 +1,7 @@
 use Rattle.codec.proofs.Prelude.{_≡_, refl, sym, ap, _∙_, List, ℕ, _+_, _≤_, arith, now, length, drop, length-append, length-drop, needs}
 use Rattle.codec.specs.Format.{over, writeAnswer, writeBuffer}
 use Rattle.codec.specs.Answers.{outcomeOf, wrote}
-use Rattle.codec.proofs.Lending.{put-over, put-fits, over-then, to-end, put-end, no-length, written-is, wrote-not-denied}
+use Rattle.codec.proofs.Lending.{put-over, put-fits, over-then, to-end, put-end, no-length, written-is, wrote-not-refused-writing}
 use Rattle.path.specs.Record.{Path, sized}
 use Rattle.path.specs.Flat.{pathIn}
 use Rattle.path_relative.specs.Records.{sharedBy}
@@ -36,7 +36,7 @@ returns : tie.Need-returns
 returns c =
     let after-encode-shared : tie.After-encode-shared = search in
     let none = no-length (after-encode-shared .encode-shared .result) (c .match .keys2) in
-    absurd (wrote-not-denied _ (none .why) (sym (answer after-encode-shared) ∙ none .is))
+    absurd (wrote-not-refused-writing _ (none .why) (sym (answer after-encode-shared) ∙ none .is))
 
 sub-put-bytes : tie.Need-sub-put-bytes
 sub-put-bytes c =

@@ -4,7 +4,7 @@ use Rattle.codec.proofs.Lending.{over-cons, to-end, put-end, put-end-long}
 use Rattle.path.specs.Record.{sized}
 use Rattle.path.specs.Flat.{pathIn}
 use Rattle.path_relative.specs.Records.{sharedBy}
-use Rattle.entry_entry.specs.Records.{partsWith}
+use Rattle.entry_entry.specs.inside.Writing.{partsWith}
 use Rattle.entry_entry_encode.proofs.entry_encode.put_entry.Statement.{statement}
 use Rattle.entry_entry_encode.proofs.entry_encode.put_entry.Tie as tie
 

@@ -3,7 +3,7 @@ use Rattle.codec.proofs.Lending.{over-then, to-end, put-end}
 use Rattle.path.specs.Record.{sized}
 use Rattle.path.specs.Flat.{pathIn}
 use Rattle.path_relative.specs.Records.{sharedBy}
-use Rattle.entry_entry.specs.Records.{idsWith, restWith}
+use Rattle.entry_entry.specs.inside.Writing.{idsWith, restWith}
 use Rattle.entry_entry_encode.proofs.entry_encode.put_parts.Statement.{statement}
 use Rattle.entry_entry_encode.proofs.entry_encode.put_parts.Tie as tie
 

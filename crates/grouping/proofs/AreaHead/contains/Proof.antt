@@ -1,15 +1,15 @@
 use Rattle.codec.proofs.Prelude.{not-true, not-false, needs}
-use Rattle.grouping.specs.Area.{headInside}
+use Rattle.grouping.specs.Area.{headLiesInside}
 use Rattle.grouping.specs.Record.{subspaceIncludes}
 use Rattle.grouping.proofs.AreaHead.contains.Statement.{statement}
 use Rattle.grouping.proofs.AreaHead.contains.Tie as tie
 
 returns : tie.Need-returns
-unfolding headInside subspaceIncludes
+unfolding headLiesInside subspaceIncludes
 returns c = rw (← (c .before .includes-area-subspace .ensures), not-true (c .before .includes-area-subspace .result) (c .if1 .taken))
 
 returns-2 : tie.Need-returns-2
-unfolding headInside subspaceIncludes
+unfolding headLiesInside subspaceIncludes
 returns-2 c =
     let after : tie.After-includes-area-subspace = search in
     let else1 : tie.Else1 = search in
@@ -21,7 +21,7 @@ returns-2 c =
     )
 
 returns-3 : tie.Need-returns-3
-unfolding headInside subspaceIncludes
+unfolding headLiesInside subspaceIncludes
 returns-3 c =
     let after : tie.After-includes-area-subspace = search in
     let after-range : tie.After-includes-range = search in
@@ -37,7 +37,7 @@ returns-3 c =
     )
 
 returns-4 : tie.Need-returns-4
-unfolding headInside subspaceIncludes
+unfolding headLiesInside subspaceIncludes
 returns-4 c =
     let after : tie.After-includes-area-subspace = search in
     let after-range : tie.After-includes-range = search in

@@ -1,6 +1,6 @@
 use Rattle.calls.proofs.Calls.{encodes, encodes-of}
 use Rattle.codec.proofs.Prelude.{sym, _∙_, now, not-true, not-false, needs}
-use Rattle.codec.proofs.Lending.{put-barred}
+use Rattle.codec.proofs.Lending.{put-refused-value}
 use Rattle.path.specs.Flat.{pathIn}
 use Rattle.grouping.specs.Record.{areaWith}
 use Rattle.entry.specs.Record.{entryWith}
@@ -18,7 +18,7 @@ returns c =
     let then1 : tie.Then1 = search in
     let s : tie.Start = search in
     let bad = area-unmarked (now (s .args .area)) (sym (marked .is-marked .ensures) ∙ not-true (marked .is-marked .result) (then1 .if1 .taken)) in
-    encodes (put-barred (againstNamespaceArea (now (s .args .namespace)) (areaIn (now (s .args .area))) .check (entryIn (now (s .args .entry)))) _ (now (s .args .buffer)) 5 (rw bad))
+    encodes (put-refused-value (againstNamespaceArea (now (s .args .namespace)) (areaIn (now (s .args .area))) .check (entryIn (now (s .args .entry)))) _ (now (s .args .buffer)) 5 (rw bad))
     (c .tell-length .ensures)
 
 returns-2 : tie.Need-returns-2

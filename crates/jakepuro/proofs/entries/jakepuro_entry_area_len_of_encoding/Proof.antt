@@ -1,7 +1,7 @@
 use Rattle.calls.proofs.Calls.{told-as}
 use Rattle.codec.proofs.Prelude.{sym, _∙_, now, not-true, not-false, needs}
 use Rattle.codec.specs.Format.{lengthAnswer}
-use Rattle.codec.proofs.Lending.{length-barred}
+use Rattle.codec.proofs.Lending.{length-refused-value}
 use Rattle.path.specs.Flat.{pathIn}
 use Rattle.grouping.specs.Record.{areaWith}
 use Rattle.entry.specs.Record.{entryWith}
@@ -19,7 +19,7 @@ returns c =
     let then1 : tie.Then1 = search in
     let s : tie.Start = search in
     let bad = area-unmarked (now (s .args .area)) (sym (marked .is-marked .ensures) ∙ not-true (marked .is-marked .result) (then1 .if1 .taken)) in
-    told-as (c .tell-length .ensures) (length-barred (againstNamespaceArea (now (s .args .namespace)) (areaIn (now (s .args .area)))) (entryIn (now (s .args .entry))) 5 (rw bad))
+    told-as (c .tell-length .ensures) (length-refused-value (againstNamespaceArea (now (s .args .namespace)) (areaIn (now (s .args .area)))) (entryIn (now (s .args .entry))) 5 (rw bad))
 
 returns-2 : tie.Need-returns-2
 returns-2 c =

@@ -1,9 +1,9 @@
 use Rattle.codec.proofs.Prelude.{ap, now, needs}
 use Rattle.calls.proofs.Calls.{encodes}
-use Rattle.jakepuro.proofs.Tagged.{has-no-bits, has-bits, tagged-barred, tagged-writes}
+use Rattle.jakepuro.proofs.Tagged.{has-no-bits, has-bits, tagged-refused-value, tagged-writes}
 use Rattle.jakepuro.specs.Tagged.{tagged}
 use Rattle.compact_u64.specs.Number.{numberBytes}
-use Rattle.codec.proofs.Lending.{put-barred, no-length}
+use Rattle.codec.proofs.Lending.{put-refused-value, no-length}
 use Rattle.codec.specs.Answers.{outcomeOf}
 use Rattle.jakepuro.proofs.numbers.jakepuro_number_encode.Statement.{statement}
 use Rattle.jakepuro.proofs.numbers.jakepuro_number_encode.Tie as tie
@@ -14,7 +14,7 @@ returns c =
     let start : tie.Start = search in
     let a = start .args in
     let e = has-no-bits (after-width-of .width-of .result) (a .width) (c .before .before .enum-told .given .1) (after-width-of .width-of .ensures) in
-    let p = put-barred (tagged (a .width) .check (a .value)) (numberBytes (a .width) (a .value)) (now (a .buffer)) 5 (tagged-barred (a .width) (a .value) e) in
+    let p = put-refused-value (tagged (a .width) .check (a .value)) (numberBytes (a .width) (a .value)) (now (a .buffer)) 5 (tagged-refused-value (a .width) (a .value) e) in
     (encodes p (c .tell-length .ensures), rw (← (p .0)))
 
 returns-2 : tie.Need-returns-2

@@ -1,7 +1,7 @@
 use Rattle.calls.proofs.Calls.{told-as}
-use Rattle.jakepuro.proofs.Tagged.{has-no-bits, has-bits, tagged-barred, tagged-allowed}
+use Rattle.jakepuro.proofs.Tagged.{has-no-bits, has-bits, tagged-refused-value, tagged-allowed}
 use Rattle.jakepuro.specs.Tagged.{tagged}
-use Rattle.codec.proofs.Lending.{length-barred, length-allowed}
+use Rattle.codec.proofs.Lending.{length-refused-value, length-allowed}
 use Rattle.codec.proofs.Prelude.{needs}
 use Rattle.jakepuro.proofs.numbers.jakepuro_number_len_of_encoding.Statement.{statement}
 use Rattle.jakepuro.proofs.numbers.jakepuro_number_len_of_encoding.Tie as tie
@@ -12,7 +12,7 @@ returns c =
     let start : tie.Start = search in
     let a = start .args in
     let e = has-no-bits (after-width-of .width-of .result) (a .width) (c .before .before .enum-told .given .1) (after-width-of .width-of .ensures) in
-    told-as (c .tell-length .ensures) (length-barred (tagged (a .width)) (a .value) 5 (tagged-barred (a .width) (a .value) e))
+    told-as (c .tell-length .ensures) (length-refused-value (tagged (a .width)) (a .value) 5 (tagged-refused-value (a .width) (a .value) e))
 
 returns-2 : tie.Need-returns-2
 returns-2 c =

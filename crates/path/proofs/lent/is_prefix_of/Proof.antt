@@ -2,7 +2,8 @@ use Rattle.codec.proofs.Prelude.{_≡_, refl, sym, ap, _∙_, _&&_, now, eqb, e
 use Rattle.path.specs.Record.{componentsOf, sized}
 use Rattle.path.specs.Flat.{pathIn}
 use Rattle.path.specs.Prefix.{isPrefix}
-use Rattle.path.specs.Answers.{said, saidIf, countAnswer}
+use Rattle.codec.specs.Answers.{said}
+use Rattle.path.specs.Answers.{saidIf, countAnswer}
 use Rattle.path.proofs.Compare.{prefix-told, prefix-unsaid}
 use Rattle.path.proofs.lent.is_prefix_of.Statement.{statement}
 use Rattle.path.proofs.lent.is_prefix_of.Tie as tie

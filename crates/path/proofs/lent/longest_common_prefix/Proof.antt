@@ -2,7 +2,7 @@ use Rattle.codec.proofs.Prelude.{_≡_, true, sym, ap, _∙_, _&&_, now, not-tr
 use Rattle.codec.proofs.Tests.{and-left, and-right}
 use Rattle.path.specs.Record.{sized}
 use Rattle.path.specs.Flat.{pathIn}
-use Rattle.path.specs.Answers.{said}
+use Rattle.codec.specs.Answers.{said}
 use Rattle.path.proofs.lent.longest_common_prefix.Statement.{statement}
 use Rattle.path.proofs.lent.longest_common_prefix.Tie as tie
 

@@ -2,7 +2,7 @@ use Rattle.codec.proofs.Prelude.{_≡_, refl, sym, ap, _∙_, [], true, ℕ, _�
 use Rattle.codec.specs.Answers.{accepted, refused, answerOf, Gives}
 use Rattle.codec.specs.Reader.{shift}
 use Rattle.codec.specs.declared.Decoded.{Decoded}
-use Rattle.codec.proofs.Answers.{gives-refused, later-accepted, later-refused}
+use Rattle.codec.proofs.Answers.{no-value, gives-refused, later-accepted, later-refused}
 use Rattle.codec.proofs.Lending.{to-end}
 use Rattle.compact_u64.specs.Number.{readStandalone}
 use Rattle.compact_u64.specs.Answers.{numberAnswer}
@@ -13,9 +13,10 @@ use Rattle.path.proofs.Components.{Formed, sized-formed, count-is}
 use Rattle.path.proofs.Records.{lent-known}
 use Rattle.path.proofs.Growing.{in-empty}
 use Rattle.path_suffix.specs.Suffix.{sizesFrom, readSizes}
-use Rattle.path_suffix_decode.specs.Answers.{sizesAnswer}
-use Rattle.path_suffix_decode.proofs.Exits.{no-sizes, sizes-inside}
-use Rattle.path_relative.specs.Records.{readAgainstBy, readTestedBy, readTested}
+use Rattle.path_suffix_decode.specs.declared.DecodedSizes.{DecodedSizes}
+use Rattle.path_suffix_decode.proofs.Exits.{sizes-inside}
+use Rattle.path_relative.specs.Records.{readAgainstBy}
+use Rattle.path_relative.specs.inside.Reading.{readTestedBy, readTested}
 use Rattle.path_relative.proofs.Exits.{against-malformed, against-first, against-sizes, against-above, against-joined}
 use Rattle.path_relative.proofs.Within.{by-refused, by-joined, tested-bounded}
 use Rattle.path_relative_decode.proofs.sized.decode_by.Statement.{statement}
@@ -46,6 +47,9 @@ told2-number c = c .before .before .before .before .before
 abbrev told2-start : tie.After-known-told2 → tie.Start
 told2-start c = told-start (c .before .before .before .before)
 
+abbrev told2-sizes : tie.After-known-told2 → DecodedSizes
+told2-sizes c = c .before .before .before .decode-sizes .result
+
 abbrev tested-told2 : tie.After-decode-tested → tie.After-known-told2
 tested-told2 c = c .before .before .before .before .before
 
@@ -75,14 +79,12 @@ first-inside : (c : tie.After-known-told) → told-start c .args .start + c .bef
 first-inside c = let a = told-start c .args in standalone-inside (a .canonic) (now (a .message)) (a .start) _ _ (shared-are c)
 
 -- the sizes, and where the components begin
-sizes-are : (c : tie.After-known-told2) → let a = told2-start c .args in let h = c .before .sizes .given .0 in
-    readSizes (a .canonic) (drop (a .start + told2-number c .number .given .0 .1 .0) (now (a .message))) ≡ accepted (sizesFrom (h .0) (h .1 .0)) (h .1 .1 .0)
-sizes-are c =
-    let after-decode-sizes : tie.After-decode-sizes = search in
-    sym (after-decode-sizes .decode-sizes .ensures) ∙ ap sizesAnswer (c .before .sizes .given .1)
+sizes-are : (c : tie.After-known-told2) → let a = told2-start c .args in let h = told2-sizes c in
+    readSizes (a .canonic) (drop (a .start + told2-number c .number .given .0 .1 .0) (now (a .message))) ≡ accepted (sizesFrom (h .total) (h .count)) (c .before .sizes-answer .given .0 .0)
+sizes-are c = sym (rw (c .before .sizes-answer .given .1) at (c .before .before .before .decode-sizes .ensures .answer))
 
 begins : (c : tie.After-known-told2)
-    → told2-start c .args .start + told2-number c .number .given .0 .1 .0 + c .before .sizes .given .0 .1 .1 .0 ≤ length (now (told2-start c .args .message))
+    → told2-start c .args .start + told2-number c .number .given .0 .1 .0 + c .before .sizes-answer .given .0 .0 ≤ length (now (told2-start c .args .message))
 begins c = let a = told2-start c .args in sizes-inside (a .canonic) (now (a .message)) (a .start + told2-number c .number .given .0 .1 .0) _ _ (sizes-are c)
 
 -- the path that was read
@@ -90,18 +92,18 @@ abbrev path : tie.After-decode-tested → Path
 path c = pathIn (c .decode-tested .last .1 .1 .1 .1 .1 .1 .1 .0)
 
 -- what follows them
-tested-are : (c : tie.After-decode-tested) → let t = tested-told2 c in let s = told2-start t in let h = t .before .sizes .given .0 in let n = told2-number t .number .given .0 in
+tested-are : (c : tie.After-decode-tested) → let t = tested-told2 c in let s = told2-start t in let h = told2-sizes t in let n = told2-number t .number .given .0 in
     Gives (pathFrom []) (c .decode-tested .result) (path c)
-    (readTested (s .args .within) (s .args .canonic) (reference s) (n .0) (h .0) (h .1 .0) (drop (s .args .start + n .1 .0 + h .1 .1 .0) (now (s .args .message))))
+    (readTested (s .args .within) (s .args .canonic) (reference s) (n .0) (h .total) (h .count) (drop (s .args .start + n .1 .0 + t .before .sizes-answer .given .0 .0) (now (s .args .message))))
 tested-are c =
     let t = tested-told2 c in
     let a = told2-start t .args in
-    rw (to-end (a .start + told2-number t .number .given .0 .1 .0 + t .before .sizes .given .0 .1 .1 .0) (now (a .message))) at (c .decode-tested .ensures)
+    rw (to-end (a .start + told2-number t .number .given .0 .1 .0 + t .before .sizes-answer .given .0 .0) (now (a .message))) at (c .decode-tested .ensures)
 
-tested-at : (c : tie.After-decode-tested) → let t = tested-told2 c in let s = told2-start t in let h = t .before .sizes .given .0 in let n = told2-number t .number .given .0 in
+tested-at : (c : tie.After-decode-tested) → let t = tested-told2 c in let s = told2-start t in let h = told2-sizes t in let n = told2-number t .number .given .0 in
     readTestedBy sized (s .args .within) (s .args .canonic) (reference s) (drop (s .args .start) (now (s .args .message)))
-    ≡ shift (n .1 .0) (shift (h .1 .1 .0)
-    (readTested (s .args .within) (s .args .canonic) (reference s) (n .0) (h .0) (h .1 .0) (drop (s .args .start + n .1 .0 + h .1 .1 .0) (now (s .args .message)))))
+    ≡ shift (n .1 .0) (shift (t .before .sizes-answer .given .0 .0)
+    (readTested (s .args .within) (s .args .canonic) (reference s) (n .0) (h .total) (h .count) (drop (s .args .start + n .1 .0 + t .before .sizes-answer .given .0 .0) (now (s .args .message)))))
 tested-at c =
     let told : tie.After-known-told = search in
     let else1 : tie.Else1 = search in
@@ -110,12 +112,12 @@ tested-at c =
     (against-joined sized _ (reference s) (fits else1) (now (s .args .message)) (s .args .start) _ _ (shared-are told) _ _ _ (sizes-are (tested-told2 c)))
 
 inside : (c : tie.After-known-told3) → let t = tested-told2 (told3-tested c) in let s = told2-start t in
-    s .args .start + told2-number t .number .given .0 .1 .0 + t .before .sizes .given .0 .1 .1 .0 + c .before .answer .given .0 .0 ≤ length (now (s .args .message))
+    s .args .start + told2-number t .number .given .0 .1 .0 + t .before .sizes-answer .given .0 .0 + c .before .answer .given .0 .0 ≤ length (now (s .args .message))
 inside c =
     let j = told3-tested c in
     let t = tested-told2 j in
     let s = told2-start t in
-    let at = s .args .start + told2-number t .number .given .0 .1 .0 + t .before .sizes .given .0 .1 .1 .0 in
+    let at = s .args .start + told2-number t .number .given .0 .1 .0 + t .before .sizes-answer .given .0 .0 in
     let e = sym (tested-are j .answer) ∙ ap (λ (d : Decoded). answerOf d (path j)) (c .before .answer .given .1) in
     omega (arith, begins t, tested-bounded (s .args .canonic) (reference s) _ _ _ (s .args .within) .bound (drop at (now (s .args .message))) _ _ e, length-drop at (now (s .args .message)))
 
@@ -131,9 +133,9 @@ returns-2 c =
     let else1 : tie.Else1 = search in
     let clear : tie.After-clear = search in
     let s : tie.Start = search in
-    let x = refused-number (pathFrom []) (after-decode .decode .result) (c .before .match .keys2) in
+    let x = refused-number (after-decode .decode .result) (c .before .match .keys2) in
     let e = against-first sized _ (reference s) (fits else1) (now (s .args .message)) (s .args .start) (x .why) (sym (after-decode .decode .ensures) ∙ x .number) in
-    rw (c .refusal .ensures, clear .clear .ensures, in-empty) (gives-refused (x .why) (x .whole) (refuses s (x .why) e))
+    rw (clear .clear .ensures, in-empty) (gives-refused (x .why) (x .whole (pathFrom []) (c .unvalued .result) (c .unvalued .ensures)) (refuses s (x .why) e))
 
 add-first : tie.Need-add-first
 add-first c = omega (arith, first-inside c)
@@ -145,9 +147,9 @@ returns-3 c =
     let else1 : tie.Else1 = search in
     let clear : tie.After-clear = search in
     let s : tie.Start = search in
-    let x = no-sizes (after-decode-sizes .decode-sizes .result) (c .before .match2 .keys2) in
-    let e = against-sizes sized _ (reference s) (fits else1) (now (s .args .message)) (s .args .start) _ _ (shared-are told) (x .why) (sym (after-decode-sizes .decode-sizes .ensures) ∙ x .sizes) in
-    rw (c .sizes-refusal .ensures, clear .clear .ensures, in-empty) (gives-refused (x .why) (x .path) (refuses s (x .why) e))
+    let x = no-value (after-decode-sizes .decode-sizes .result .answer) (c .match2 .keys2) in
+    let e = against-sizes sized _ (reference s) (fits else1) (now (s .args .message)) (s .args .start) _ _ (shared-are told) (x .why) (sym (after-decode-sizes .decode-sizes .ensures .answer) ∙ x .beside _) in
+    rw (clear .clear .ensures, in-empty) (gives-refused (x .why) (x .beside _) (refuses s (x .why) e))
 
 returns-4 : tie.Need-returns-4
 returns-4 c =
@@ -163,8 +165,7 @@ returns-4 c =
 add-at : tie.Need-add-at
 add-at c =
     let told2 : tie.After-known-told2 = search in
-    let start : tie.Start = search in
-    omega (arith, begins told2, short start)
+    omega (arith, begins told2, short (told2-start told2))
 
 sub-rest : tie.Need-sub-rest
 sub-rest c =
@@ -185,13 +186,13 @@ decode-tested-requires c κs =
 returns-5 : tie.Need-returns-5
 returns-5 c = rw (tested-at (c .before)) (later-refused _ _ (c .match3 .keys2) (later-refused _ _ (c .match3 .keys2) (tested-are (c .before))))
 
-add-t24 : tie.Need-add-t24
-add-t24 c =
+add-t25 : tie.Need-add-t25
+add-t25 c =
     let start : tie.Start = search in
     omega (arith, inside c, short start)
 
-add-t29 : tie.Need-add-t29
-add-t29 c =
+add-t30 : tie.Need-add-t30
+add-t30 c =
     let start : tie.Start = search in
     omega (arith, inside c, short start)
 
@@ -205,5 +206,5 @@ decode-by-spec =
     tie.close
     (tie.spec
     (λ c κs. search needs) (λ c κs. search needs) returns (λ c κs. search needs) (λ c. search needs) (λ c κs. search needs) returns-2
-    add-first (λ c κs. search needs) (λ c. search needs) (λ c κs. search needs) returns-3 (λ c κs. search needs) returns-4 add-at
-    sub-rest part-rest-start (λ c. search needs) decode-tested-requires (λ c. search needs) returns-5 add-t24 add-t29 returns-6)
+    add-first (λ c κs. search needs) (λ c. search needs) returns-3 (λ c κs. search needs) returns-4 add-at
+    sub-rest part-rest-start (λ c. search needs) decode-tested-requires (λ c. search needs) returns-5 add-t25 add-t30 returns-6)

@@ -7,8 +7,8 @@ use Rattle.path.specs.Record.{Path, componentsOf}
 use Rattle.path.specs.Flat.{pathIn}
 use Rattle.path.specs.Prefix.{shared}
 use Rattle.path.proofs.Growing.{in-empty}
-use Rattle.path_suffix_decode.specs.After.{readOn}
-use Rattle.path_relative.specs.Records.{readJoined}
+use Rattle.path_suffix_decode.specs.After.{readAfter}
+use Rattle.path_relative.specs.inside.Reading.{readJoined}
 use Rattle.path_relative.proofs.Alike.{on-alike}
 use Rattle.path_relative.proofs.Exits.{joined-on, joined-loose, joined-tested}
 use Rattle.path_relative_decode.proofs.sized.decode_joined.Statement.{statement}
@@ -25,7 +25,7 @@ start c = c .before .before .before .before .before .before .before
 abbrev path : tie.After-enum-told → Path
 path c = pathIn (c .before .before .before .decode-after .last .1 .1 .1 .1 .1 .1 .0)
 
-taken : (c : tie.After-enum-told) → let a = start c .args in readOn (a .canonic) (reference (start c)) (a .k) (a .total) (a .count) (now (a .message)) ≡ accepted (path c) (c .enum-told .given .0 .0)
+taken : (c : tie.After-enum-told) → let a = start c .args in readAfter (a .canonic) (reference (start c)) (a .k) (a .total) (a .count) (now (a .message)) ≡ accepted (path c) (c .enum-told .given .0 .0)
 taken c = sym (c .before .before .before .decode-after .ensures .answer) ∙ ap (λ (d : Decoded). answerOf d (path c)) (c .enum-told .given .1)
 
 -- strictly, the shared count decides

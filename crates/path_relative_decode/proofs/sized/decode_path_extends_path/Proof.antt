@@ -2,7 +2,7 @@ use Rattle.codec.proofs.Prelude.{_≡_, refl, sym, ap, _∙_, List, [], Bool, t
 use Rattle.codec.specs.Answers.{accepted, answerOf, AllBytes, Gives}
 use Rattle.codec.specs.Reader.{shift}
 use Rattle.codec.specs.declared.Decoded.{Decoded}
-use Rattle.codec.proofs.Answers.{gives-refused, later-accepted, later-refused}
+use Rattle.codec.proofs.Answers.{no-value, gives-refused, later-accepted, later-refused}
 use Rattle.codec.proofs.Lending.{to-end}
 use Rattle.path.specs.Record.{Path, componentsOf, pathFrom, sized}
 use Rattle.path.specs.Limits.{totalOf}
@@ -11,10 +11,10 @@ use Rattle.path.proofs.Components.{Formed, sized-formed, whole, total-small}
 use Rattle.path.proofs.Records.{lent-known, span-start}
 use Rattle.path.proofs.Growing.{in-empty}
 use Rattle.path_suffix.specs.Suffix.{sizesFrom, readSizes}
-use Rattle.path_suffix_decode.specs.After.{readMore, readOn}
-use Rattle.path_suffix_decode.specs.Answers.{sizesAnswer}
+use Rattle.path_suffix_decode.specs.After.{readMore, readAfter}
+use Rattle.path_suffix_decode.specs.declared.DecodedSizes.{DecodedSizes}
 use Rattle.path_suffix_decode.proofs.Within.{on-more, more-bounded}
-use Rattle.path_suffix_decode.proofs.Exits.{no-sizes, sizes-inside}
+use Rattle.path_suffix_decode.proofs.Exits.{sizes-inside}
 use Rattle.path_relative.specs.Records.{readExtendsBy}
 use Rattle.path_relative.proofs.Exits.{extends-unformed, extends-sizes, extends-long, extends-many, extends-more}
 use Rattle.path_relative_decode.proofs.sized.decode_path_extends_path.Statement.{
@@ -34,7 +34,7 @@ module _ (p : Path) (is : sized p ≡ true) (n : ℕ) (e : n ≡ p .count) where
   all-total : totalOf (take n (componentsOf p)) ≡ totalOf (componentsOf p)
   all-total = rw (e, whole p (sized-formed is))
 
-  all-more : (canonic : Bool) (total count : ℕ) (m : List ℕ) → readOn canonic p n total count m ≡ readMore canonic (componentsOf p) total count m
+  all-more : (canonic : Bool) (total count : ℕ) (m : List ℕ) → readAfter canonic p n total count m ≡ readMore canonic (componentsOf p) total count m
   all-more canonic total count m = on-more canonic p n total count m is (omega arith) ∙ rw (e, whole p (sized-formed is))
 
 -- earlier places
@@ -43,6 +43,9 @@ start1 c = c .before .before .before .before .before .before
 
 abbrev told-start : tie.After-known-told → tie.Start
 told-start c = start1 (c .before .before .before .before)
+
+abbrev told-sizes : tie.After-known-told → DecodedSizes
+told-sizes c = c .before .before .before .decode-sizes .result
 
 abbrev span-told : tie.After-span → tie.After-known-told
 span-told c = c .before .before
@@ -82,13 +85,11 @@ total-few c =
     omega (arith, total-sum c, total-small _ (here else1))
 
 -- the sizes, and where the components begin
-sizes-are : (c : tie.After-known-told) → let a = told-start c .args in let h = c .before .sizes .given .0 in
-    readSizes (a .canonic) (drop (a .start) (now (a .message))) ≡ accepted (sizesFrom (h .0) (h .1 .0)) (h .1 .1 .0)
-sizes-are c =
-    let after-decode-sizes : tie.After-decode-sizes = search in
-    sym (after-decode-sizes .decode-sizes .ensures) ∙ ap sizesAnswer (c .before .sizes .given .1)
+sizes-are : (c : tie.After-known-told) → let a = told-start c .args in let h = told-sizes c in
+    readSizes (a .canonic) (drop (a .start) (now (a .message))) ≡ accepted (sizesFrom (h .total) (h .count)) (c .before .sizes-answer .given .0 .0)
+sizes-are c = sym (rw (c .before .sizes-answer .given .1) at (c .before .before .before .decode-sizes .ensures .answer))
 
-begins : (c : tie.After-known-told) → told-start c .args .start + c .before .sizes .given .0 .1 .1 .0 ≤ length (now (told-start c .args .message))
+begins : (c : tie.After-known-told) → told-start c .args .start + c .before .sizes-answer .given .0 .0 ≤ length (now (told-start c .args .message))
 begins c = let a = told-start c .args in sizes-inside (a .canonic) (now (a .message)) (a .start) _ _ (sizes-are c)
 
 bytes : (c : tie.After-known-told) → AllBytes (now (told-start c .args .message))
@@ -96,7 +97,7 @@ bytes c i =
     let known : tie.After-shared-slice-known = search in
     omega (arith, known .shared-slice-known .given i)
 
-total-fits : (c : tie.Else2) → totalOf (componentsOf (prefix (span-start1 (c .before)))) + span-told (c .before) .before .sizes .given .0 .0 ≤ 600
+total-fits : (c : tie.Else2) → totalOf (componentsOf (prefix (span-start1 (c .before)))) + told-sizes (span-told (c .before)) .total ≤ 600
 total-fits c = omega (arith, c .if2 .left, total-few (c .before), total-sum (c .before))
 
 -- the path that was read
@@ -104,19 +105,19 @@ abbrev path : tie.After-decode-after → Path
 path c = pathIn (c .decode-after .last .1 .1 .1 .1 .1 .1 .0)
 
 -- what follows the sizes
-after : (c : tie.After-decode-after) → let t = span-told (after-span c) in let s = told-start t in let h = t .before .sizes .given .0 in
-    Gives (pathFrom []) (c .decode-after .result) (path c) (readMore (s .args .canonic) (componentsOf (prefix s)) (h .0) (h .1 .0) (drop (s .args .start + h .1 .1 .0) (now (s .args .message))))
+after : (c : tie.After-decode-after) → let t = span-told (after-span c) in let s = told-start t in let h = told-sizes t in
+    Gives (pathFrom []) (c .decode-after .result) (path c) (readMore (s .args .canonic) (componentsOf (prefix s)) (h .total) (h .count) (drop (s .args .start + t .before .sizes-answer .given .0 .0) (now (s .args .message))))
 after c =
     let else1 : tie.Else1 = search in
     let t = span-told (after-span c) in
     let s = told-start t in
     let a = s .args in
     let on = all-more (prefix s) (fits else1) _ (counted (after-span c .before)) (a .canonic) in
-    rw (to-end (a .start + t .before .sizes .given .0 .1 .1 .0) (now (a .message)), on _ _ _) at (c .decode-after .ensures)
+    rw (to-end (a .start + t .before .sizes-answer .given .0 .0) (now (a .message)), on _ _ _) at (c .decode-after .ensures)
 
-extends-at : (c : tie.After-decode-after) → let t = span-told (after-span c) in let s = told-start t in let h = t .before .sizes .given .0 in
+extends-at : (c : tie.After-decode-after) → let t = span-told (after-span c) in let s = told-start t in let h = told-sizes t in
     readExtendsBy sized (s .args .canonic) (prefix s) (drop (s .args .start) (now (s .args .message)))
-    ≡ shift (h .1 .1 .0) (readMore (s .args .canonic) (componentsOf (prefix s)) (h .0) (h .1 .0) (drop (s .args .start + h .1 .1 .0) (now (s .args .message))))
+    ≡ shift (t .before .sizes-answer .given .0 .0) (readMore (s .args .canonic) (componentsOf (prefix s)) (h .total) (h .count) (drop (s .args .start + t .before .sizes-answer .given .0 .0) (now (s .args .message))))
 extends-at c =
     let else3 : tie.Else3 = search in
     let else1 : tie.Else1 = search in
@@ -136,10 +137,10 @@ returns-2 c =
     let else1 : tie.Else1 = search in
     let clear : tie.After-clear = search in
     let s : tie.Start = search in
-    let x = no-sizes (after-decode-sizes .decode-sizes .result) (c .before .match .keys2) in
-    rw (c .sizes-refusal .ensures, clear .clear .ensures, in-empty)
-    (gives-refused (x .why) (x .path)
-    (extends-sizes sized _ (prefix s) (fits else1) (here else1) (now (s .args .message)) (s .args .start) (x .why) (sym (after-decode-sizes .decode-sizes .ensures) ∙ x .sizes)))
+    let x = no-value (after-decode-sizes .decode-sizes .result .answer) (c .match .keys2) in
+    rw (clear .clear .ensures, in-empty)
+    (gives-refused (x .why) (x .beside _)
+    (extends-sizes sized _ (prefix s) (fits else1) (here else1) (now (s .args .message)) (s .args .start) (x .why) (sym (after-decode-sizes .decode-sizes .ensures .answer) ∙ x .beside _)))
 
 sub-if2 : tie.Need-sub-if2
 sub-if2 c = total-few c
@@ -193,12 +194,12 @@ part-rest-start c =
 returns-5 : tie.Need-returns-5
 returns-5 c = rw (extends-at (c .before)) (later-refused _ _ (c .match2 .keys2) (after (c .before)))
 
-add-t20 : tie.Need-add-t20
-add-t20 c =
+add-t21 : tie.Need-add-t21
+add-t21 c =
     let read : tie.After-decode-after = search in
     let t = span-told (after-span read) in
     let a = told-start t .args in
-    let n = t .before .sizes .given .0 .1 .1 .0 in
+    let n = t .before .sizes-answer .given .0 .0 in
     let e = sym (after read .answer) ∙ ap (λ (d : Decoded). answerOf d (path read)) (c .before .answer .given .1) in
     omega (arith, short (told-start t), begins t, more-bounded (a .canonic) _ _ _ .bound (drop (a .start + n) (now (a .message))) _ _ e, length-drop (a .start + n) (now (a .message)))
 
@@ -211,6 +212,6 @@ pub decode-path-extends-path-spec : {M : Type 1} → statement M
 decode-path-extends-path-spec =
     tie.close
     (tie.spec
-    (λ c κs. search needs) (λ c κs. search needs) returns (λ c κs. search needs) (λ c. search needs) (λ c κs. search needs) returns-2
+    (λ c κs. search needs) (λ c κs. search needs) returns (λ c κs. search needs) (λ c. search needs) returns-2
     (λ c κs. search needs) (λ c κs. search needs) sub-if2 (λ c κs. search needs) returns-3 sub-if3 (λ c κs. search needs) returns-4 add-at
-    sub-rest part-rest-start (λ c. search needs) (λ c κs. search needs) (λ c. search needs) returns-5 add-t20 returns-6)
+    sub-rest part-rest-start (λ c. search needs) (λ c κs. search needs) (λ c. search needs) returns-5 add-t21 returns-6)

@@ -7,7 +7,7 @@ use Rattle.path.specs.Record.{Path, componentsOf}
 use Rattle.path.specs.Flat.{pathIn}
 use Rattle.path.specs.Prefix.{isPrefix}
 use Rattle.path.proofs.Growing.{in-empty}
-use Rattle.path_relative.specs.Records.{readJoined, readTested}
+use Rattle.path_relative.specs.inside.Reading.{readJoined, readTested}
 use Rattle.path_relative.proofs.Within.{joined-told, tested-on, tested-loose, tested-within}
 use Rattle.path_relative_decode.proofs.sized.decode_tested.Statement.{statement}
 use Rattle.path_relative_decode.proofs.sized.decode_tested.Tie as tie

@@ -1,5 +1,5 @@
 use Rattle.codec.proofs.Prelude.{sym, ap, _∙_, now, needs}
-use Rattle.codec.proofs.Lending.{put-barred, same-writing, writes-into}
+use Rattle.codec.proofs.Lending.{put-refused-value, same-writing, writes-into}
 use Rattle.path.specs.Record.{Path, sized}
 use Rattle.path.specs.Flat.{pathIn}
 use Rattle.path.specs.Answers.{comparedAnswer}
@@ -32,13 +32,13 @@ returns c =
 returns-2 : tie.Need-returns-2
 returns-2 c =
     let s : tie.Start = search in
-    writes-into (put-barred (extendsBy sized (reference s) .check (path s)) _ (now (s .args .buffer)) 3
+    writes-into (put-refused-value (extendsBy sized (reference s) .check (path s)) _ (now (s .args .buffer)) 3
     (extends-outside (reference s) (path s) (sym (ap comparedAnswer (c .enum-told2 .given .1)) ∙ c .before .before .is-prefix-of .ensures)))
 
 returns-3 : tie.Need-returns-3
 returns-3 c =
     let s : tie.Start = search in
-    writes-into (put-barred (extendsBy sized (reference s) .check (path s)) _ (now (s .args .buffer)) 5
+    writes-into (put-refused-value (extendsBy sized (reference s) .check (path s)) _ (now (s .args .buffer)) 5
     (extends-malformed (reference s) (path s) (sym (ap comparedAnswer (c .enum-told3 .given .1)) ∙ c .before .before .is-prefix-of .ensures)))
 
 pub encode-path-extends-path-spec : {M : Type 1} → statement M

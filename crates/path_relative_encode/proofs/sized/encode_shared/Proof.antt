@@ -8,7 +8,7 @@ use Rattle.codec.specs.Format.{writeAnswer}
 use Rattle.codec.proofs.Lending.{length-in-room, no-length, to-end, put-end, put-wrote, writes-into}
 use Rattle.compact_u64.specs.Number.{standaloneBytes}
 use Rattle.path_relative.specs.Records.{sharedBy}
-use Rattle.path_relative.proofs.Writing.{rest-denied, short-unchanged, within-by, written-by}
+use Rattle.path_relative.proofs.Writing.{rest-refused-writing, short-unchanged, within-by, written-by}
 use Rattle.path_relative_encode.proofs.sized.encode_shared.Statement.{statement}
 use Rattle.path_relative_encode.proofs.sized.encode_shared.Tie as tie
 
@@ -52,7 +52,7 @@ returns-2 c =
     let none = no-length (w .result) (c .match .keys2) in
     let answer = rw (to-end (n .result) l) at (w .ensures .answer) in
     let bytes = rw (to-end (n .result) l) at (w .ensures .buffer) in
-    let done = rest-denied (standaloneBytes (s .args .k)) (f .encode (path s)) l (n .result) (n .ensures .0) (else1 .if1 .left) (f .check (path s))
+    let done = rest-refused-writing (standaloneBytes (s .args .k)) (f .encode (path s)) l (n .result) (n .ensures .0) (else1 .if1 .left) (f .check (path s))
     (none .why) (w .last .0) (sym answer ∙ none .is) bytes in
     writes-into (none .is ∙ done .0, put-end (n .result) l (w .last .0) ∙ done .1)
 

@@ -1,5 +1,5 @@
 use Rattle.codec.proofs.Prelude.{sym, ap, _∙_, now, needs}
-use Rattle.codec.proofs.Lending.{length-barred, same-length}
+use Rattle.codec.proofs.Lending.{length-refused-value, same-length}
 use Rattle.path.specs.Record.{Path, sized}
 use Rattle.path.specs.Flat.{pathIn}
 use Rattle.path.specs.Answers.{comparedAnswer}
@@ -29,13 +29,13 @@ returns c =
 returns-2 : tie.Need-returns-2
 returns-2 c =
     let s : tie.Start = search in
-    length-barred (extendsBy sized (reference s)) (path s) 3
+    length-refused-value (extendsBy sized (reference s)) (path s) 3
     (extends-outside (reference s) (path s) (sym (ap comparedAnswer (c .enum-told2 .given .1)) ∙ c .before .before .is-prefix-of .ensures))
 
 returns-3 : tie.Need-returns-3
 returns-3 c =
     let s : tie.Start = search in
-    length-barred (extendsBy sized (reference s)) (path s) 5
+    length-refused-value (extendsBy sized (reference s)) (path s) 5
     (extends-malformed (reference s) (path s) (sym (ap comparedAnswer (c .enum-told3 .given .1)) ∙ c .before .before .is-prefix-of .ensures))
 
 pub path-extends-path-encoding-len-spec : {M : Type 1} → statement M

@@ -5,7 +5,7 @@ use Rattle.path.proofs.Components.{sized-formed}
 use Rattle.path_suffix.specs.Suffix.{suffixBy}
 use Rattle.codec.specs.Format.{allowed}
 use Rattle.codec.specs.Answers.{outcomeOf}
-use Rattle.codec.proofs.Lending.{length-barred, length-allowed, length-wrote, length-denied, no-length}
+use Rattle.codec.proofs.Lending.{length-refused-value, length-allowed, length-wrote, length-refused-writing, no-length}
 use Rattle.path_relative.specs.Records.{sharedBy}
 use Rattle.path_relative.proofs.Writing.{within-by, long-by}
 use Rattle.path_relative_encode.proofs.sized.shared_len.Statement.{statement}
@@ -31,7 +31,7 @@ returns : tie.Need-returns
 returns c =
     let s : tie.Start = search in
     let none = no-length (c .before .suffix-len .result) (c .match .keys2) in
-    none .is ∙ length-barred (sharedBy sized (s .args .k)) (path s) (none .why) (length-denied (suffixBy sized (s .args .k)) (path s) (none .why) (sym (c .before .suffix-len .ensures) ∙ none .is))
+    none .is ∙ length-refused-value (sharedBy sized (s .args .k)) (path s) (none .why) (length-refused-writing (suffixBy sized (s .args .k)) (path s) (none .why) (sym (c .before .suffix-len .ensures) ∙ none .is))
 
 add-t7 : tie.Need-add-t7
 add-t7 c =

@@ -1,6 +1,6 @@
 use Rattle.codec.proofs.Prelude.{_≡_, sym, _∙_, true, now, arith, not-true, not-false, lt-leb, le-leb, needs}
 use Rattle.codec.specs.Format.{allowed}
-use Rattle.codec.proofs.Lending.{put-barred, put-full, put-fits, writes-into}
+use Rattle.codec.proofs.Lending.{put-refused-value, put-full, put-fits, writes-into}
 use Rattle.path.specs.Record.{sized}
 use Rattle.path.specs.Flat.{pathIn}
 use Rattle.path.proofs.Components.{sized-formed}
@@ -29,13 +29,13 @@ allows c = rw (fits (c .before .before), ← (counted (c .before)), le-leb _ _ (
 returns : tie.Need-returns
 returns c =
     let s : tie.Start = search in
-    writes-into (put-barred _ _ (now (s .args .buffer)) 5 (rw (← (c .before .sized .ensures), not-true (c .before .sized .result) (c .if1 .taken))))
+    writes-into (put-refused-value _ _ (now (s .args .buffer)) 5 (rw (← (c .before .sized .ensures), not-true (c .before .sized .result) (c .if1 .taken))))
 
 returns-2 : tie.Need-returns-2
 returns-2 c =
     let else1 : tie.Else1 = search in
     let s : tie.Start = search in
-    writes-into (put-barred _ _ (now (s .args .buffer)) 3 (rw (fits else1, ← (counted (c .before)), lt-leb _ _ (c .if2 .taken))))
+    writes-into (put-refused-value _ _ (now (s .args .buffer)) 3 (rw (fits else1, ← (counted (c .before)), lt-leb _ _ (c .if2 .taken))))
 
 len-of-requires : tie.Need-len-of-requires
 len-of-requires c κs =

@@ -1,5 +1,5 @@
 use Rattle.codec.proofs.Prelude.{_≡_, sym, _∙_, true, now, arith, not-true, not-false, lt-leb, le-leb, needs}
-use Rattle.codec.proofs.Lending.{length-barred, length-allowed}
+use Rattle.codec.proofs.Lending.{length-refused-value, length-allowed}
 use Rattle.path.specs.Record.{sized}
 use Rattle.path.specs.Flat.{pathIn}
 use Rattle.path.proofs.Components.{sized-formed}
@@ -21,13 +21,13 @@ counted c = c .count .ensures ∙ lent-known _ (sized-formed (fits (c .before)))
 returns : tie.Need-returns
 returns c =
     let s : tie.Start = search in
-    length-barred (suffixBy sized (s .args .k)) (pathIn (now (s .args .path))) 5 (rw (← (c .before .sized .ensures), not-true (c .before .sized .result) (c .if1 .taken)))
+    length-refused-value (suffixBy sized (s .args .k)) (pathIn (now (s .args .path))) 5 (rw (← (c .before .sized .ensures), not-true (c .before .sized .result) (c .if1 .taken)))
 
 returns-2 : tie.Need-returns-2
 returns-2 c =
     let else1 : tie.Else1 = search in
     let s : tie.Start = search in
-    length-barred (suffixBy sized (s .args .k)) (pathIn (now (s .args .path))) 3 (rw (fits else1, ← (counted (c .before)), lt-leb _ _ (c .if2 .taken)))
+    length-refused-value (suffixBy sized (s .args .k)) (pathIn (now (s .args .path))) 3 (rw (fits else1, ← (counted (c .before)), lt-leb _ _ (c .if2 .taken)))
 
 len-of-requires : tie.Need-len-of-requires
 len-of-requires c κs =

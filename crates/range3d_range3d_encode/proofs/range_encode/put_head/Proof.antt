@@ -1,6 +1,6 @@
 use Rattle.codec.proofs.Prelude.{_≡_, ap, _∙_, List, [], _∷_, ℕ, now, needs}
 use Rattle.codec.specs.Format.{over}
-use Rattle.range3d_range3d.specs.Records.{headWith}
+use Rattle.range3d_range3d.specs.inside.Writing.{headWith}
 use Rattle.range3d_range3d.proofs.Writing.{over-two}
 use Rattle.range3d_range3d_encode.proofs.range_encode.put_head.Statement.{statement}
 use Rattle.range3d_range3d_encode.proofs.range_encode.put_head.Tie as tie

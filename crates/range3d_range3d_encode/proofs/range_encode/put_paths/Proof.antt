@@ -1,7 +1,7 @@
 use Rattle.codec.proofs.Prelude.{_≡_, refl, sym, ap, _∙_, List, false, ℕ, _+_, _≤_, arith, now, length, length-append, needs}
 use Rattle.codec.specs.Answers.{outcomeOf, wrote}
 use Rattle.codec.specs.Format.{over, writeAnswer, writeBuffer}
-use Rattle.codec.proofs.Lending.{put-fits, no-length, written-is, wrote-not-denied}
+use Rattle.codec.proofs.Lending.{put-fits, no-length, written-is, wrote-not-refused-writing}
 use Rattle.path.specs.Record.{sized}
 use Rattle.path.specs.Flat.{pathIn}
 use Rattle.path_relative.specs.Records.{sharedBy}
@@ -57,7 +57,7 @@ returns : tie.Need-returns
 returns c =
     let after-encode-shared : tie.After-encode-shared = search in
     let none = no-length (after-encode-shared .encode-shared .result) (c .match .keys2) in
-    absurd (wrote-not-denied _ (none .why) (sym (answer after-encode-shared) ∙ none .is))
+    absurd (wrote-not-refused-writing _ (none .why) (sym (answer after-encode-shared) ∙ none .is))
 
 returns-2 : tie.Need-returns-2
 returns-2 c =

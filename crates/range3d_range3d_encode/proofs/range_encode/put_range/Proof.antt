@@ -4,9 +4,9 @@ use Rattle.codec.proofs.Lending.{put-full, put-fits, writes-into}
 use Rattle.path.specs.Flat.{pathIn}
 use Rattle.range_3d.specs.Record.{Range3d, rangeWith, subspacesOf}
 use Rattle.range_subspaces.specs.Subspaces.{subspacesBytes}
-use Rattle.range_paths.specs.Records.{bothBytes}
+use Rattle.range_paths.specs.inside.Writing.{bothBytes}
 use Rattle.range_times.specs.Times.{timesBytes}
-use Rattle.range3d_range3d.specs.Records.{headWith, measuredRange}
+use Rattle.range3d_range3d.specs.inside.Writing.{headWith, measuredRange}
 use Rattle.range3d_range3d.proofs.Writing.{measured-long, measured-parts, next-room, over-next, put-next}
 use Rattle.range3d_range3d_encode.proofs.range_encode.put_range.Statement.{statement}
 use Rattle.range3d_range3d_encode.proofs.range_encode.put_range.Tie as tie

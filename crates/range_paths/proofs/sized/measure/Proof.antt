@@ -1,7 +1,8 @@
 use Rattle.codec.proofs.Prelude.{sym, ap, _∙_, now, not-true, not-false, needs}
 use Rattle.path.specs.Flat.{pathIn}
 use Rattle.range_3d.specs.Record.{PathRange}
-use Rattle.range_paths.specs.Records.{pathsWith, nearAnswer}
+use Rattle.range_paths.specs.Records.{pathsWith}
+use Rattle.range_paths.specs.inside.Writing.{nearAnswer}
 use Rattle.range_paths.proofs.Writing.{near-allowed, no-start, end-unsized, no-end, measured-open, measured-closed}
 use Rattle.range_paths.proofs.sized.measure.Statement.{statement}
 use Rattle.range_paths.proofs.sized.measure.Tie as tie

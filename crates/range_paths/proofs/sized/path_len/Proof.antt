@@ -1,7 +1,7 @@
 use Rattle.codec.proofs.Prelude.{sym, ap, _∙_, _≤_, arith, now, length, needs}
 use Rattle.codec.specs.Answers.{outcomeOf}
 use Rattle.codec.proofs.Lawful.{verdict-allowed}
-use Rattle.codec.proofs.Lending.{length-wrote, length-not-denied, no-length}
+use Rattle.codec.proofs.Lending.{length-wrote, length-not-refused-writing, no-length}
 use Rattle.path.specs.Record.{Path, sized}
 use Rattle.path.specs.Flat.{pathIn}
 use Rattle.path_relative.specs.Records.{sharedBy}
@@ -19,7 +19,7 @@ returns : tie.Need-returns
 returns c =
     let s : tie.Start = search in
     let none = no-length (c .before .shared-len .result) (c .match .keys2) in
-    absurd (length-not-denied (sharedBy sized (s .args .k)) (path s) (none .why) (s .pre) (sym (c .before .shared-len .ensures) ∙ none .is))
+    absurd (length-not-refused-writing (sharedBy sized (s .args .k)) (path s) (none .why) (s .pre) (sym (c .before .shared-len .ensures) ∙ none .is))
 
 returns-2 : tie.Need-returns-2
 returns-2 c =

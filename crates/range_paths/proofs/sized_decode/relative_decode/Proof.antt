@@ -7,7 +7,8 @@ use Rattle.path.specs.Record.{Path, pathFrom, sized}
 use Rattle.path.specs.Flat.{pathIn}
 use Rattle.path.proofs.Growing.{in-empty}
 use Rattle.range_3d.specs.Record.{PathRange}
-use Rattle.range_paths.specs.Records.{pathsWith, readSideIn}
+use Rattle.range_paths.specs.Records.{pathsWith}
+use Rattle.range_paths.specs.inside.Reading.{readSideIn}
 use Rattle.range_paths.proofs.DecodeExits.{paths-unsized, no-start, start-within, start-read, no-end, end-within, both-read}
 use Rattle.range_paths.proofs.sized_decode.relative_decode.Statement.{statement}
 use Rattle.range_paths.proofs.sized_decode.relative_decode.Tie as tie

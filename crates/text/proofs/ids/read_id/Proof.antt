@@ -1,15 +1,15 @@
-use Rattle.codec.proofs.Prelude.{_≡_, _∙_, sym, now, arith, needs}
-use Rattle.text.specs.declared.Hex.the-variants.{Bytes}
-use Rattle.text.specs.Fields.{readHex}
+use Rattle.codec.proofs.Prelude.{_≡_, _∙_, ap, sym, now, arith, needs}
+use Rattle.codec.specs.Answers.{said}
+use Rattle.text.specs.Fields.{readHex, hexAnswer}
 use Rattle.text.proofs.HexAnswers.{hex-refused, some-bytes}
 use Rattle.text.proofs.IdSteps.{id-other-length, id-refused, id-read}
 use Rattle.text.proofs.ids.read_id.Statement.{statement}
 use Rattle.text.proofs.ids.read_id.Tie as tie
 
-hex-here : (c : tie.After-known-told) → Bytes (c .before .got .given .0 .0) ≡ readHex (now (c .before .before .before .before .before .before .before .args .s)) 32
+hex-here : (c : tie.After-known-told) → said (c .before .got .given .0 .0) ≡ readHex (now (c .before .before .before .before .before .before .before .args .s)) 32
 hex-here c =
     let after-read-hex : tie.After-read-hex = search in
-    sym (c .before .got .given .1) ∙ after-read-hex .read-hex .ensures .0
+    sym (ap hexAnswer (c .before .got .given .1)) ∙ after-read-hex .read-hex .ensures .0
 
 returns : tie.Need-returns
 returns c =

@@ -1,0 +1,7 @@
+-- What the header's private functions ask: that the tags fit their bits.
+use Prim.Native.Nat.{_<_}
+use Rattle.range_times.specs.declared.RangeTimesHeader.{RangeTimesHeader}
+
+pub record HeaderFits (h : RangeTimesHeader) : Type 0 where
+  pub start : h .«start_tag» < 4
+  pub end : h .«end_tag» < 4
