@@ -6,7 +6,7 @@ use Rattle.codec.specs.Lawful.{Lawful}
 use Rattle.codec.specs.Demand3.{Demand3}
 use Rattle.codec.proofs.Bytes.{AllBytes·drop}
 use Rattle.codec.proofs.Lawful.{exactly, one-value, same-whatever-follows}
-use Rattle.codec.proofs.Writings.{made, same-bytes-same-values}
+use Rattle.codec.proofs.Writings.{writings-made, same-bytes-same-values}
 
 pub demand3 : {A : Type 0} (Typed : A → Type 0) (f : Format A) (strict : Reader A) → Lawful Typed f strict → Demand3 Typed f strict
 demand3 Typed f strict L = record {
@@ -14,6 +14,6 @@ demand3 Typed f strict L = record {
   unique = one-value Typed f strict L;
   follows = same-whatever-follows Typed f strict L;
   short = L .cut;
-  lists = made f Typed strict L;
-  apart = same-bytes-same-values f Typed strict L;
+  lists = writings-made f Typed strict L;
+  distinct = same-bytes-same-values f Typed strict L;
 }

@@ -59,21 +59,21 @@ reads-of Typed f strict L = record {
 }
 
 -- ---- the same values in another shape
-module _ {A B : Type 0} (TA : A → Type 0) (f : Format A) (TB : B → Type 0) (apart : B → A) (make : A → B) (check : B → Verdict)
-    (out : (b : B) → Valid TB (reshaped f apart check) b → Valid TA f (apart b) × (make (apart b) ≡ b))
-    (in' : (a : A) → Valid TA f a → Valid TB (reshaped f apart check) (make a) × (apart (make a) ≡ a)) where
-  pub reshaped-there : (b : B) (e : List ℕ) → Mapped make (Writes TA f) b e → Writes TB (reshaped f apart check) b e
+module _ {A B : Type 0} (TA : A → Type 0) (f : Format A) (TB : B → Type 0) (view : B → A) (make : A → B) (check : B → Verdict)
+    (out : (b : B) → Valid TB (reshaped f view check) b → Valid TA f (view b) × (make (view b) ≡ b))
+    (in' : (a : A) → Valid TA f a → Valid TB (reshaped f view check) (make a) × (view (make a) ≡ a)) where
+  pub reshaped-there : (b : B) (e : List ℕ) → Mapped make (Writes TA f) b e → Writes TB (reshaped f view check) b e
   reshaped-there b e m =
       let y = in' (m .value) (m .stands .valid) in
       rw (← (m .named)) (record { valid = y .0; bytes = m .stands .bytes ∙ ap (f .encode) (sym (y .1)) })
 
-  pub reshaped-back : (b : B) (e : List ℕ) → Writes TB (reshaped f apart check) b e → Mapped make (Writes TA f) b e
+  pub reshaped-back : (b : B) (e : List ℕ) → Writes TB (reshaped f view check) b e → Mapped make (Writes TA f) b e
   reshaped-back b e w =
       let x = out b (w .valid) in
-      record { value = apart b; named = x .1; stands = record { valid = x .0; bytes = w .bytes } }
+      record { value = view b; named = x .1; stands = record { valid = x .0; bytes = w .bytes } }
 
-  pub reshaped-lawful : (strict : Reader A) → Lawful TA f strict → Lawful TB (reshaped f apart check) (mapped make strict)
+  pub reshaped-lawful : (strict : Reader A) → Lawful TA f strict → Lawful TB (reshaped f view check) (mapped make strict)
   reshaped-lawful strict L =
-      lawful-of TB (reshaped f apart check) (mapped make strict)
+      lawful-of TB (reshaped f view check) (mapped make strict)
       (reads-as _ _ _ (mapped-reads make strict (Writes TA f) (reads-of TA f strict L)) reshaped-there reshaped-back)
       (rw (L .empty))

@@ -92,8 +92,8 @@ module _ {A : Type 0} (f : Format A) where
           cc (same-bytes-same-values vs ws (p .1) (q .1) rest)
 
       -- ---- the claim whole
-      pub made : (vs : List A) → All Typed vs → (lent : List ℕ) → Made f strict vs lent (writeAll f vs 0 lent)
-      made vs ok lent =
+      pub writings-made : (vs : List A) → All Typed vs → (lent : List ℕ) → Made f strict vs lent (writeAll f vs 0 lent)
+      writings-made vs ok lent =
           let r = run vs [] lent 0 lent refl refl refl in
           let acc = acceptedOf f vs (length lent) in
           let fits : length (bytesOf f acc) ≤ length lent = accepted-fits vs (length lent) in

@@ -23,4 +23,4 @@ pub record Demand3 {A : Type 0} (Typed : A → Type 0) (f : Format A) (strict : 
   -- every list of writings, refused ones included, in a lent buffer of any length and content
   pub lists : (vs : List A) → All Typed vs → (lent : List ℕ) → Made f strict vs lent (writeAll f vs 0 lent)
   -- two different lists of values that writing does not refuse never make the same bytes
-  pub apart : (vs ws : List A) → All (Valid Typed f) vs → All (Valid Typed f) ws → bytesOf f vs ≡ bytesOf f ws → vs ≡ ws
+  pub distinct : (vs ws : List A) → All (Valid Typed f) vs → All (Valid Typed f) ws → bytesOf f vs ≡ bytesOf f ws → vs ≡ ws

@@ -77,6 +77,6 @@ pub record WritesInto {A : Type 0} (f : Format A) (v : A) (e : Encoded) (lent le
   pub answer : outcomeOf e ≡ writeAnswer f v (length lent)
   pub buffer : left ≡ writeBuffer f v lent
 
--- the values of a format in another shape: apart takes a value to the format's own
+-- the values of a format in another shape: view takes a value to the format's own
 abbrev pub reshaped : {A B : Type 0} → Format A → (B → A) → (B → Verdict) → Format B
-reshaped f apart check = record { check = check; encode = λ b. f .encode (apart b) }
+reshaped f view check = record { check = check; encode = λ b. f .encode (view b) }

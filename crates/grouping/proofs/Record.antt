@@ -8,7 +8,7 @@ use Rattle.codec.proofs.Tests.{and-left, and-right}
 use Rattle.path.specs.Limits.{PathOk}
 use Rattle.path.specs.Record.{componentsOf, pathFrom}
 use Rattle.path.proofs.Limits.{typed-of}
-use Rattle.path.proofs.Record.{well-formed, formed-well, apart, made, components-of}
+use Rattle.path.proofs.Record.{well-formed, formed-well, apart-path, made-path, components-of}
 use Rattle.grouping.specs.declared.AreaSubspace.{AreaSubspace}
 use Rattle.grouping.specs.Record.{Area, subspaceOf, subspaceFrom, areaOf, areaFrom, wellFormedSubspace, wellFormedArea, TypedArea}
 use Rattle.grouping.specs.Area.{AreaValue, TypedSubspace}
@@ -51,7 +51,7 @@ pub apart-area : (a : Area) → TypedArea a → wellFormedArea a ≡ true → Ap
 unfolding wellFormedArea areaFrom
 apart-area a t w =
     let s = subspace-back (a .subspace) (and-left _ _ w) in
-    let p = apart (a .path) (t .path) (well-formed (a .path) (and-right (wellFormedSubspace (a .subspace)) _ w)) in
+    let p = apart-path (a .path) (t .path) (well-formed (a .path) (and-right (wellFormedSubspace (a .subspace)) _ w)) in
     record {
       typed = record { subspace = subspace-typed (a .subspace) (t .long) (t .bytes); path = typed-of (componentsOf (a .path)) (p .ok .all); times = t .times };
       ok = p .ok;
@@ -67,7 +67,7 @@ pub made-area : (v : AreaValue) → TypedValue v → PathOk (v .path) → MadeAr
 unfolding wellFormedArea areaFrom
 made-area v t ok =
     let s = made-subspace (v .subspace) (t .subspace) in
-    let p = made (v .path) ok in
+    let p = made-path (v .path) ok in
     record {
       typed = record { long = s .long; bytes = s .bytes; path = p .typed; times = t .times };
       well = rw (s .well, formed-well (pathFrom (v .path)) (p .well));

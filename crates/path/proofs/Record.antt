@@ -69,8 +69,8 @@ pub record Apart (p : Path) : Type 0 where
   pub ok : PathOk (componentsOf p)
   pub made : pathFrom (componentsOf p) ≡ p
 
-pub apart : (p : Path) → TypedPath p → WellFormed p → Apart p
-apart p t w =
+pub apart-path : (p : Path) → TypedPath p → WellFormed p → Apart p
+apart-path p t w =
     let fits : sumOf (used p) ≤ length (p .bytes) = omega (arith, t .bytes, w .total) in
     let r = cut (used p) (p .bytes) fits in
     let count : length (componentsOf p) ≡ p .count = r .count ∙ length-take-le (p .count) (p .lengths) (omega (arith, t .lengths, w .count)) in
@@ -115,9 +115,9 @@ pub record Made (cs : List (List ℕ)) : Type 0 where
   pub typed : TypedPath (pathFrom cs)
   pub well : WellFormed (pathFrom cs)
 
-pub made : (cs : List (List ℕ)) → PathOk cs → Made cs
+pub made-path : (cs : List (List ℕ)) → PathOk cs → Made cs
 unfolding pathFrom
-made cs h =
+made-path cs h =
     let total = h .total in
     let count = h .count in
     let lj = length-joined cs in

@@ -11,7 +11,7 @@ use Rattle.codec.proofs.Demand3.{demand3}
 use Rattle.path.specs.Record.{Path, componentsOf, pathFrom, sized, wellFormed, TypedPath}
 use Rattle.path.specs.Limits.{totalOf, limits, pathOk, PathOk, TypedComponents}
 use Rattle.path.proofs.Limits.{limits-total, limits-count, limits-of, path-ok, ok-path, typed-of}
-use Rattle.path.proofs.Record.{well-formed, formed-well, apart, made, components-of}
+use Rattle.path.proofs.Record.{well-formed, formed-well, apart-path, made-path, components-of}
 use Rattle.path.proofs.Components.{well-sized}
 use Rattle.path_suffix.specs.Suffix.{suffixBytes, readSuffix, suffixBy}
 use Rattle.path_suffix.proofs.Relations.{SuffixAs}
@@ -24,13 +24,13 @@ module _ (inside : List (List ℕ) → Bool) (encode : List (List ℕ) → List 
   record-out : (p : Path) → Valid TypedPath (onRecords inside encode) p → Valid TypedComponents (onComponents inside encode) (componentsOf p) × (pathFrom (componentsOf p) ≡ p)
   record-out p v =
       let ok = verdict-allowed (wellFormed p) (inside (componentsOf p)) (v .allows) in
-      let x = apart p (v .typed) (well-formed p (ok .0)) in
+      let x = apart-path p (v .typed) (well-formed p (ok .0)) in
       (record { typed = typed-of (componentsOf p) (x .ok .all); allows = rw (ok-path (componentsOf p) (x .ok), ok .1) }, x .made)
 
   record-in : (cs : List (List ℕ)) → Valid TypedComponents (onComponents inside encode) cs → Valid TypedPath (onRecords inside encode) (pathFrom cs) × (componentsOf (pathFrom cs) ≡ cs)
   record-in cs v =
       let ok = verdict-allowed (pathOk cs) (inside cs) (v .allows) in
-      let x = made cs (path-ok cs (v .typed) (ok .0)) in
+      let x = made-path cs (path-ok cs (v .typed) (ok .0)) in
       (record { typed = x .typed; allows = rw (formed-well (pathFrom cs) (x .well), components-of cs, ok .1) }, components-of cs)
 
   pub on-records : (strict : Reader (List (List ℕ))) → Lawful TypedComponents (onComponents inside encode) strict → Lawful TypedPath (onRecords inside encode) (mapped pathFrom strict)

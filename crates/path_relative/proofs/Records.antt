@@ -11,7 +11,7 @@ use Rattle.path.specs.Record.{Path, componentsOf, wellFormed, TypedPath}
 use Rattle.path.specs.Limits.{pathOk, PathOk, TypedComponents}
 use Rattle.path.specs.Prefix.{isPrefix}
 use Rattle.path.proofs.Limits.{path-ok, ok-path, typed-of}
-use Rattle.path.proofs.Record.{well-formed, apart}
+use Rattle.path.proofs.Record.{well-formed, apart-path}
 use Rattle.path.proofs.Prefix.{prefix-takes, takes-prefix}
 use Rattle.path_codec.proofs.Components.{onComponents}
 use Rattle.path_codec.proofs.Plain.{on-records, back-on-records}
@@ -24,7 +24,7 @@ use Rattle.path_relative.proofs.Extension.{extension-reads, extension-b
 
 module _ (r : Path) (t : TypedPath r) (w : wellFormed r ≡ true) where
   reference : PathOk (componentsOf r)
-  reference = apart r t (well-formed r w) .ok
+  reference = apart-path r t (well-formed r w) .ok
 
   -- ---- against a path
   against-writes : (p : List (List ℕ)) (e : List ℕ) → AgainstAs (componentsOf r) p e → Writes TypedComponents (onComponents (λ p. true) (againstBytes (componentsOf r))) p e

@@ -7,7 +7,7 @@ use Rattle.path.specs.Record.{Path, componentsOf, pathFrom, wellFormed, TypedPa
 use Rattle.path.specs.Limits.{totalOf, Component, PathOk}
 use Rattle.path.specs.Prefix.{shared}
 use Rattle.path.proofs.Limits.{total-append, all-append, all-take}
-use Rattle.path.proofs.Record.{well-formed, formed-well, apart, made}
+use Rattle.path.proofs.Record.{well-formed, formed-well, apart-path, made-path}
 use Rattle.path_suffix.proofs.Yields.{suffix-yields}
 use Rattle.path_relative.specs.Against.{joinOk, readAgainst}
 use Rattle.path_relative.specs.Records.{readAgainstPath}
@@ -31,8 +31,8 @@ against-yields r wf canonic =
 
 module _ (r : Path) (t : TypedPath r) (w : wellFormed r ≡ true) (canonic : Bool) where
   well-of : (cs : List (List ℕ)) → PathOk cs → TypedPath (pathFrom cs) × (wellFormed (pathFrom cs) ≡ true)
-  well-of cs ok = let m = made cs ok in (m .typed, formed-well (pathFrom cs) (m .well))
+  well-of cs ok = let m = made-path cs ok in (m .typed, formed-well (pathFrom cs) (m .well))
 
   pub against-path-yields : Yields (readAgainstPath canonic r) (λ p. TypedPath p × (wellFormed p ≡ true))
   unfolding readAgainstPath
-  against-path-yields = rw w (mapped-yields pathFrom _ _ (yields-as _ _ _ (against-yields (componentsOf r) (apart r t (well-formed r w) .ok) canonic) well-of))
+  against-path-yields = rw w (mapped-yields pathFrom _ _ (yields-as _ _ _ (against-yields (componentsOf r) (apart-path r t (well-formed r w) .ok) canonic) well-of))

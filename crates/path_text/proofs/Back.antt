@@ -9,7 +9,7 @@ use Rattle.text.proofs.Back.{hex-back}
 use Rattle.path.specs.Record.{Path, componentsOf, pathFrom, wellFormed, TypedPath}
 use Rattle.path.specs.Limits.{Component, PathOk}
 use Rattle.path.proofs.Limits.{ok-path}
-use Rattle.path.proofs.Record.{apart, well-formed}
+use Rattle.path.proofs.Record.{apart-path, well-formed}
 use Rattle.path.proofs.Components.{parts-formed, count-is, total-small}
 use Rattle.path_text.specs.PathText.{tailText, componentsText, pathText, componentsTextOf, pathTextOf, readField, allHex, readTexts, readComponentsText, readPathText}
 use Rattle.path_text.specs.Laws.{PathTextLaws}
@@ -74,7 +74,7 @@ path-back (c ∷ cs) h = rw (other-text c cs) (components-back c cs h)
 record-back : (p : Path) → TypedPath p → wellFormed p ≡ true → readPathText (pathTextOf p) ≡ readField p
 unfolding pathTextOf
 record-back p t e =
-    let a = apart p t (well-formed p e) in
+    let a = apart-path p t (well-formed p e) in
     rw e (path-back (componentsOf p) (a .ok) ∙ ap readField (a .made))
 
 components-few : (p : Path) → length (componentsTextOf p) ≤ 1219

@@ -5,7 +5,7 @@ use Rattle.codec.proofs.SameBytes.{same-eq}
 use Rattle.codec.proofs.Tests.{and-left, and-right}
 use Rattle.path.specs.Record.{Path, componentsOf, pathFrom, wellFormed, TypedPath}
 use Rattle.path.specs.Limits.{PathOk}
-use Rattle.path.proofs.Record.{well-formed, apart}
+use Rattle.path.proofs.Record.{well-formed, apart-path}
 use Rattle.path.proofs.Components.{well-sized}
 use Rattle.range_3d.specs.declared.SubspaceRange.{SubspaceRange}
 use Rattle.range_3d.specs.Record.{PathRange, Range3d, subspacesOf, subspacesFor, subspacesFrom, pathsOf, pathsFor, pathsFrom, rangeOf, rangeFrom, wellFormedSubspaces, wellFormedPaths, wellFormedRange3d, sizedPaths, TypedSubspaces, TypedPaths, TypedRange3d}
@@ -46,10 +46,10 @@ unfolding sizedPaths
 well-sized-paths p w = rw (well-sized (p .start) (formed-paths p w .start)) (well-sized (p .end) (formed-paths p w .end))
 
 path-ok : (p : Path) → TypedPath p → wellFormed p ≡ true → PathOk (componentsOf p)
-path-ok p t w = apart p t (well-formed p w) .ok
+path-ok p t w = apart-path p t (well-formed p w) .ok
 
 path-made : (p : Path) → TypedPath p → wellFormed p ≡ true → pathFrom (componentsOf p) ≡ p
-path-made p t w = apart p t (well-formed p w) .made
+path-made p t w = apart-path p t (well-formed p w) .made
 
 -- a well-formed path of no components is the empty path
 empty-made : (p : Path) → TypedPath p → wellFormed p ≡ true → p .count ≡ 0 → pathFrom [] ≡ p

@@ -7,7 +7,7 @@
 --   short    cut short anywhere, what was written is 1;
 --   lists    for every list of writings, refused ones included, in one lent buffer of any length and content: every answer, the place, the whole
 --            buffer, the readings back whatever follows, and one more that gives 1;
---   apart    two different lists of values that writing does not refuse never make the same bytes.
+--   distinct two different lists of values that writing does not refuse never make the same bytes.
 -- The hypotheses: the reference is well formed, and it and the values are values of the code's types.
 use mathlib.Core.Path.{_≡_}
 use mathlib.Core.List.{List}
