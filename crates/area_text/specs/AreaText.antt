@@ -1,5 +1,5 @@
 -- The text of an area's fields: docs/CASES.md. `*` is any subspace, or an open end.
-use mathlib.Core.List.{List, []}
+use mathlib.Core.List.{List}
 use mathlib.Core.Bool.{true, false, cond}
 use mathlib.Core.Option.{none, some}
 use Prim.Native.Nat.{ℕ}

@@ -1,5 +1,5 @@
 -- The answer to a case line: docs/CASES.md.
-use mathlib.Core.List.{List, []}
+use mathlib.Core.List.{List}
 use mathlib.Core.Bool.{cond}
 use Prim.Native.Nat.{ℕ}
 use lib.Dec.{leb}

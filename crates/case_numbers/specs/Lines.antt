@@ -1,5 +1,5 @@
 -- Case lines of compact numbers: docs/CASES.md.
-use mathlib.Core.List.{List, []}
+use mathlib.Core.List.{List}
 use mathlib.Core.Bool.{Bool, true, false, cond}
 use Prim.Native.Nat.{ℕ, _^_}
 use lib.Dec.{ltb}

@@ -1,6 +1,6 @@
 -- The fields of a line, parted by tabs. What is not in its form is answered 6.
 use mathlib.Core.Path.{_≡_}
-use mathlib.Core.List.{List, []}
+use mathlib.Core.List.{List}
 use mathlib.Core.Bool.{Bool, cond}
 use Prim.Native.Nat.{ℕ, _+_}
 use lib.Dec.{eqb}

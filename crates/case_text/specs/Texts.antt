@@ -1,5 +1,5 @@
 -- The text of an answer: docs/CASES.md.
-use mathlib.Core.List.{List, [], _++_}
+use mathlib.Core.List.{List, _++_}
 use Prim.Native.Nat.{ℕ}
 use Rattle.codec.specs.Answers.{Answer, accepted, refused, Outcome, wrote, refusedWriting}
 use Rattle.text.specs.Decimal.{decimalText}

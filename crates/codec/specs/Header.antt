@@ -1,6 +1,5 @@
 -- docs/FORMAT.md, "Headers": a header byte by the places of its parts: bit 0 is the highest.
 use mathlib.Core.Path.{_≡_}
-use mathlib.Core.List.{[]}
 use mathlib.Core.Bool.{Bool, true, false, cond}
 use Prim.Native.Nat.{ℕ, zero, suc, _-_, _*_, _/_, _%_, _^_, _<_}
 use lib.Dec.{eqb}

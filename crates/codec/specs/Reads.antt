@@ -1,6 +1,6 @@
 -- What a reader's laws say. They are relative to a relation W: `W a e` says that the bytes e stand for the value a.
 use mathlib.Core.Path.{_≡_}
-use mathlib.Core.List.{List, [], _++_}
+use mathlib.Core.List.{List, _++_}
 use Prim.Native.Nat.{ℕ, _≤_, _<_}
 use lib.ListN.{length, take}
 use Rattle.codec.specs.Answers.{accepted, refused, AllBytes}
@@ -33,5 +33,3 @@ pub record Bounded {A : Type 0} (r : Reader A) : Type 0 where
 -- every value read has the fact P, in whatever form it was written
 pub record Yields {A : Type 0} (r : Reader A) (P : A → Type 0) : Type 0 where
   pub holds : (s : List ℕ) (a : A) (n : ℕ) → AllBytes s → r s ≡ accepted a n → P a
-
--- ---- the relations of the readers of specs/Reader.antt

@@ -1,5 +1,4 @@
 -- What the structs of the code stand for, with the numbers of docs/FORMAT.md, "Refusals".
-use mathlib.Core.List.{[]}
 use Rattle.path_suffix.specs.Suffix.{Sizes, sizesFrom}
 
 -- the sizes beside a refusal

@@ -54,5 +54,3 @@ readIncluded canonic r added tag =
     mapped (timeAt r added) (
     checked (λ d. isIncluded canonic r added d (timeAt r added d)) (
     readNumber canonic 2 tag))
-
--- ---- the laws: the bytes e after the flag and the tag are what writing the time x gives
