@@ -17,7 +17,7 @@ use Rattle.grouping.specs.Area.{AreaValue}
 use Rattle.grouping.specs.Answers.{emptyArea, ReadsArea, headRefusal}
 use Rattle.grouping.proofs.Record.{subspace-back}
 use Rattle.area_times.specs.declared.AreaHeader.{AreaHeader}
-use Rattle.area_times.specs.Header.{unpackHeader, spareBits}
+use Rattle.area_times.specs.Header.{headerLength, unpackHeader, spareBits}
 use Rattle.area_times.specs.Times.{readTimes}
 use Rattle.area_area.specs.Area.{sameId, readSubspace, readParts, readArea}
 use Rattle.area_area.specs.Records.{readAgainstArea}
@@ -116,7 +116,7 @@ module _ (canonic : Bool) (r : Area) (w : wellFormedArea r ≡ true) (s : List �
     tested-spare c e = rw (w, drop-cons s i 0 h, c, e)
 
     pub tested-parts : (canonic ≡ true → spareBits (unpackHeader (getD s i 0)) ≡ false) → readAgainstArea canonic r (drop i s)
-        ≡ shift 1 (mapped areaFrom (readParts canonic (areaOf r) (unpackHeader (getD s i 0))) (drop (i + 1) s))
+        ≡ shift headerLength (mapped areaFrom (readParts canonic (areaOf r) (unpackHeader (getD s i 0))) (drop (i + headerLength) s))
     unfolding readAgainstArea readArea
     tested-parts f =
         rw (w, drop-cons s i 0 h, unspared canonic f, add-one i) (later (readParts canonic (areaOf r) (unpackHeader (getD s i 0)) (drop (suc i) s)))
@@ -125,6 +125,6 @@ module _ (canonic : Bool) (r : Area) (w : wellFormedArea r ≡ true) (s : List �
         unspared true g = rw (g refl)
         unspared false g = refl
 
-        later : (x : Answer AreaValue) → named areaFrom (shift 1 x) ≡ shift 1 (named areaFrom x)
+        later : (x : Answer AreaValue) → named areaFrom (shift headerLength x) ≡ shift headerLength (named areaFrom x)
         later (accepted v n) = refl
         later (refused k) = refl

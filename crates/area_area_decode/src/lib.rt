@@ -9,16 +9,18 @@ ghost use Rattle.path.specs.Record.{pathFrom};
 ghost use Rattle.path.specs.Flat.{pathIn};
 ghost use Rattle.grouping.specs.Record.{areaWith, areaOf, areaFrom, wellFormedArea};
 ghost use Rattle.grouping.specs.Answers.{ReadsArea};
+ghost use Rattle.area_times.specs.Header.{headerLength};
 ghost use Rattle.area_area.specs.Area.{readParts};
 ghost use Rattle.area_area.specs.Records.{readAgainstArea};
 use area_times::AreaHeader;
+use area_times::area_header::HEADER_LENGTH;
 use codec::Decoded;
 use grouping::AreaHead;
 use grouping::DecodedAreaHead;
 
 mod area_decode;
 
-// Reads what follows the header, whose byte is counted too.
+// Reads what follows the header, which is counted too.
 fn decode_parts(
     message: &[u8],
     canonic: bool,
@@ -27,8 +29,8 @@ fn decode_parts(
     reference_path: &[u8],
     out: &mut [u8; 641],
 ) -> DecodedAreaHead
-    requires { ⌜ (wellFormedArea (areaWith reference (pathIn (now «reference_path»))) ≡ true) × (pathIn (now out) ≡ pathFrom []) × (1 + length (now message) < 2 ^ 64) ⌝ }
-    ensures { λ r. ⌜ ReadsArea r (now (out .exit)) (shift 1 (mapped areaFrom (readParts canonic (areaOf (areaWith reference (pathIn (now («reference_path» .entry))))) header) (now (message .entry)))) ⌝ }
+    requires { ⌜ (wellFormedArea (areaWith reference (pathIn (now «reference_path»))) ≡ true) × (pathIn (now out) ≡ pathFrom []) × (headerLength + length (now message) < 2 ^ 64) ⌝ }
+    ensures { λ r. ⌜ ReadsArea r (now (out .exit)) (shift headerLength (mapped areaFrom (readParts canonic (areaOf (areaWith reference (pathIn (now («reference_path» .entry))))) header) (now (message .entry)))) ⌝ }
 {
     let first = area_decode::decode_subspace(
         message,
@@ -60,7 +62,7 @@ fn decode_parts(
     let subspace = first.subspace;
     let times = second.times;
     DecodedAreaHead {
-        answer: Decoded::Consumed(1 + (a + (b + c))),
+        answer: Decoded::Consumed(HEADER_LENGTH + (a + (b + c))),
         head: AreaHead {
             subspace: subspace,
             times: times,
@@ -94,7 +96,7 @@ pub fn relative_decode(
             return grouping::refuse_head(Decoded::TheirFault);
         }
     }
-    let at = start + 1;
+    let at = start + HEADER_LENGTH;
     decode_parts(
         &message[at..],
         canonic,

@@ -1,11 +1,13 @@
 // Writing what stands before the path.
 ghost use mathlib.Core.Path.{_≡_};
-ghost use Prim.Native.Nat.{_≤_};
+ghost use Prim.Native.Nat.{_+_, _≤_};
 ghost use lib.ListN.{length};
 ghost use Rattle.codec.specs.Format.{over};
 ghost use Rattle.grouping.specs.Record.{subspaceOf};
+ghost use Rattle.area_times.specs.Header.{headerLength};
 ghost use Rattle.area_area.specs.Area.{idWritten, subspaceBytes, startOf};
 ghost use Rattle.area_area.specs.inside.Writing.{headBytes};
+use area_times::area_header::HEADER_LENGTH;
 use grouping::AreaSubspace;
 use grouping::TimeRange;
 
@@ -54,7 +56,7 @@ fn put_start(
 {
     let written = id_written(subspace, reference);
     buffer[0] = area_times::header_byte(written, times, within);
-    1 + put_subspace(&mut buffer[1..], subspace, reference)
+    HEADER_LENGTH + put_subspace(&mut buffer[HEADER_LENGTH..], subspace, reference)
 }
 
 // How many bytes the header, the id and the times take.
@@ -64,10 +66,10 @@ pub(crate) fn head_len(
     times: TimeRange,
     within: TimeRange,
 ) -> usize
-    ensures { λ r. ⌜ (r ≡ length (headBytes (subspaceOf reference) within (subspaceOf subspace) times)) × (r ≤ 49) ⌝ }
+    ensures { λ r. ⌜ (r ≡ length (headBytes (subspaceOf reference) within (subspaceOf subspace) times)) × (r ≤ headerLength + 48) ⌝ }
 {
     let a = subspace_len(subspace, reference);
-    1 + a + area_times::relative_len_of_encoding(times, within)
+    HEADER_LENGTH + a + area_times::relative_len_of_encoding(times, within)
 }
 
 // The header, the id and the times.

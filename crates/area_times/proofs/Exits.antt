@@ -9,6 +9,7 @@ use Rattle.grouping.specs.declared.TimeRange.{TimeRange}
 use Rattle.grouping.specs.Range.{includesRange, timesFrom}
 use Rattle.time_relative.specs.Difference.{differenceOf, readTime}
 use Rattle.area_times.specs.declared.AreaHeader.{AreaHeader}
+use Rattle.area_times.specs.Header.{startTagWidth, endTagWidth}
 use Rattle.area_times.specs.Times.{timesBytes, readEnd, readTimes}
 
 -- ---- reading
@@ -22,15 +23,15 @@ module _ (canonic : Bool) (r : TimeRange) (h : AreaHeader) (s : List ℕ) where
     unfolding readEnd
     end-open a = rw (o, a)
 
-  pub end-closed : h .«end_open» ≡ false → readEnd canonic r h s ≡ named Closed (readTime canonic r (h .«end_added») (h .«end_tag») s)
+  pub end-closed : h .«end_open» ≡ false → readEnd canonic r h s ≡ named Closed (readTime canonic endTagWidth r (h .«end_added») (h .«end_tag») s)
   unfolding readEnd
   end-closed o = rw o
 
-  pub times-start : (k : ℕ) → readTime canonic r (h .«start_added») (h .«start_tag») s ≡ refused k → readTimes canonic r h s ≡ refused k
+  pub times-start : (k : ℕ) → readTime canonic startTagWidth r (h .«start_added») (h .«start_tag») s ≡ refused k → readTimes canonic r h s ≡ refused k
   unfolding readTimes
   times-start k e = rw e
 
-  module _ (x a : ℕ) (e : readTime canonic r (h .«start_added») (h .«start_tag») s ≡ accepted x a) where
+  module _ (x a : ℕ) (e : readTime canonic startTagWidth r (h .«start_added») (h .«start_tag») s ≡ accepted x a) where
     pub times-end : (k : ℕ) → readEnd canonic r h (drop a s) ≡ refused k → readTimes canonic r h s ≡ refused k
     unfolding readTimes
     times-end k f = rw (e, f)
@@ -46,10 +47,10 @@ module _ (canonic : Bool) (r : TimeRange) (h : AreaHeader) (s : List ℕ) where
 
 -- ---- writing
 module _ (r t : TimeRange) where
-  pub times-open : t .end ≡ Open → timesBytes r t ≡ numberBytes 2 (differenceOf r (t .start) .difference)
+  pub times-open : t .end ≡ Open → timesBytes r t ≡ numberBytes startTagWidth (differenceOf r (t .start) .difference)
   unfolding timesBytes
   times-open e = rw e (append-nil _)
 
-  pub times-closed : (x : ℕ) → t .end ≡ Closed x → timesBytes r t ≡ numberBytes 2 (differenceOf r (t .start) .difference) ++ numberBytes 2 (differenceOf r x .difference)
+  pub times-closed : (x : ℕ) → t .end ≡ Closed x → timesBytes r t ≡ numberBytes startTagWidth (differenceOf r (t .start) .difference) ++ numberBytes endTagWidth (differenceOf r x .difference)
   unfolding timesBytes
   times-closed x e = rw e

@@ -1,5 +1,5 @@
 -- The laws of an area's times against the reference's.
-use Rattle.codec.proofs.Prelude.{_≡_, refl, sym, ap, _∙_, List, Bool, true, false, _&&_, _||_, not, true≢false, false≢true, ℕ, leb, eqb, le-leb, eqb-true}
+use Rattle.codec.proofs.Prelude.{_≡_, refl, sym, ap, _∙_, List, Bool, true, false, _&&_, _||_, not, true≢false, false≢true, ℕ, arith, leb, eqb, le-leb, eqb-true}
 use Rattle.codec.specs.Reader.{give}
 use Rattle.codec.specs.Reads.{Reads, Relaxes, Bounded}
 use Rattle.codec.proofs.Relations.{Given, Tested, Mapped, Joined, Chosen}
@@ -16,7 +16,7 @@ use Rattle.time_relative.specs.Difference.{differenceOf, endDifference, readTim
 use Rattle.time_relative.proofs.Relations.{TimeAs}
 use Rattle.time_relative.proofs.Time.{time-reads, time-relaxes, time-bounded}
 use Rattle.area_times.specs.declared.AreaHeader.{AreaHeader}
-use Rattle.area_times.specs.Header.{spareBits}
+use Rattle.area_times.specs.Header.{startTagWidth, endTagWidth, spareBits}
 use Rattle.area_times.specs.Times.{headerOf, endBytes, timesBytes, readEnd, readTimes}
 use Rattle.area_times.proofs.Relations.{EndAs, TimesAs}
 
@@ -25,7 +25,7 @@ pub header-spares : (id : Bool) (r t : TimeRange) → not (spareBits (headerOf i
 unfolding headerOf spareBits minTag
 header-spares id r t = go (t .end)
   where
-    go : (end : RangeEnd) → not (isOpen end && (endDifference r end .added || not (eqb (minTag 2 (endDifference r end .difference)) 0))) ≡ true
+    go : (end : RangeEnd) → not (isOpen end && (endDifference r end .added || not (eqb (minTag endTagWidth (endDifference r end .difference)) 0))) ≡ true
     go (Closed x) = refl
     go Open = refl
 
@@ -46,7 +46,7 @@ no-spare h e o = go (h .«end_added») (eqb (h .«end_tag») 0) refl refl (rw o 
 
 module _ (r : TimeRange) (added : Bool) (tag : ℕ) where
   EndRel : Bool → RangeEnd → List ℕ → Type 0
-  EndRel opens = Chosen opens (Tested (λ end. not added) (Given Open)) (Mapped Closed (TimeAs r added tag))
+  EndRel opens = Chosen opens (Tested (λ end. not added) (Given Open)) (Mapped Closed (TimeAs endTagWidth r added tag))
 
   end-there : (opens : Bool) → (opens ≡ true → (added ≡ false) × (tag ≡ 0)) → (end : RangeEnd) (e : List ℕ) → EndRel opens end e → EndAs r opens added tag end e
   unfolding EndRel minTag
@@ -74,20 +74,20 @@ module _ (r : TimeRange) (h : AreaHeader) where
   end-reads ty spare = reads-as _ _ _
       (choose-reads (h .«end_open») _ _ _ _
       (guard-reads (not (h .«end_added»)) (give Open) (Given Open) (λ ok. give-reads Open))
-      (mapped-reads Closed _ _ (time-reads r (h .«end_added») (h .«end_tag») ty)))
+      (mapped-reads Closed _ _ (time-reads endTagWidth r (h .«end_added») (h .«end_tag») (omega arith) (omega arith) ty)))
       (end-there r (h .«end_added») (h .«end_tag») (h .«end_open») (no-spare h spare))
       (end-back r (h .«end_added») (h .«end_tag») (h .«end_open»))
 
   end-relaxes : Relaxes (readEnd true r h) (readEnd false r h)
   unfolding readEnd
-  end-relaxes = choose-relaxes (h .«end_open») _ _ _ _ (relaxes-self _) (mapped-relaxes Closed _ _ (time-relaxes r (h .«end_added») (h .«end_tag»)))
+  end-relaxes = choose-relaxes (h .«end_open») _ _ _ _ (relaxes-self _) (mapped-relaxes Closed _ _ (time-relaxes endTagWidth r (h .«end_added») (h .«end_tag»)))
 
   pub end-bounded : (canonic : Bool) → Bounded (readEnd canonic r h)
   unfolding readEnd
   end-bounded canonic =
       choose-bounded (h .«end_open») _ _
       (guard-bounded (not (h .«end_added»)) _ (give-bounded Open))
-      (mapped-bounded Closed _ (time-bounded r (h .«end_added») (h .«end_tag») canonic))
+      (mapped-bounded Closed _ (time-bounded endTagWidth r (h .«end_added») (h .«end_tag») canonic))
 
 -- ---- both
 -- an open end that is included lies between
@@ -110,7 +110,7 @@ end-inside r t ty i false o f = f refl
 
 module _ (r : TimeRange) (h : AreaHeader) where
   Rel : TimeRange → List ℕ → Type 0
-  Rel = Tested (includesRange r) (Joined (TimeAs r (h .«start_added») (h .«start_tag»)) (λ start. Mapped (timesFrom start) (EndAs r (h .«end_open») (h .«end_added») (h .«end_tag»))))
+  Rel = Tested (includesRange r) (Joined (TimeAs startTagWidth r (h .«start_added») (h .«start_tag»)) (λ start. Mapped (timesFrom start) (EndAs r (h .«end_open») (h .«end_added») (h .«end_tag»))))
 
   times-there : TypedRange r → (t : TimeRange) (e : List ℕ) → Rel t e → TimesAs r h t e
   unfolding Rel timesBytes
@@ -137,7 +137,7 @@ module _ (r : TimeRange) (h : AreaHeader) where
     a .included,
     record {
       value = t .start;
-      front = numberBytes 2 (differenceOf r (t .start) .difference);
+      front = numberBytes startTagWidth (differenceOf r (t .start) .difference);
       rear = endBytes r (t .end);
       whole = a .bytes;
       first = record { inside = a .start; near = a .startAdded; tagged = a .startTag; bytes = refl };
@@ -153,7 +153,7 @@ module _ (r : TimeRange) (h : AreaHeader) where
   unfolding readTimes Rel
   times-reads ty spare = reads-as _ _ _
       (checked-reads (includesRange r) _ _ (
-      then-reads (readTime true r (h .«start_added») (h .«start_tag»)) _ _ _ (time-reads r (h .«start_added») (h .«start_tag») ty) (λ start e x.
+      then-reads (readTime true startTagWidth r (h .«start_added») (h .«start_tag»)) _ _ _ (time-reads startTagWidth r (h .«start_added») (h .«start_tag») (omega arith) (omega arith) ty) (λ start e x.
       mapped-reads (timesFrom start) _ _ (end-reads r h ty spare))))
       (times-there ty) times-back
 
@@ -161,12 +161,12 @@ module _ (r : TimeRange) (h : AreaHeader) where
   unfolding readTimes
   times-relaxes =
       checked-relaxes (includesRange r) (includesRange r) _ _ (λ t i. i) (
-      then-relaxes (readTime true r (h .«start_added») (h .«start_tag»)) (readTime false r (h .«start_added») (h .«start_tag»)) _ _ (time-relaxes r (h .«start_added») (h .«start_tag»)) (λ start.
+      then-relaxes (readTime true startTagWidth r (h .«start_added») (h .«start_tag»)) (readTime false startTagWidth r (h .«start_added») (h .«start_tag»)) _ _ (time-relaxes startTagWidth r (h .«start_added») (h .«start_tag»)) (λ start.
       mapped-relaxes (timesFrom start) _ _ (end-relaxes r h)))
 
   pub times-bounded : (canonic : Bool) → Bounded (readTimes canonic r h)
   unfolding readTimes
   times-bounded canonic =
       checked-bounded (includesRange r) _ (
-      then-bounded (readTime canonic r (h .«start_added») (h .«start_tag»)) _ (time-bounded r (h .«start_added») (h .«start_tag») canonic) (λ start.
+      then-bounded (readTime canonic startTagWidth r (h .«start_added») (h .«start_tag»)) _ (time-bounded startTagWidth r (h .«start_added») (h .«start_tag») canonic) (λ start.
       mapped-bounded (timesFrom start) _ (end-bounded r h canonic)))

@@ -1,28 +1,39 @@
 -- docs/FORMAT.md, "Areas": the header byte of an area against an area.
 use mathlib.Core.Bool.{Bool, _&&_, _||_, not}
-use Prim.Native.Nat.{ℕ, _+_}
+use Prim.Native.Nat.{ℕ, _+_, _-_}
 use lib.Dec.{eqb}
 use Rattle.codec.specs.Header.{bitsAt, flag, placed, bit}
 use Rattle.area_times.specs.declared.AreaHeader.{AreaHeader}
 
--- where each part stands
-abbrev pub idWrittenAt : ℕ
-idWrittenAt = 0
+-- how many bytes the header takes
+abbrev pub headerLength : ℕ
+headerLength = 1
 
-abbrev pub endOpenAt : ℕ
-endOpenAt = 1
+-- the widths of the tags
+abbrev pub startTagWidth : ℕ
+startTagWidth = 2
 
-abbrev pub startAddedAt : ℕ
-startAddedAt = 2
+abbrev pub endTagWidth : ℕ
+endTagWidth = 2
 
-abbrev pub endAddedAt : ℕ
-endAddedAt = 3
+-- where each part stands, the last first: each before the one below it
+abbrev pub endTagAt : ℕ
+endTagAt = 8 - endTagWidth
 
 abbrev pub startTagAt : ℕ
-startTagAt = 4
+startTagAt = endTagAt - startTagWidth
 
-abbrev pub endTagAt : ℕ
-endTagAt = 6
+abbrev pub endAddedAt : ℕ
+endAddedAt = startTagAt - 1
+
+abbrev pub startAddedAt : ℕ
+startAddedAt = endAddedAt - 1
+
+abbrev pub endOpenAt : ℕ
+endOpenAt = startAddedAt - 1
+
+abbrev pub idWrittenAt : ℕ
+idWrittenAt = endOpenAt - 1
 
 abbrev pub unpackHeader : ℕ → AreaHeader
 unpackHeader b = record {
@@ -30,8 +41,8 @@ unpackHeader b = record {
   «end_open» = flag endOpenAt b;
   «start_added» = flag startAddedAt b;
   «end_added» = flag endAddedAt b;
-  «start_tag» = bitsAt startTagAt 2 b;
-  «end_tag» = bitsAt endTagAt 2 b;
+  «start_tag» = bitsAt startTagAt startTagWidth b;
+  «end_tag» = bitsAt endTagAt endTagWidth b;
 }
 
 abbrev pub packHeader : AreaHeader → ℕ
@@ -40,8 +51,8 @@ packHeader h =
     + placed endOpenAt 1 (bit (h .«end_open»))
     + placed startAddedAt 1 (bit (h .«start_added»))
     + placed endAddedAt 1 (bit (h .«end_added»))
-    + placed startTagAt 2 (h .«start_tag»)
-    + placed endTagAt 2 (h .«end_tag»)
+    + placed startTagAt startTagWidth (h .«start_tag»)
+    + placed endTagAt endTagWidth (h .«end_tag»)
 
 -- an open end has no difference; bits that speak of one are spare
 unfoldable pub spareBits : AreaHeader → Bool

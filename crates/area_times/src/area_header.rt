@@ -3,19 +3,33 @@ ghost use mathlib.Core.Path.{_≡_};
 ghost use Rattle.area_times.specs.Header.{unpackHeader, packHeader, spareBits};
 ghost use Rattle.area_times.specs.inside.Header.{HeaderFits};
 use crate::AreaHeader;
+use compact_u64::TagWidth;
 
-// What one of each part adds to the byte.
-const ID_WRITTEN: u8 = 128;
+// How many bytes the header takes.
+pub const HEADER_LENGTH: usize = 1;
 
-const END_OPEN: u8 = 64;
+// The widths of the tags.
+pub(crate) const START_TAG_WIDTH: TagWidth = TagWidth::Two;
 
-const START_ADDED: u8 = 32;
+pub(crate) const END_TAG_WIDTH: TagWidth = TagWidth::Two;
 
-const END_ADDED: u8 = 16;
-
-const START_TAG: u8 = 4;
-
+// What one of each part adds to the byte, the last part first: each stands above the one before it.
 const END_TAG: u8 = 1;
+
+const START_TAG: u8 = END_TAG << END_TAG_WIDTH as u8;
+
+const END_ADDED: u8 = START_TAG << START_TAG_WIDTH as u8;
+
+const START_ADDED: u8 = END_ADDED << 1;
+
+const END_OPEN: u8 = START_ADDED << 1;
+
+const ID_WRITTEN: u8 = END_OPEN << 1;
+
+// How many tags there are.
+const START_TAGS: u8 = 1 << START_TAG_WIDTH as u8;
+
+const END_TAGS: u8 = 1 << END_TAG_WIDTH as u8;
 
 // What a header byte says.
 pub fn unpack(b: u8) -> AreaHeader
@@ -26,8 +40,8 @@ pub fn unpack(b: u8) -> AreaHeader
         end_open: b / END_OPEN % 2 == 1,
         start_added: b / START_ADDED % 2 == 1,
         end_added: b / END_ADDED % 2 == 1,
-        start_tag: b / START_TAG % 4,
-        end_tag: b / END_TAG % 4,
+        start_tag: b / START_TAG % START_TAGS,
+        end_tag: b / END_TAG % END_TAGS,
     }
 }
 

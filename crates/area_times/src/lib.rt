@@ -11,7 +11,6 @@ ghost use Rattle.area_times.specs.Times.{headerOf, timesBytes, readEnd, 
 use codec::Decoded;
 use codec::Encoded;
 use compact_u64::DecodedU64;
-use compact_u64::TagWidth;
 use grouping::DecodedEnd;
 use grouping::DecodedTimes;
 use grouping::RangeEnd;
@@ -40,8 +39,8 @@ fn header_of(id_written: bool, times: TimeRange, reference: TimeRange) -> AreaHe
         end_open: end.is_open(),
         start_added: start_difference.added,
         end_added: end_difference.added,
-        start_tag: compact_u64::min_tag(TagWidth::Two, start_difference.difference),
-        end_tag: compact_u64::min_tag(TagWidth::Two, end_difference.difference),
+        start_tag: compact_u64::min_tag(area_header::START_TAG_WIDTH, start_difference.difference),
+        end_tag: compact_u64::min_tag(area_header::END_TAG_WIDTH, end_difference.difference),
     }
 }
 
@@ -80,6 +79,7 @@ fn decode_end(
         canonic,
         reference,
         header.end_added,
+        area_header::END_TAG_WIDTH,
         header.end_tag,
     ))
 }
@@ -99,6 +99,7 @@ pub fn relative_decode(
         canonic,
         reference,
         header.start_added,
+        area_header::START_TAG_WIDTH,
         header.start_tag,
     );
     let DecodedU64::Value(start, a) = first else {
@@ -131,13 +132,16 @@ pub fn relative_len_of_encoding(times: TimeRange, reference: TimeRange) -> usize
     let start = time_relative::difference(reference, times.start);
     let end = times.end;
     let RangeEnd::Closed(time) = end else {
-        return compact_u64::relative_len_of_encoding(TagWidth::Two, start.difference);
+        return compact_u64::relative_len_of_encoding(
+            area_header::START_TAG_WIDTH,
+            start.difference,
+        );
     };
     let last = time_relative::difference(reference, time);
     compact_u64::relative_len_of_pair(
-        TagWidth::Two,
+        area_header::START_TAG_WIDTH,
         start.difference,
-        TagWidth::Two,
+        area_header::END_TAG_WIDTH,
         last.difference,
     )
 }
@@ -149,14 +153,14 @@ pub fn relative_encode(buffer: &mut [u8], times: TimeRange, reference: TimeRange
     let start = time_relative::difference(reference, times.start);
     let end = times.end;
     let RangeEnd::Closed(time) = end else {
-        return compact_u64::relative_encode(buffer, TagWidth::Two, start.difference);
+        return compact_u64::relative_encode(buffer, area_header::START_TAG_WIDTH, start.difference);
     };
     let last = time_relative::difference(reference, time);
     compact_u64::relative_encode_pair(
         buffer,
-        TagWidth::Two,
+        area_header::START_TAG_WIDTH,
         start.difference,
-        TagWidth::Two,
+        area_header::END_TAG_WIDTH,
         last.difference,
     )
 }

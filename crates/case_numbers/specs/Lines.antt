@@ -47,7 +47,10 @@ onWidth f k =
     cond (sameBytes f (ascii "2")) (k 2)
     (cond (sameBytes f (ascii "3")) (k 3)
     (cond (sameBytes f (ascii "4")) (k 4)
-    (cond (sameBytes f (ascii "8")) (k 8) six)))
+    (cond (sameBytes f (ascii "5")) (k 5)
+    (cond (sameBytes f (ascii "6")) (k 6)
+    (cond (sameBytes f (ascii "7")) (k 7)
+    (cond (sameBytes f (ascii "8")) (k 8) six))))))
 
 -- ---- the two kinds
 abbrev pub taggedLine : List ℕ → List ℕ

@@ -1,6 +1,6 @@
 // Case lines of compact numbers: docs/CASES.md. A line is answered where MAX_ANSWER bytes are free; elsewhere nothing changes.
 ghost use mathlib.Core.Path.{_≡_};
-ghost use mathlib.Core.List.{List};
+ghost use mathlib.Core.List.{List, [], _∷_};
 ghost use Prim.Native.Nat.{ℕ, _≤_, _^_};
 ghost use lib.ListN.{length};
 ghost use Rattle.compact_u64.specs.Number.{standalone};
@@ -27,22 +27,28 @@ enum WidthField {
     Refused,
 }
 
+fn width_named(digit: u8) -> WidthField
+    ensures { λ r. ⌜ ((k : ℕ → List ℕ) → onWidthField r k ≡ onWidth (digit ∷ []) k) ⌝ }
+{
+    match digit {
+        b'2' => WidthField::Width(TagWidth::Two),
+        b'3' => WidthField::Width(TagWidth::Three),
+        b'4' => WidthField::Width(TagWidth::Four),
+        b'5' => WidthField::Width(TagWidth::Five),
+        b'6' => WidthField::Width(TagWidth::Six),
+        b'7' => WidthField::Width(TagWidth::Seven),
+        b'8' => WidthField::Width(TagWidth::Eight),
+        _ => WidthField::Refused,
+    }
+}
+
 fn width(field: &[u8]) -> WidthField
     ensures { λ r. ⌜ ((k : ℕ → List ℕ) → onWidthField r k ≡ onWidth (now (field .entry)) k) ⌝ }
 {
-    if byte_codec::same_bytes(field, b"2") {
-        return WidthField::Width(TagWidth::Two);
+    if field.len() != 1 {
+        return WidthField::Refused;
     }
-    if byte_codec::same_bytes(field, b"3") {
-        return WidthField::Width(TagWidth::Three);
-    }
-    if byte_codec::same_bytes(field, b"4") {
-        return WidthField::Width(TagWidth::Four);
-    }
-    if byte_codec::same_bytes(field, b"8") {
-        return WidthField::Width(TagWidth::Eight);
-    }
-    WidthField::Refused
+    width_named(field[0])
 }
 
 // Every tag of this width is below it.
@@ -53,6 +59,9 @@ fn tag_limit(width: TagWidth) -> u64
         TagWidth::Two => 4,
         TagWidth::Three => 8,
         TagWidth::Four => 16,
+        TagWidth::Five => 32,
+        TagWidth::Six => 64,
+        TagWidth::Seven => 128,
         TagWidth::Eight => 256,
     }
 }

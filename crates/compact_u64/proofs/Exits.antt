@@ -1,5 +1,5 @@
 -- What the readers' and writers' definitions answer at each exit of the code.
-use Rattle.codec.proofs.Prelude.{_≡_, refl, ap, _∙_, sym, List, [], _∷_, _++_, Bool, true, false, cond, ⊎-elim, _-_, ℕ, _+_, _^_, _≤_, _<_, add-one, arith, OneOf, leb, eqb, length, take, drop, set, getD, drop-of-length-le, length-drop, drop-cons, lt-ltb, le-ltb, le-leb, lt-leb, eq-eqb, ne-eqb, leb-true, leb-false}
+use Rattle.codec.proofs.Prelude.{_≡_, refl, ap, _∙_, sym, List, [], _∷_, _++_, Bool, true, false, cond, ⊎-elim, _-_, ℕ, _+_, _^_, _≤_, _<_, add-one, arith, OneOf, leb, eqb, length, take, drop, set, getD, drop-of-length-le, length-drop, drop-cons, pow-mono, lt-ltb, le-ltb, le-leb, lt-leb, eq-eqb, ne-eqb, leb-true, leb-false}
 use denote.Enum.Declared as declared
 use Rattle.codec.specs.Answers.{accepted, refused, answerOf}
 use Rattle.codec.specs.Format.{allowed, over, putBuffer}
@@ -17,12 +17,18 @@ use Rattle.compact_u64.specs.declared.DecodedU64.the-variants as decoded
 use Rattle.compact_u64.proofs.Standalone.{standalone-bounded}
 use Rattle.compact_u64.proofs.Tags.{width-inline, width-sized, length-numberBytes}
 
--- the four tags after which bytes follow
+-- a width holds the four tags after which bytes follow
+two-bits : (w : TagWidth) → 2 ≤ bits w
+two-bits width.Two = omega arith
+two-bits width.Three = omega arith
+two-bits width.Four = omega arith
+two-bits width.Five = omega arith
+two-bits width.Six = omega arith
+two-bits width.Seven = omega arith
+two-bits width.Eight = omega arith
+
 pub four-tags : (w : TagWidth) → 2 ^ bits w ≡ inlineLimit (bits w) + 4
-four-tags width.Two = refl
-four-tags width.Three = refl
-four-tags width.Four = refl
-four-tags width.Eight = refl
+four-tags w = omega (arith, pow-mono {i = 2} (two-bits w))
 
 -- ---- reading n bytes as a number
 pub big-wide : (n : ℕ) (s : List ℕ) → 8 < n → readBigEndian n s ≡ refused 2

@@ -11,6 +11,9 @@ abbrev pub bits : TagWidth → ℕ
 bits width.Two = 2
 bits width.Three = 3
 bits width.Four = 4
+bits width.Five = 5
+bits width.Six = 6
+bits width.Seven = 7
 bits width.Eight = 8
 
 abbrev pub numberAnswer : DecodedU64 → Answer ℕ

@@ -14,10 +14,13 @@ use codec::Encoded;
 
 // How many bits a tag has.
 pub enum TagWidth {
-    Two,
-    Three,
-    Four,
-    Eight,
+    Two = 2,
+    Three = 3,
+    Four = 4,
+    Five = 5,
+    Six = 6,
+    Seven = 7,
+    Eight = 8,
 }
 
 // What reading a number finds: the value and the bytes consumed; too few bytes; or a form that is refused.
@@ -41,6 +44,9 @@ fn inline_limit(width: TagWidth) -> u64
         TagWidth::Two => 0,
         TagWidth::Three => 4,
         TagWidth::Four => 12,
+        TagWidth::Five => 28,
+        TagWidth::Six => 60,
+        TagWidth::Seven => 124,
         TagWidth::Eight => 252,
     }
 }

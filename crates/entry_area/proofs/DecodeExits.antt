@@ -23,7 +23,7 @@ use Rattle.entry.specs.Answers.{zeroEntry, ReadsEntry, fieldsRefusal}
 use Rattle.entry_area.proofs.Id.{id-bounded}
 use Rattle.entry_area_end.specs.declared.EntryAreaHeader.{EntryAreaHeader}
 use Rattle.entry_area_end.specs.declared.End.{End}
-use Rattle.entry_area_end.specs.Header.{unpackHeader}
+use Rattle.entry_area_end.specs.Header.{headerLength, unpackHeader}
 use Rattle.entry_area_end.specs.End.{readAfterPath}
 use Rattle.entry_area_end.proofs.Reading.{end-bounded}
 use Rattle.entry_area.specs.Entry.{readId, readRest, readParts, readEntry}
@@ -104,11 +104,11 @@ module _ (canonic : Bool) (n : List ℕ) (r : Area) (h : EntryAreaHeader) (s : L
     pub id-inside : a ≤ length s
     id-inside = id-bounded (subspaceOf (r .subspace)) (h .«id_written») .bound s i a e
 
-    pub parts-rest : shift 1 (mapped entryFrom (readParts canonic n (areaOf r) h) s) ≡ shift (1 + a) (mapped entryFrom (readRest canonic n i (componentsOf (r .path)) (r .times) h) (drop a s))
+    pub parts-rest : shift headerLength (mapped entryFrom (readParts canonic n (areaOf r) h) s) ≡ shift (headerLength + a) (mapped entryFrom (readRest canonic n i (componentsOf (r .path)) (r .times) h) (drop a s))
     unfolding readParts
     parts-rest = rw e (go (readRest canonic n i (componentsOf (r .path)) (r .times) h (drop a s)))
       where
-        go : (x : Answer EntryValue) → shift 1 (named entryFrom (shift a x)) ≡ shift (1 + a) (named entryFrom x)
+        go : (x : Answer EntryValue) → shift headerLength (named entryFrom (shift a x)) ≡ shift (headerLength + a) (named entryFrom x)
         go (accepted v m) = ap (λ (k : ℕ). accepted (entryFrom v) k) (omega arith)
         go (refused k) = refl
 
@@ -132,11 +132,11 @@ module _ (canonic : Bool) (n : List ℕ) (r : Area) (w : wellFormedArea r ≡ tr
     entry-spare e = rw (w, drop-cons s i 0 h, ne-eqb (unpackHeader (getD s i 0) .spare) 0 e)
 
     pub entry-parts : unpackHeader (getD s i 0) .spare ≡ 0 → readAgainstNamespaceArea canonic n r (drop i s)
-        ≡ shift 1 (mapped entryFrom (readParts canonic n (areaOf r) (unpackHeader (getD s i 0))) (drop (i + 1) s))
+        ≡ shift headerLength (mapped entryFrom (readParts canonic n (areaOf r) (unpackHeader (getD s i 0))) (drop (i + headerLength) s))
     unfolding readAgainstNamespaceArea readEntry
     entry-parts e =
         rw (w, drop-cons s i 0 h, eq-eqb (unpackHeader (getD s i 0) .spare) 0 e, add-one i) (later (readParts canonic n (areaOf r) (unpackHeader (getD s i 0)) (drop (suc i) s)))
       where
-        later : (x : Answer EntryValue) → named entryFrom (shift 1 x) ≡ shift 1 (named entryFrom x)
+        later : (x : Answer EntryValue) → named entryFrom (shift headerLength x) ≡ shift headerLength (named entryFrom x)
         later (accepted v n) = refl
         later (refused k) = refl

@@ -1,17 +1,16 @@
--- Orders of checks that the laws cannot see, since they tell 1 from 2: computed from the definition.
-use Rattle.codec.proofs.Prelude.{_≡_, refl, [], _∷_, Bool, true, false, ℕ}
+-- Orders of checks that the laws cannot see, since they tell 1 from 2: computed from the definition, on the bytes that it gives. No width is told by its number.
+use Rattle.codec.proofs.Prelude.{_≡_, refl, [], _∷_, _++_, Bool, true, false, ℕ}
 use Rattle.codec.specs.Answers.{refused}
 use Rattle.codec.specs.Bytes.{zeroId}
 use mathlib.Core.Option.{Option, none, some}
 use mathlib.Core.List.{List}
-use Rattle.compact_u64.specs.Number.{minTag, encodingWidth, numberSaid, readNumber}
+use Rattle.compact_u64.specs.Number.{inlineLimit, minTag, encodingWidth, numberBytes, numberSaid, standaloneBytes, readNumber}
 use Rattle.path.specs.Prefix.{isPrefix}
-use Rattle.path_suffix.specs.Header.{packTags}
-use Rattle.path_suffix.specs.Suffix.{readSizes, readComponents, readSuffix}
+use Rattle.path_suffix.specs.Suffix.{sizesFrom, sizesBytes, readSizes, readComponents, readSuffix}
 use Rattle.path_relative.specs.Against.{joinOk, readAgainst}
 use Rattle.grouping.specs.declared.RangeEnd.the-variants.{Open}
 use Rattle.grouping.specs.Area.{AreaValue}
-use Rattle.entry_area_end.specs.Header.{packHeader}
+use Rattle.entry_area_end.specs.Header.{timeTagWidth, lengthTagWidth, packHeader}
 use Rattle.entry_area.specs.Entry.{readRest, readParts, readEntry}
 
 -- all times of a subspace, or of any, under a path
@@ -20,7 +19,7 @@ reference s path = record { subspace = s; path = path; times = record { start = 
 
 -- a header; the time and the payload length take a byte each
 abbrev head : Bool → ℕ → ℕ
-head written spare = packHeader (record { «id_written» = written; «time_added» = true; «time_tag» = 0; «length_tag» = 0; spare = spare })
+head written spare = packHeader (record { «id_written» = written; «time_added» = true; «time_tag» = inlineLimit timeTagWidth; «length_tag» = inlineLimit lengthTagWidth; spare = spare })
 
 -- in either mode spare bits are refused before the id is missed
 spare-first : (canonic : Bool) → readEntry canonic zeroId (reference none []) (head true 1 ∷ []) ≡ refused 2
@@ -37,6 +36,6 @@ unfolding readEntry readParts
 own-id-flag-first canonic = refl
 
 -- a path outside the area is refused before the time is missed
-prefix-first : readEntry false zeroId (reference (some zeroId) ((97 ∷ []) ∷ [])) (head false 0 ∷ 0 ∷ packTags (record { total = 0; count = 0 }) ∷ []) ≡ refused 2
-unfolding readEntry readParts readRest isPrefix readAgainst joinOk readSuffix readSizes readComponents readNumber numberSaid encodingWidth minTag
+prefix-first : readEntry false zeroId (reference (some zeroId) ((97 ∷ []) ∷ [])) (head false 0 ∷ (standaloneBytes 0 ++ sizesBytes (sizesFrom 0 0))) ≡ refused 2
+unfolding readEntry readParts readRest isPrefix readAgainst joinOk readSuffix readSizes readComponents readNumber numberSaid encodingWidth minTag numberBytes sizesBytes
 prefix-first = refl

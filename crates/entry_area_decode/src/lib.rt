@@ -11,6 +11,7 @@ ghost use Rattle.path.specs.Flat.{pathIn};
 ghost use Rattle.grouping.specs.Record.{subspaceOf, areaWith, areaOf};
 ghost use Rattle.entry.specs.Record.{entryFrom};
 ghost use Rattle.entry.specs.Answers.{ReadsEntry};
+ghost use Rattle.entry_area_end.specs.Header.{headerLength};
 ghost use Rattle.entry_area.specs.Entry.{readId, readParts};
 ghost use Rattle.entry_area.specs.Records.{readAgainstNamespaceArea};
 use codec::Decoded;
@@ -18,6 +19,7 @@ use codec::DecodedId;
 use entry::DecodedFields;
 use entry::EntryFields;
 use entry_area_end::EntryAreaHeader;
+use entry_area_end::entry_header::HEADER_LENGTH;
 use grouping::AreaHead;
 use grouping::AreaSubspace;
 use path_relative_decode::sized;
@@ -36,7 +38,7 @@ fn decode_id(message: &[u8], subspace: AreaSubspace, written: bool) -> DecodedId
     byte_codec::decode_id_if(message, 0, written, id)
 }
 
-// Reads what follows the header, whose byte is counted too: the id, a path that the area's is a prefix of, and the fields after it.
+// Reads what follows the header, which is counted too: the id, a path that the area's is a prefix of, and the fields after it.
 fn decode_parts(
     message: &[u8],
     canonic: bool,
@@ -46,8 +48,8 @@ fn decode_parts(
     header: EntryAreaHeader,
     out: &mut [u8; 641],
 ) -> DecodedFields
-    requires { ⌜ (1 + length (now message) < 2 ^ 64) × (wellFormed (pathIn (now «reference_path»)) ≡ true) × (pathIn (now out) ≡ pathFrom []) ⌝ }
-    ensures { λ r. ⌜ ReadsEntry r (now (out .exit)) (shift 1 (mapped entryFrom (readParts canonic namespace (areaOf (areaWith reference (pathIn (now («reference_path» .entry))))) header) (now (message .entry)))) ⌝ }
+    requires { ⌜ (headerLength + length (now message) < 2 ^ 64) × (wellFormed (pathIn (now «reference_path»)) ≡ true) × (pathIn (now out) ≡ pathFrom []) ⌝ }
+    ensures { λ r. ⌜ ReadsEntry r (now (out .exit)) (shift headerLength (mapped entryFrom (readParts canonic namespace (areaOf (areaWith reference (pathIn (now («reference_path» .entry))))) header) (now (message .entry)))) ⌝ }
 {
     let first = decode_id(message, reference.subspace, header.id_written);
     let answer = first.answer;
@@ -69,7 +71,7 @@ fn decode_parts(
     let end = last.end;
     let digest = end.payload_digest;
     DecodedFields {
-        answer: Decoded::Consumed(1 + a + (b + c)),
+        answer: Decoded::Consumed(HEADER_LENGTH + a + (b + c)),
         fields: EntryFields {
             namespace_id: namespace,
             subspace_id: id,
@@ -104,7 +106,7 @@ pub fn relative_decode(
     if header.spare != 0 {
         return entry::refuse_fields(Decoded::TheirFault);
     }
-    let at = start + 1;
+    let at = start + HEADER_LENGTH;
     let rest = &message[at..];
     decode_parts(
         rest,

@@ -9,11 +9,13 @@ ghost use Rattle.path.specs.Record.{sized};
 ghost use Rattle.path.specs.Flat.{pathIn};
 ghost use Rattle.path_relative.specs.Records.{sharedBy};
 ghost use Rattle.grouping.specs.Record.{subspaceOf};
+ghost use Rattle.entry_area_end.specs.Header.{headerLength};
 ghost use Rattle.entry_area.specs.Entry.{idBytes, startOf};
 ghost use Rattle.entry_area.specs.inside.Writing.{endIn, tailBytes, knownBytes};
 use codec::Encoded;
 use entry::EntryFields;
 use entry_area_end::End;
+use entry_area_end::entry_header::HEADER_LENGTH;
 use grouping::AreaHead;
 use grouping::AreaSubspace;
 use grouping::TimeRange;
@@ -32,12 +34,12 @@ fn end_of(fields: EntryFields) -> End
 
 // How many bytes the header and the id of an entry take.
 fn start_len(subspace: AreaSubspace) -> usize
-    ensures { λ r. ⌜ ((id : List ℕ) → length id ≡ 32 → r ≡ 1 + length (idBytes (subspaceOf subspace) id)) × (r ≤ 33) ⌝ }
+    ensures { λ r. ⌜ ((id : List ℕ) → length id ≡ 32 → r ≡ headerLength + length (idBytes (subspaceOf subspace) id)) × (r ≤ headerLength + 32) ⌝ }
 {
     if subspace.any {
-        return 33;
+        return HEADER_LENGTH + 32;
     }
-    1
+    HEADER_LENGTH
 }
 
 // How many bytes an entry takes whose path shares `k` components with the area's.
@@ -63,7 +65,7 @@ fn put_start(buffer: &mut [u8], times: TimeRange, subspace: AreaSubspace, id: [u
     if !subspace.any {
         return;
     }
-    byte_codec::put_bytes(&mut buffer[1..], &id);
+    byte_codec::put_bytes(&mut buffer[HEADER_LENGTH..], &id);
 }
 
 // The path, `k` components of which are shared, and what stands after it.

@@ -1,27 +1,27 @@
--- The header of an entry: packing and taking apart undo each other. No law here knows a place.
-use Rattle.codec.proofs.Prelude.{_≡_, refl, Bool, ℕ, _+_, _≤_, _<_, arith}
+-- The header of an entry: packing and taking apart undo each other. No law here knows a place or a width.
+use Rattle.codec.proofs.Prelude.{_≡_, refl, Bool, ℕ, _+_, _^_, _≤_, _<_, arith}
 use Rattle.codec.specs.Header.{bitsAt, placed, bit, Layout}
 use Rattle.codec.proofs.Header.{field-fits, bit-small, flag-of, same-bytes}
 use Rattle.compact_u64.proofs.Tags.{min-tag-fits}
 use Rattle.grouping.specs.declared.TimeRange.{TimeRange}
 use Rattle.entry_area_end.specs.declared.EntryAreaHeader.{EntryAreaHeader}
-use Rattle.entry_area_end.specs.Header.{idWrittenAt, timeAddedAt, timeTagAt, lengthTagAt, spareAt, unpackHeader, packHeader}
+use Rattle.entry_area_end.specs.Header.{timeTagWidth, lengthTagWidth, spareWidth, idWrittenAt, timeAddedAt, timeTagAt, lengthTagAt, spareAt, unpackHeader, packHeader}
 use Rattle.entry_area_end.specs.inside.Header.{HeaderFits}
 use Rattle.entry_area_end.specs.End.{headerOf}
 
 -- the sum of the parts, each a number that fits its bits
 abbrev sum : ℕ → ℕ → ℕ → ℕ → ℕ → ℕ
-sum id added s t u = placed idWrittenAt 1 id + placed timeAddedAt 1 added + placed timeTagAt 2 s + placed lengthTagAt 2 t + placed spareAt 2 u
+sum id added s t u = placed idWrittenAt 1 id + placed timeAddedAt 1 added + placed timeTagAt timeTagWidth s + placed lengthTagAt lengthTagWidth t + placed spareAt spareWidth u
 
 record Parts (p id added s t u : ℕ) : Type 0 where
   byte : p < 256
   id-is : bitsAt idWrittenAt 1 p ≡ id
   added-is : bitsAt timeAddedAt 1 p ≡ added
-  s-is : bitsAt timeTagAt 2 p ≡ s
-  t-is : bitsAt lengthTagAt 2 p ≡ t
-  u-is : bitsAt spareAt 2 p ≡ u
+  s-is : bitsAt timeTagAt timeTagWidth p ≡ s
+  t-is : bitsAt lengthTagAt lengthTagWidth p ≡ t
+  u-is : bitsAt spareAt spareWidth p ≡ u
 
-parts : (id added s t u : ℕ) → id ≤ 1 → added ≤ 1 → s < 4 → t < 4 → u < 4 → Parts (sum id added s t u) id added s t u
+parts : (id added s t u : ℕ) → id ≤ 1 → added ≤ 1 → s < 2 ^ timeTagWidth → t < 2 ^ lengthTagWidth → u < 2 ^ spareWidth → Parts (sum id added s t u) id added s t u
 parts id added s t u a b c d e = record { byte = omega arith; id-is = omega arith; added-is = omega arith; s-is = omega arith; t-is = omega arith; u-is = omega arith }
 
 header-apart : (h : EntryAreaHeader) → HeaderFits h → (packHeader h < 256) × (unpackHeader (packHeader h) ≡ h)
@@ -35,7 +35,7 @@ header-apart h f =
 
 pub header-layout : Layout HeaderFits unpackHeader packHeader
 header-layout = record {
-  fits = λ b l. record { time = field-fits timeTagAt 2 b; length = field-fits lengthTagAt 2 b; spare = field-fits spareAt 2 b };
+  fits = λ b l. record { time = field-fits timeTagAt timeTagWidth b; length = field-fits lengthTagAt lengthTagWidth b; spare = field-fits spareAt spareWidth b };
   packs = same-bytes (λ b. packHeader (unpackHeader b)) (λ b. b) refl;
   byte = λ h f. header-apart h f .0;
   unpacks = λ h f. header-apart h f .1;
@@ -43,4 +43,4 @@ header-layout = record {
 
 pub header-fits : (id : Bool) (r : TimeRange) (time size : ℕ) → HeaderFits (headerOf id r time size)
 unfolding headerOf
-header-fits id r time size = record { time = min-tag-fits 2 _ (omega arith); length = min-tag-fits 2 _ (omega arith); spare = omega arith }
+header-fits id r time size = record { time = min-tag-fits timeTagWidth _ (omega arith); length = min-tag-fits lengthTagWidth _ (omega arith); spare = omega arith }

@@ -17,13 +17,14 @@ use Rattle.time_relative.proofs.Relations.{IncludedAs}
 use Rattle.time_relative.proofs.Included.{included-reads, included-relaxes, included-bounded}
 use Rattle.entry_area_end.specs.declared.EntryAreaHeader.{EntryAreaHeader}
 use Rattle.entry_area_end.specs.declared.End.{End}
+use Rattle.entry_area_end.specs.Header.{timeTagWidth, lengthTagWidth}
 use Rattle.entry_area_end.specs.End.{endFrom, readAfterPath}
 use Rattle.entry_area_end.proofs.Relations.{EndAs}
 
 -- ---- the laws
 module _ (r : TimeRange) (h : EntryAreaHeader) where
   Rel : End → List ℕ → Type 0
-  Rel = Joined (IncludedAs r (h .«time_added») (h .«time_tag»)) (λ time. Joined (NumberAs 2 (h .«length_tag»)) (λ size. Mapped (endFrom time size) (SomeBytes 32)))
+  Rel = Joined (IncludedAs timeTagWidth r (h .«time_added») (h .«time_tag»)) (λ time. Joined (NumberAs lengthTagWidth (h .«length_tag»)) (λ size. Mapped (endFrom time size) (SomeBytes 32)))
 
   end-there : (end : End) (e : List ℕ) → Rel end e → EndAs r h end e
   unfolding Rel
@@ -46,13 +47,13 @@ module _ (r : TimeRange) (h : EntryAreaHeader) where
   unfolding Rel
   end-back end e a = record {
     value = end .timestamp;
-    front = numberBytes 2 (differenceOf r (end .timestamp) .difference);
-    rear = numberBytes 2 (end .«payload_length») ++ end .«payload_digest»;
+    front = numberBytes timeTagWidth (differenceOf r (end .timestamp) .difference);
+    rear = numberBytes lengthTagWidth (end .«payload_length») ++ end .«payload_digest»;
     whole = a .bytes;
     first = record { small = a .time; included = a .included; near = a .timeAdded; tagged = a .timeTag; bytes = refl };
     second = record {
       value = end .«payload_length»;
-      front = numberBytes 2 (end .«payload_length»);
+      front = numberBytes lengthTagWidth (end .«payload_length»);
       rear = end .«payload_digest»;
       whole = refl;
       first = record { small = a .size; tagged = a .lengthTag; bytes = refl };
@@ -63,40 +64,40 @@ module _ (r : TimeRange) (h : EntryAreaHeader) where
   pub end-reads : TypedRange r → Reads (readAfterPath true r h) (EndAs r h)
   unfolding Rel readAfterPath
   end-reads ty = reads-as _ _ _
-      (then-reads (readIncluded true r (h .«time_added») (h .«time_tag»)) _ _ _ (included-reads r (h .«time_added») (h .«time_tag») ty) (λ time e x.
-      then-reads (readNumber true 2 (h .«length_tag»)) _ _ _ (number-reads 2 (h .«length_tag») (omega arith) (omega arith)) (λ size e y.
+      (then-reads (readIncluded true timeTagWidth r (h .«time_added») (h .«time_tag»)) _ _ _ (included-reads timeTagWidth r (h .«time_added») (h .«time_tag») (omega arith) (omega arith) ty) (λ time e x.
+      then-reads (readNumber true lengthTagWidth (h .«length_tag»)) _ _ _ (number-reads lengthTagWidth (h .«length_tag») (omega arith) (omega arith)) (λ size e y.
       mapped-reads (endFrom time size) _ _ (someBytes-reads 32))))
       end-there end-back
 
   pub end-relaxes : Relaxes (readAfterPath true r h) (readAfterPath false r h)
   unfolding readAfterPath
   end-relaxes =
-      then-relaxes (readIncluded true r (h .«time_added») (h .«time_tag»)) (readIncluded false r (h .«time_added») (h .«time_tag»)) _ _ (included-relaxes r (h .«time_added») (h .«time_tag»)) (λ time.
-      then-relaxes (readNumber true 2 (h .«length_tag»)) (readNumber false 2 (h .«length_tag»)) _ _ (number-relaxes 2 (h .«length_tag»)) (λ size.
+      then-relaxes (readIncluded true timeTagWidth r (h .«time_added») (h .«time_tag»)) (readIncluded false timeTagWidth r (h .«time_added») (h .«time_tag»)) _ _ (included-relaxes timeTagWidth r (h .«time_added») (h .«time_tag»)) (λ time.
+      then-relaxes (readNumber true lengthTagWidth (h .«length_tag»)) (readNumber false lengthTagWidth (h .«length_tag»)) _ _ (number-relaxes lengthTagWidth (h .«length_tag»)) (λ size.
       mapped-relaxes (endFrom time size) _ _ (relaxes-self (someBytes 32))))
 
   pub end-bounded : (canonic : Bool) → Bounded (readAfterPath canonic r h)
   unfolding readAfterPath
   end-bounded canonic =
-      then-bounded (readIncluded canonic r (h .«time_added») (h .«time_tag»)) _ (included-bounded r (h .«time_added») (h .«time_tag») canonic) (λ time.
-      then-bounded (readNumber canonic 2 (h .«length_tag»)) _ (number-bounded 2 (h .«length_tag») canonic) (λ size.
+      then-bounded (readIncluded canonic timeTagWidth r (h .«time_added») (h .«time_tag»)) _ (included-bounded timeTagWidth r (h .«time_added») (h .«time_tag») canonic) (λ time.
+      then-bounded (readNumber canonic lengthTagWidth (h .«length_tag»)) _ (number-bounded lengthTagWidth (h .«length_tag») canonic) (λ size.
       mapped-bounded (endFrom time size) _ (someBytes-bounded 32)))
 
 -- ---- the exits
 module _ (canonic : Bool) (r : TimeRange) (h : EntryAreaHeader) (s : List ℕ) where
-  pub end-time : (k : ℕ) → readIncluded canonic r (h .«time_added») (h .«time_tag») s ≡ refused k → readAfterPath canonic r h s ≡ refused k
+  pub end-time : (k : ℕ) → readIncluded canonic timeTagWidth r (h .«time_added») (h .«time_tag») s ≡ refused k → readAfterPath canonic r h s ≡ refused k
   unfolding readAfterPath
   end-time k e = rw e
 
-  module _ (x a : ℕ) (e : readIncluded canonic r (h .«time_added») (h .«time_tag») s ≡ accepted x a) where
-    pub end-size : (k : ℕ) → readNumber canonic 2 (h .«length_tag») (drop a s) ≡ refused k → readAfterPath canonic r h s ≡ refused k
+  module _ (x a : ℕ) (e : readIncluded canonic timeTagWidth r (h .«time_added») (h .«time_tag») s ≡ accepted x a) where
+    pub end-size : (k : ℕ) → readNumber canonic lengthTagWidth (h .«length_tag») (drop a s) ≡ refused k → readAfterPath canonic r h s ≡ refused k
     unfolding readAfterPath
     end-size k f = rw (e, f)
 
-    module _ (y b : ℕ) (f : readNumber canonic 2 (h .«length_tag») (drop a s) ≡ accepted y b) where
+    module _ (y b : ℕ) (f : readNumber canonic lengthTagWidth (h .«length_tag») (drop a s) ≡ accepted y b) where
       pub end-inside : a + b ≤ length s
       end-inside =
-          omega (arith, included-bounded r (h .«time_added») (h .«time_tag») canonic .bound s x a e, number-bounded 2 (h .«length_tag») canonic .bound (drop a s) y b f, length-drop a s)
+          omega (arith, included-bounded timeTagWidth r (h .«time_added») (h .«time_tag») canonic .bound s x a e, number-bounded lengthTagWidth (h .«length_tag») canonic .bound (drop a s) y b f, length-drop a s)
 
       pub end-digest : (k : ℕ) → someBytes 32 (drop (a + b) s) ≡ refused k → readAfterPath canonic r h s ≡ refused k
       unfolding readAfterPath

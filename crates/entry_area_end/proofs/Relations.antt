@@ -10,14 +10,15 @@ use Rattle.grouping.specs.Range.{top, includesTime}
 use Rattle.time_relative.specs.Difference.{differenceOf}
 use Rattle.entry_area_end.specs.declared.EntryAreaHeader.{EntryAreaHeader}
 use Rattle.entry_area_end.specs.declared.End.{End}
+use Rattle.entry_area_end.specs.Header.{timeTagWidth, lengthTagWidth}
 use Rattle.entry_area_end.specs.End.{endOf}
 
 pub record EndAs (r : TimeRange) (h : EntryAreaHeader) (end : End) (e : List ℕ) : Type 0 where
   pub time : end .timestamp ≤ top
   pub included : includesTime r (end .timestamp) ≡ true
   pub timeAdded : differenceOf r (end .timestamp) .added ≡ h .«time_added»
-  pub timeTag : minTag 2 (differenceOf r (end .timestamp) .difference) ≡ h .«time_tag»
+  pub timeTag : minTag timeTagWidth (differenceOf r (end .timestamp) .difference) ≡ h .«time_tag»
   pub size : U64 (end .«payload_length»)
-  pub lengthTag : minTag 2 (end .«payload_length») ≡ h .«length_tag»
+  pub lengthTag : minTag lengthTagWidth (end .«payload_length») ≡ h .«length_tag»
   pub digest : TypedId (end .«payload_digest»)
   pub bytes : e ≡ endOf r end

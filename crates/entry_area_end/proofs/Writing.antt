@@ -5,8 +5,9 @@ use Rattle.grouping.specs.declared.TimeRange.{TimeRange}
 use Rattle.time_relative.specs.declared.TimeDifference.{TimeDifference}
 use Rattle.time_relative.specs.Difference.{differenceOf}
 use Rattle.entry_area_end.specs.declared.End.{End}
+use Rattle.entry_area_end.specs.Header.{timeTagWidth, lengthTagWidth}
 use Rattle.entry_area_end.specs.End.{endOf}
 
 pub end-apart : (r : TimeRange) (e : End) (d : TimeDifference) → d ≡ differenceOf r (e .timestamp)
-    → endOf r e ≡ (numberBytes 2 (d .difference) ++ numberBytes 2 (e .«payload_length»)) ++ e .«payload_digest»
-end-apart r e d same = rw (← same) (sym (append-assoc (numberBytes 2 (d .difference)) (numberBytes 2 (e .«payload_length»)) (e .«payload_digest»)))
+    → endOf r e ≡ (numberBytes timeTagWidth (d .difference) ++ numberBytes lengthTagWidth (e .«payload_length»)) ++ e .«payload_digest»
+end-apart r e d same = rw (← same) (sym (append-assoc (numberBytes timeTagWidth (d .difference)) (numberBytes lengthTagWidth (e .«payload_length»)) (e .«payload_digest»)))

@@ -3,17 +3,35 @@ ghost use mathlib.Core.Path.{_≡_};
 ghost use Rattle.entry_area_end.specs.Header.{unpackHeader, packHeader};
 ghost use Rattle.entry_area_end.specs.inside.Header.{HeaderFits};
 use crate::EntryAreaHeader;
+use compact_u64::TagWidth;
 
-// What one of each part adds to the byte.
-const ID_WRITTEN: u8 = 128;
+// How many bytes the header takes.
+pub const HEADER_LENGTH: usize = 1;
 
-const TIME_ADDED: u8 = 64;
+// The widths of the tags, and of the bits that must be zero.
+pub(crate) const TIME_TAG_WIDTH: TagWidth = TagWidth::Two;
 
-const TIME_TAG: u8 = 16;
+pub(crate) const LENGTH_TAG_WIDTH: TagWidth = TagWidth::Two;
 
-const LENGTH_TAG: u8 = 4;
+const SPARE_WIDTH: u8 = 2;
 
+// What one of each part adds to the byte, the last part first: each stands above the one before it.
 const SPARE: u8 = 1;
+
+const LENGTH_TAG: u8 = SPARE << SPARE_WIDTH;
+
+const TIME_TAG: u8 = LENGTH_TAG << LENGTH_TAG_WIDTH as u8;
+
+const TIME_ADDED: u8 = TIME_TAG << TIME_TAG_WIDTH as u8;
+
+const ID_WRITTEN: u8 = TIME_ADDED << 1;
+
+// How many tags there are, and what the bits that must be zero could say.
+const TIME_TAGS: u8 = 1 << TIME_TAG_WIDTH as u8;
+
+const LENGTH_TAGS: u8 = 1 << LENGTH_TAG_WIDTH as u8;
+
+const SPARES: u8 = 1 << SPARE_WIDTH;
 
 // What a header byte says.
 pub fn unpack(b: u8) -> EntryAreaHeader
@@ -22,9 +40,9 @@ pub fn unpack(b: u8) -> EntryAreaHeader
     EntryAreaHeader {
         id_written: b / ID_WRITTEN % 2 == 1,
         time_added: b / TIME_ADDED % 2 == 1,
-        time_tag: b / TIME_TAG % 4,
-        length_tag: b / LENGTH_TAG % 4,
-        spare: b / SPARE % 4,
+        time_tag: b / TIME_TAG % TIME_TAGS,
+        length_tag: b / LENGTH_TAG % LENGTH_TAGS,
+        spare: b / SPARE % SPARES,
     }
 }
 

@@ -10,12 +10,11 @@ ghost use Rattle.entry_area_end.specs.End.{headerOf, endOf, noEnd, readA
 use codec::Decoded;
 use codec::Encoded;
 use compact_u64::DecodedU64;
-use compact_u64::TagWidth;
 use grouping::TimeRange;
 
 pub mod entry_header;
 
-// What the header byte says; `spare` are two bits that must be zero.
+// What the header byte says; `spare` are the bits that must be zero.
 pub struct EntryAreaHeader {
     pub id_written: bool,
     pub time_added: bool,
@@ -44,8 +43,8 @@ fn header_of(id_written: bool, times: TimeRange, time: u64, size: u64) -> EntryA
     EntryAreaHeader {
         id_written: id_written,
         time_added: told.added,
-        time_tag: compact_u64::min_tag(TagWidth::Two, told.difference),
-        length_tag: compact_u64::min_tag(TagWidth::Two, size),
+        time_tag: compact_u64::min_tag(entry_header::TIME_TAG_WIDTH, told.difference),
+        length_tag: compact_u64::min_tag(entry_header::LENGTH_TAG_WIDTH, size),
         spare: 0,
     }
 }
@@ -85,6 +84,7 @@ pub fn relative_decode(
         canonic,
         times,
         header.time_added,
+        entry_header::TIME_TAG_WIDTH,
         header.time_tag,
     );
     let DecodedU64::Value(time, a) = first else {
@@ -93,7 +93,7 @@ pub fn relative_decode(
     let second = compact_u64::relative_decode(
         message,
         a,
-        TagWidth::Two,
+        entry_header::LENGTH_TAG_WIDTH,
         header.length_tag,
         canonic,
     );
@@ -123,9 +123,9 @@ pub fn relative_len_of_encoding(end: End, times: TimeRange) -> usize
 {
     let told = time_relative::difference(times, end.timestamp);
     let n = compact_u64::relative_len_of_pair(
-        TagWidth::Two,
+        entry_header::TIME_TAG_WIDTH,
         told.difference,
-        TagWidth::Two,
+        entry_header::LENGTH_TAG_WIDTH,
         end.payload_length,
     );
     n + 32
@@ -142,9 +142,9 @@ pub fn relative_encode(buffer: &mut [u8], end: End, times: TimeRange) -> Encoded
     let told = time_relative::difference(times, end.timestamp);
     compact_u64::relative_encode_pair(
         buffer,
-        TagWidth::Two,
+        entry_header::TIME_TAG_WIDTH,
         told.difference,
-        TagWidth::Two,
+        entry_header::LENGTH_TAG_WIDTH,
         end.payload_length,
     );
     let at = n - 32;

@@ -15,7 +15,7 @@ use Rattle.entry.specs.Record.{Entry, entryOf, entryFrom, wellFormedEntry}
 use Rattle.entry.specs.Answers.{zeroEntry, ReadsEntry, fieldsRefusal}
 use Rattle.entry_numbers.specs.declared.EntryHeader.{EntryHeader}
 use Rattle.entry_numbers.specs.declared.Numbers.{Numbers}
-use Rattle.entry_numbers.specs.Header.{unpackHeader}
+use Rattle.entry_numbers.specs.Header.{headerLength, unpackHeader}
 use Rattle.entry_numbers.specs.Numbers.{readNumbers}
 use Rattle.entry_numbers.proofs.Reading.{numbers-bounded}
 use Rattle.entry_entry.specs.declared.Ids.{Ids}
@@ -50,25 +50,25 @@ module _ (namespace subspace : List ℕ) (time : ℕ) (s : List ℕ) (i : ℕ) w
   head-none l = rw (drop-of-length-le s l)
 
   module _ (l : i < length s) where
-    pub head-ids : (k : ℕ) → readIds namespace subspace (unpackHeader (getD s i 0)) (drop (i + 1) s) ≡ refused k → readHead namespace subspace time (drop i s) ≡ refused k
+    pub head-ids : (k : ℕ) → readIds namespace subspace (unpackHeader (getD s i 0)) (drop (i + headerLength) s) ≡ refused k → readHead namespace subspace time (drop i s) ≡ refused k
     unfolding readHead
     head-ids k e = rw (drop-cons s i 0 l, ← add-one i, e)
 
-    module _ (ids : Ids) (a : ℕ) (e : readIds namespace subspace (unpackHeader (getD s i 0)) (drop (i + 1) s) ≡ accepted ids a) where
-      pub first-inside : i + 1 + a ≤ length s
-      first-inside = omega (arith, ids-bounded namespace subspace (unpackHeader (getD s i 0)) .bound (drop (i + 1) s) _ _ e, length-drop (i + 1) s)
+    module _ (ids : Ids) (a : ℕ) (e : readIds namespace subspace (unpackHeader (getD s i 0)) (drop (i + headerLength) s) ≡ accepted ids a) where
+      pub first-inside : i + headerLength + a ≤ length s
+      first-inside = omega (arith, ids-bounded namespace subspace (unpackHeader (getD s i 0)) .bound (drop (i + headerLength) s) _ _ e, length-drop (i + headerLength) s)
 
-      pub head-numbers : (k : ℕ) → readNumbers time (unpackHeader (getD s i 0)) (drop (i + 1 + a) s) ≡ refused k → readHead namespace subspace time (drop i s) ≡ refused k
+      pub head-numbers : (k : ℕ) → readNumbers time (unpackHeader (getD s i 0)) (drop (i + headerLength + a) s) ≡ refused k → readHead namespace subspace time (drop i s) ≡ refused k
       unfolding readHead
       head-numbers k f = rw (drop-cons s i 0 l, ← add-one i, e, drop-drop, f)
 
-      module _ (n : Numbers) (b : ℕ) (f : readNumbers time (unpackHeader (getD s i 0)) (drop (i + 1 + a) s) ≡ accepted n b) where
-        pub head-read : readHead namespace subspace time (drop i s) ≡ accepted (headFrom ids n) (1 + (a + b))
+      module _ (n : Numbers) (b : ℕ) (f : readNumbers time (unpackHeader (getD s i 0)) (drop (i + headerLength + a) s) ≡ accepted n b) where
+        pub head-read : readHead namespace subspace time (drop i s) ≡ accepted (headFrom ids n) (headerLength + (a + b))
         unfolding readHead
         head-read = rw (drop-cons s i 0 l, ← add-one i, e, drop-drop, f)
 
-        pub second-inside : i + (1 + (a + b)) ≤ length s
-        second-inside = omega (arith, first-inside, numbers-bounded time (unpackHeader (getD s i 0)) .bound (drop (i + 1 + a) s) n b f, length-drop (i + 1 + a) s)
+        pub second-inside : i + (headerLength + (a + b)) ≤ length s
+        second-inside = omega (arith, first-inside, numbers-bounded time (unpackHeader (getD s i 0)) .bound (drop (i + headerLength + a) s) n b f, length-drop (i + headerLength + a) s)
 
   -- bytes were read, so the place is inside
   pub head-inside : (h : Head) (a : ℕ) → readHead namespace subspace time (drop i s) ≡ accepted h a → i + a ≤ length s

@@ -9,7 +9,7 @@ use Rattle.path_relative.specs.Against.{againstBytes}
 use Rattle.path_relative.specs.Records.{againstPath}
 use Rattle.path_relative.proofs.Against.{against-short}
 use Rattle.entry.specs.Record.{Entry, fieldsOf, wellFormedEntry}
-use Rattle.entry_numbers.specs.Header.{packHeader}
+use Rattle.entry_numbers.specs.Header.{headerLength, packHeader}
 use Rattle.entry_numbers.specs.Numbers.{numbersBytes}
 use Rattle.entry_entry.specs.Entry.{idWritten, idBytes, entryBytes}
 use Rattle.entry_entry.specs.Records.{againstEntry}
@@ -44,7 +44,7 @@ module _ (r e : Entry) where
   entry-bytes = refl
 
   pub entry-long : (p : ℕ) → p ≡ length (againstPath (r .path) .encode (e .path)) → length (e .«payload_digest») ≡ 32
-      → 1 + (length (idsWith (fieldsOf r) (fieldsOf e)) + (length (numbersBytes (r .timestamp) (e .timestamp) (e .«payload_length»)) + (p + 32))) ≡ length (againstEntry r .encode e)
+      → headerLength + (length (idsWith (fieldsOf r) (fieldsOf e)) + (length (numbersBytes (r .timestamp) (e .timestamp) (e .«payload_length»)) + (p + 32))) ≡ length (againstEntry r .encode e)
   unfolding entryBytes
   entry-long p ep ed =
       omega (

@@ -11,6 +11,8 @@ use entry_entry::Head;
 use entry_entry::Ids;
 use entry_numbers::EntryHeader;
 use entry_numbers::Numbers;
+use entry_numbers::entry_header;
+use entry_numbers::entry_header::HEADER_LENGTH;
 
 fn no_ids(answer: Decoded) -> DecodedIds
     ensures { λ r. ⌜ r .answer ≡ answer ⌝ }
@@ -74,8 +76,8 @@ pub(crate) fn decode_head(message: &[u8], start: usize, reference: EntryFields) 
     if message.len() <= start {
         return no_head(Decoded::EndOfInput);
     }
-    let header = entry_numbers::entry_header::unpack(message[start]);
-    let at = start + 1;
+    let header = entry_header::unpack(message[start]);
+    let at = start + HEADER_LENGTH;
     let first = decode_ids(&message[at..], header, reference);
     let first_answer = first.answer;
     let Decoded::Consumed(a) = first_answer else {
@@ -90,7 +92,7 @@ pub(crate) fn decode_head(message: &[u8], start: usize, reference: EntryFields) 
     let ids = first.ids;
     let numbers = second.numbers;
     DecodedHead {
-        answer: Decoded::Consumed(1 + (a + b)),
+        answer: Decoded::Consumed(HEADER_LENGTH + (a + b)),
         head: Head {
             ids: ids,
             numbers: numbers,

@@ -7,12 +7,13 @@ ghost use Rattle.codec.specs.Format.{allowed, over};
 ghost use Rattle.path.specs.Record.{sized};
 ghost use Rattle.path.specs.Flat.{pathIn};
 ghost use Rattle.path_relative.specs.Records.{sharedBy};
-ghost use Rattle.entry_numbers.specs.Header.{packHeader};
+ghost use Rattle.entry_numbers.specs.Header.{headerLength, packHeader};
 ghost use Rattle.entry_numbers.specs.Numbers.{numbersBytes};
 ghost use Rattle.entry_entry.specs.Entry.{idWritten, idBytes};
 ghost use Rattle.entry_entry.specs.inside.Writing.{headerWith, idsWith, restWith, partsWith};
 use codec::Encoded;
 use entry::EntryFields;
+use entry_numbers::entry_header::HEADER_LENGTH;
 
 fn id_written(id: [u8; 32], reference: [u8; 32]) -> bool
     ensures { λ r. ⌜ r ≡ idWritten reference id ⌝ }
@@ -64,7 +65,7 @@ fn ids_len(fields: EntryFields, reference: EntryFields) -> usize
 // How many bytes an entry takes whose path takes `path` bytes.
 pub(crate) fn entry_len(fields: EntryFields, reference: EntryFields, path: usize) -> usize
     requires { ⌜ path ≤ 2000 ⌝ }
-    ensures { λ r. ⌜ r ≡ 1 + (length (idsWith reference fields) + (length (numbersBytes (reference .timestamp) (fields .timestamp) (fields .«payload_length»)) + (path + 32))) ⌝ }
+    ensures { λ r. ⌜ r ≡ headerLength + (length (idsWith reference fields) + (length (numbersBytes (reference .timestamp) (fields .timestamp) (fields .«payload_length»)) + (path + 32))) ⌝ }
 {
     let a = ids_len(fields, reference);
     let b = entry_numbers::relative_len_of_encoding(
@@ -72,7 +73,7 @@ pub(crate) fn entry_len(fields: EntryFields, reference: EntryFields, path: usize
         fields.payload_length,
         reference.timestamp,
     );
-    1 + (a + (b + (path + 32)))
+    HEADER_LENGTH + (a + (b + (path + 32)))
 }
 
 fn put_id(buffer: &mut [u8], id: [u8; 32], reference: [u8; 32]) -> usize
@@ -149,9 +150,9 @@ pub(crate) fn put_entry(
     path: &[u8],
     k: usize,
 )
-    requires { ⌜ (sharedBy sized k .check (pathIn (now path)) ≡ allowed) × (1 + length (partsWith reference fields (sharedBy sized k .encode (pathIn (now path)))) ≤ length (now buffer)) ⌝ }
+    requires { ⌜ (sharedBy sized k .check (pathIn (now path)) ≡ allowed) × (headerLength + length (partsWith reference fields (sharedBy sized k .encode (pathIn (now path)))) ≤ length (now buffer)) ⌝ }
     ensures { λ _. ⌜ now (buffer .exit) ≡ over (packHeader (headerWith reference fields) ∷ partsWith reference fields (sharedBy sized k .encode (pathIn (now (path .entry))))) (now (buffer .entry)) ⌝ }
 {
     buffer[0] = header_byte(fields, reference);
-    put_parts(&mut buffer[1..], fields, reference, path, k);
+    put_parts(&mut buffer[HEADER_LENGTH..], fields, reference, path, k);
 }

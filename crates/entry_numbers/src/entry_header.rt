@@ -3,17 +3,31 @@ ghost use mathlib.Core.Path.{_≡_};
 ghost use Rattle.entry_numbers.specs.Header.{unpackHeader, packHeader};
 ghost use Rattle.entry_numbers.specs.inside.Header.{HeaderFits};
 use crate::EntryHeader;
+use compact_u64::TagWidth;
 
-// What one of each part adds to the byte.
-const NAMESPACE_WRITTEN: u8 = 128;
+// How many bytes the header takes.
+pub const HEADER_LENGTH: usize = 1;
 
-const SUBSPACE_WRITTEN: u8 = 64;
+// The widths of the tags.
+pub(crate) const TIME_TAG_WIDTH: TagWidth = TagWidth::Two;
 
-const TIME_ADDED: u8 = 32;
+pub(crate) const LENGTH_TAG_WIDTH: TagWidth = TagWidth::Three;
 
-const TIME_TAG: u8 = 8;
-
+// What one of each part adds to the byte, the last part first: each stands above the one before it.
 const LENGTH_TAG: u8 = 1;
+
+const TIME_TAG: u8 = LENGTH_TAG << LENGTH_TAG_WIDTH as u8;
+
+const TIME_ADDED: u8 = TIME_TAG << TIME_TAG_WIDTH as u8;
+
+const SUBSPACE_WRITTEN: u8 = TIME_ADDED << 1;
+
+const NAMESPACE_WRITTEN: u8 = SUBSPACE_WRITTEN << 1;
+
+// How many tags there are.
+const TIME_TAGS: u8 = 1 << TIME_TAG_WIDTH as u8;
+
+const LENGTH_TAGS: u8 = 1 << LENGTH_TAG_WIDTH as u8;
 
 // What a header byte says.
 pub fn unpack(b: u8) -> EntryHeader
@@ -23,8 +37,8 @@ pub fn unpack(b: u8) -> EntryHeader
         namespace_written: b / NAMESPACE_WRITTEN % 2 == 1,
         subspace_written: b / SUBSPACE_WRITTEN % 2 == 1,
         time_added: b / TIME_ADDED % 2 == 1,
-        time_tag: b / TIME_TAG % 4,
-        length_tag: b / LENGTH_TAG % 8,
+        time_tag: b / TIME_TAG % TIME_TAGS,
+        length_tag: b / LENGTH_TAG % LENGTH_TAGS,
     }
 }
 

@@ -10,7 +10,8 @@ ghost use Rattle.entry_numbers.specs.Numbers.{headerOf, numbersBytes, no
 use codec::Decoded;
 use codec::Encoded;
 use compact_u64::DecodedU64;
-use compact_u64::TagWidth;
+use entry_header::LENGTH_TAG_WIDTH;
+use entry_header::TIME_TAG_WIDTH;
 use grouping::RangeEnd;
 
 pub mod entry_header;
@@ -50,8 +51,8 @@ fn header_of(
         namespace_written: namespace_written,
         subspace_written: subspace_written,
         time_added: reference < time,
-        time_tag: compact_u64::min_tag(TagWidth::Two, difference),
-        length_tag: compact_u64::min_tag(TagWidth::Three, size),
+        time_tag: compact_u64::min_tag(TIME_TAG_WIDTH, difference),
+        length_tag: compact_u64::min_tag(LENGTH_TAG_WIDTH, size),
     }
 }
 
@@ -90,6 +91,7 @@ pub fn relative_decode(message: &[u8], header: EntryHeader, reference: u64) -> D
         0,
         from,
         header.time_added,
+        TIME_TAG_WIDTH,
         header.time_tag,
     );
     let DecodedU64::Value(time, a) = first else {
@@ -98,7 +100,7 @@ pub fn relative_decode(message: &[u8], header: EntryHeader, reference: u64) -> D
     let second = compact_u64::relative_decode(
         message,
         a,
-        TagWidth::Three,
+        LENGTH_TAG_WIDTH,
         header.length_tag,
         false,
     );
@@ -119,7 +121,7 @@ pub fn relative_len_of_encoding(time: u64, size: u64, reference: u64) -> usize
     ensures { λ r. ⌜ (r ≡ length (numbersBytes reference time size)) × (r ≤ 16) ⌝ }
 {
     let difference = time_distance::abs_diff(time, reference);
-    compact_u64::relative_len_of_pair(TagWidth::Two, difference, TagWidth::Three, size)
+    compact_u64::relative_len_of_pair(TIME_TAG_WIDTH, difference, LENGTH_TAG_WIDTH, size)
 }
 
 // Writes the time's difference and the payload length.
@@ -127,5 +129,5 @@ pub fn relative_encode(buffer: &mut [u8], time: u64, size: u64, reference: u64) 
     ensures { λ r. ⌜ (outcomeOf r ≡ putAnswer allowed (numbersBytes reference time size) (length (now (buffer .entry)))) × (now (buffer .exit) ≡ putBuffer allowed (numbersBytes reference time size) (now (buffer .entry))) ⌝ }
 {
     let difference = time_distance::abs_diff(time, reference);
-    compact_u64::relative_encode_pair(buffer, TagWidth::Two, difference, TagWidth::Three, size)
+    compact_u64::relative_encode_pair(buffer, TIME_TAG_WIDTH, difference, LENGTH_TAG_WIDTH, size)
 }

@@ -10,6 +10,7 @@ use Rattle.compact_u64.specs.Number.{numberBytes, standaloneBytes}
 use Rattle.compact_u64.proofs.Tags.{numberBytes-short}
 use Rattle.compact_u64.proofs.Standalone.{standalone-short}
 use Rattle.path.specs.Limits.{totalOf}
+use Rattle.path_suffix.specs.Header.{headerLength, totalWidth, countWidth}
 use Rattle.path_suffix.specs.Suffix.{sizedBytes, componentBytes, sizesOf, sizesBytes, suffixBytes, readSizes, readSuffix}
 use Rattle.path_suffix.proofs.Relations.{SizesAs, ComponentsAs, SuffixAs}
 use Rattle.path_suffix.proofs.Header.{sizes-reads, sizes-relaxes, sizes-bounded}
@@ -77,7 +78,7 @@ components-short (c ∷ []) = omega arith
 components-short (c ∷ d ∷ cs) =
     omega (arith, components-short (d ∷ cs), length-append (sizedBytes c) (componentBytes (d ∷ cs)), length-append (standaloneBytes (length c)) c, standalone-short (length c))
 
-pub suffix-short : (cs : List (List ℕ)) → length (suffixBytes cs) ≤ 17 + (9 * length cs + totalOf cs)
+pub suffix-short : (cs : List (List ℕ)) → length (suffixBytes cs) ≤ headerLength + 16 + (9 * length cs + totalOf cs)
 unfolding suffixBytes sizesBytes
 suffix-short cs =
     let h = sizesOf cs in
@@ -85,8 +86,8 @@ suffix-short cs =
       arith,
       components-short cs,
       length-append (sizesBytes (sizesOf cs)) (componentBytes cs),
-      length-append (numberBytes 4 (totalOf cs))
-          (numberBytes 4 (length cs)),
-      numberBytes-short 4 (totalOf cs),
-      numberBytes-short 4 (length cs),
+      length-append (numberBytes totalWidth (totalOf cs))
+          (numberBytes countWidth (length cs)),
+      numberBytes-short totalWidth (totalOf cs),
+      numberBytes-short countWidth (length cs),
     )

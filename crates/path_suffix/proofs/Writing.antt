@@ -3,7 +3,7 @@ use Rattle.codec.proofs.Prelude.{_≡_, refl, List, _∷_, _++_, ℕ, _+_, _-_,
 use Rattle.codec.specs.Format.{allowed, over, putBuffer}
 use Rattle.codec.proofs.Lending.{put-over, over-then, over-cons}
 use Rattle.compact_u64.specs.Number.{numberBytes, standaloneBytes}
-use Rattle.path_suffix.specs.Header.{packTags}
+use Rattle.path_suffix.specs.Header.{headerLength, totalWidth, countWidth, packTags}
 use Rattle.path_suffix.specs.Suffix.{Sizes, sizesFrom, sizesOf, tagsOf, sizesBytes, sizedBytes, componentBytes, suffixBytes}
 
 -- ---- bytes put at the start of a buffer
@@ -33,18 +33,18 @@ then-put l xs bs x n e h =
     rw (m, put-over bs (drop (length first) (over first l)) k) (over-then l first bs)
 
 -- ---- a suffix, by its parts
-pub sizes-long : (h : Sizes) → length (sizesBytes h) ≡ 1 + (length (numberBytes 4 (h .total)) + length (numberBytes 4 (h .count)))
+pub sizes-long : (h : Sizes) → length (sizesBytes h) ≡ headerLength + (length (numberBytes totalWidth (h .total)) + length (numberBytes countWidth (h .count)))
 unfolding sizesBytes
 sizes-long h = simp length-append (omega arith)
 
 -- the header byte and the first number, then the second
-pub sizes-put : (l : List ℕ) (total count n : ℕ) → n ≡ 1 + length (numberBytes 4 total) → length (sizesBytes (sizesFrom total count)) ≤ length l
-    → take n (over (packTags (tagsOf (sizesFrom total count)) ∷ numberBytes 4 total) l)
-    ++ putBuffer allowed (numberBytes 4 count) (drop n (over (packTags (tagsOf (sizesFrom total count)) ∷ numberBytes 4 total) l))
+pub sizes-put : (l : List ℕ) (total count n : ℕ) → n ≡ headerLength + length (numberBytes totalWidth total) → length (sizesBytes (sizesFrom total count)) ≤ length l
+    → take n (over (packTags (tagsOf (sizesFrom total count)) ∷ numberBytes totalWidth total) l)
+    ++ putBuffer allowed (numberBytes countWidth count) (drop n (over (packTags (tagsOf (sizesFrom total count)) ∷ numberBytes totalWidth total) l))
     ≡ over (sizesBytes (sizesFrom total count)) l
 unfolding sizesBytes
 sizes-put l total count n e h =
-    then-put l (numberBytes 4 total) (numberBytes 4 count) (packTags (tagsOf (sizesFrom total count))) n e (omega (arith, sizes-long (sizesFrom total count)))
+    then-put l (numberBytes totalWidth total) (numberBytes countWidth count) (packTags (tagsOf (sizesFrom total count))) n e (omega (arith, sizes-long (sizesFrom total count)))
 
 pub suffix-parts : (cs : List (List ℕ)) → length (suffixBytes cs) ≡ length (sizesBytes (sizesOf cs)) + length (componentBytes cs)
 unfolding suffixBytes

@@ -1,17 +1,28 @@
--- docs/FORMAT.md, "Paths": the header byte of a suffix, a tag of 4 bits for the total length, and one for the component count.
-use Prim.Native.Nat.{ℕ, _+_}
+-- docs/FORMAT.md, "Paths": the header byte of a suffix, a tag for the total length, and one for the component count.
+use Prim.Native.Nat.{ℕ, _+_, _-_}
 use Rattle.codec.specs.Header.{bitsAt, placed}
 use Rattle.path_suffix.specs.declared.Tags.{Tags}
 
--- where each tag starts
-abbrev pub totalAt : ℕ
-totalAt = 0
+-- how many bytes the header takes
+abbrev pub headerLength : ℕ
+headerLength = 1
 
+-- the widths of the tags
+abbrev pub totalWidth : ℕ
+totalWidth = 4
+
+abbrev pub countWidth : ℕ
+countWidth = 4
+
+-- where each tag stands, the last first: each before the one below it
 abbrev pub countAt : ℕ
-countAt = 4
+countAt = 8 - countWidth
+
+abbrev pub totalAt : ℕ
+totalAt = countAt - totalWidth
 
 abbrev pub unpackTags : ℕ → Tags
-unpackTags b = record { total = bitsAt totalAt 4 b; count = bitsAt countAt 4 b }
+unpackTags b = record { total = bitsAt totalAt totalWidth b; count = bitsAt countAt countWidth b }
 
 abbrev pub packTags : Tags → ℕ
-packTags t = placed totalAt 4 (t .total) + placed countAt 4 (t .count)
+packTags t = placed totalAt totalWidth (t .total) + placed countAt countWidth (t .count)

@@ -11,7 +11,7 @@ use Rattle.compact_u64.specs.Number.{minTag, numberBytes, readNumber, standalon
 use Rattle.path.specs.Record.{Path, componentsOf}
 use Rattle.path.specs.Limits.{maxComponentLength, totalOf}
 use Rattle.path_suffix.specs.declared.Tags.{Tags}
-use Rattle.path_suffix.specs.Header.{unpackTags, packTags}
+use Rattle.path_suffix.specs.Header.{totalWidth, countWidth, unpackTags, packTags}
 
 -- ---- bytes
 
@@ -36,11 +36,11 @@ abbrev pub sizesOf : List (List ℕ) → Sizes
 sizesOf cs = sizesFrom (totalOf cs) (length cs)
 
 abbrev pub tagsOf : Sizes → Tags
-tagsOf h = record { total = minTag 4 (h .total); count = minTag 4 (h .count) }
+tagsOf h = record { total = minTag totalWidth (h .total); count = minTag countWidth (h .count) }
 
 -- the header byte, and both numbers
 unfoldable pub sizesBytes : Sizes → List ℕ
-sizesBytes h = packTags (tagsOf h) ∷ (numberBytes 4 (h .total) ++ numberBytes 4 (h .count))
+sizesBytes h = packTags (tagsOf h) ∷ (numberBytes totalWidth (h .total) ++ numberBytes countWidth (h .count))
 
 unfoldable pub suffixBytes : List (List ℕ) → List ℕ
 suffixBytes cs = sizesBytes (sizesOf cs) ++ componentBytes cs
@@ -50,9 +50,9 @@ suffixBytes cs = sizesBytes (sizesOf cs) ++ componentBytes cs
 unfoldable pub readSizes : Bool → Reader Sizes
 readSizes canonic =
     andThen (readHeader unpackTags) (λ tags.
-    andThen (readNumber canonic 4 (tags .total)) (λ total.
+    andThen (readNumber canonic totalWidth (tags .total)) (λ total.
     mapped (sizesFrom total) (
-    readNumber canonic 4 (tags .count))))
+    readNumber canonic countWidth (tags .count))))
 
 -- a component after its length: a length above the limit is 2 before its bytes are looked for
 unfoldable pub readSized : Bool → Reader (List ℕ)

@@ -6,7 +6,7 @@ use Rattle.codec.specs.declared.Decoded.the-variants as decoded
 use Rattle.codec.proofs.Answers.{gives-refused, gives-accepted}
 use Rattle.compact_u64.specs.Number.{readNumber, readStandalone}
 use Rattle.compact_u64.proofs.Standalone.{standalone-bounded}
-use Rattle.path_suffix.specs.Header.{unpackTags}
+use Rattle.path_suffix.specs.Header.{headerLength, totalWidth, countWidth, unpackTags}
 use Rattle.path_suffix.specs.Suffix.{Sizes, sizesFrom, readSizes, readSized}
 use Rattle.path_suffix.proofs.Header.{sizes-bounded}
 use Rattle.path_suffix_decode.specs.declared.components.DecodedComponent.{DecodedComponent}
@@ -19,17 +19,17 @@ module _ (canonic : Bool) (s : List ℕ) (i : ℕ) where
   sizes-none h = rw (drop-of-length-le s h)
 
   module _ (h : i < length s) where
-    pub sizes-first : (k : ℕ) → readNumber canonic 4 (unpackTags (getD s i 0) .total) (drop (i + 1) s) ≡ refused k → readSizes canonic (drop i s) ≡ refused k
+    pub sizes-first : (k : ℕ) → readNumber canonic totalWidth (unpackTags (getD s i 0) .total) (drop (i + headerLength) s) ≡ refused k → readSizes canonic (drop i s) ≡ refused k
     unfolding readSizes
     sizes-first k e = rw (drop-cons s i 0 h, ← add-one i, e)
 
-    module _ (total a : ℕ) (e : readNumber canonic 4 (unpackTags (getD s i 0) .total) (drop (i + 1) s) ≡ accepted total a) where
-      pub sizes-second : (k : ℕ) → readNumber canonic 4 (unpackTags (getD s i 0) .count) (drop (i + 1 + a) s) ≡ refused k → readSizes canonic (drop i s) ≡ refused k
+    module _ (total a : ℕ) (e : readNumber canonic totalWidth (unpackTags (getD s i 0) .total) (drop (i + headerLength) s) ≡ accepted total a) where
+      pub sizes-second : (k : ℕ) → readNumber canonic countWidth (unpackTags (getD s i 0) .count) (drop (i + headerLength + a) s) ≡ refused k → readSizes canonic (drop i s) ≡ refused k
       unfolding readSizes
       sizes-second k f = rw (drop-cons s i 0 h, ← add-one i, e, drop-drop, f)
 
-      pub sizes-both : (count b : ℕ) → readNumber canonic 4 (unpackTags (getD s i 0) .count) (drop (i + 1 + a) s) ≡ accepted count b
-          → readSizes canonic (drop i s) ≡ accepted (sizesFrom total count) (1 + (a + b))
+      pub sizes-both : (count b : ℕ) → readNumber canonic countWidth (unpackTags (getD s i 0) .count) (drop (i + headerLength + a) s) ≡ accepted count b
+          → readSizes canonic (drop i s) ≡ accepted (sizesFrom total count) (headerLength + (a + b))
       unfolding readSizes
       sizes-both count b f = rw (drop-cons s i 0 h, ← add-one i, e, drop-drop, f)
 

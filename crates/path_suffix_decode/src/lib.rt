@@ -10,9 +10,12 @@ ghost use Rattle.path_suffix_decode.specs.Answers.{noSizes};
 ghost use Rattle.path_suffix_decode.specs.After.{readMore, readAfter};
 use codec::Decoded;
 use compact_u64::DecodedU64;
-use compact_u64::TagWidth;
 use path::Appended;
 use path::PathBuilder;
+use path_suffix_encode::suffix_header;
+use path_suffix_encode::suffix_header::COUNT_WIDTH;
+use path_suffix_encode::suffix_header::HEADER_LENGTH;
+use path_suffix_encode::suffix_header::TOTAL_WIDTH;
 
 mod components;
 
@@ -40,16 +43,16 @@ pub fn decode_sizes(message: &[u8], start: usize, canonic: bool) -> DecodedSizes
     if message.len() <= start {
         return refuse(Decoded::EndOfInput);
     }
-    let tags = path_suffix_encode::suffix_header::unpack_tags(message[start]);
-    let first = start + 1;
-    let number = compact_u64::relative_decode(message, first, TagWidth::Four, tags.total, canonic);
+    let tags = suffix_header::unpack_tags(message[start]);
+    let first = start + HEADER_LENGTH;
+    let number = compact_u64::relative_decode(message, first, TOTAL_WIDTH, tags.total, canonic);
     let DecodedU64::Value(total, a) = number else {
         return refuse(compact_u64::unvalued(number));
     };
     let number2 = compact_u64::relative_decode(
         message,
         first + a,
-        TagWidth::Four,
+        COUNT_WIDTH,
         tags.count,
         canonic,
     );
@@ -57,7 +60,7 @@ pub fn decode_sizes(message: &[u8], start: usize, canonic: bool) -> DecodedSizes
         return refuse(compact_u64::unvalued(number2));
     };
     DecodedSizes {
-        answer: Decoded::Consumed(1 + (a + b)),
+        answer: Decoded::Consumed(HEADER_LENGTH + (a + b)),
         total: total,
         count: count,
     }

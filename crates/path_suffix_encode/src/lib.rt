@@ -4,7 +4,6 @@ ghost use Prim.Native.Nat.{_≤_};
 ghost use lib.ListN.{length};
 ghost use Rattle.codec.specs.Format.{over};
 ghost use Rattle.path_suffix.specs.Suffix.{sizesFrom, sizedBytes, sizesBytes};
-use compact_u64::TagWidth;
 use path_suffix::Tags;
 
 pub mod sized;
@@ -35,14 +34,19 @@ fn put_sizes(buffer: &mut [u8], total: u64, count: u64) -> usize
     requires { ⌜ length (sizesBytes (sizesFrom total count)) ≤ length (now buffer) ⌝ }
     ensures { λ r. ⌜ (r ≡ length (sizesBytes (sizesFrom total count))) × (now (buffer .exit) ≡ over (sizesBytes (sizesFrom total count)) (now (buffer .entry))) ⌝ }
 {
-    let a = 1 + compact_u64::relative_len_of_encoding(TagWidth::Four, total);
-    let b = a + compact_u64::relative_len_of_encoding(TagWidth::Four, count);
+    let a = suffix_header::HEADER_LENGTH
+        + compact_u64::relative_len_of_encoding(suffix_header::TOTAL_WIDTH, total);
+    let b = a + compact_u64::relative_len_of_encoding(suffix_header::COUNT_WIDTH, count);
     let tags = Tags {
-        total: compact_u64::min_tag(TagWidth::Four, total),
-        count: compact_u64::min_tag(TagWidth::Four, count),
+        total: compact_u64::min_tag(suffix_header::TOTAL_WIDTH, total),
+        count: compact_u64::min_tag(suffix_header::COUNT_WIDTH, count),
     };
     buffer[0] = suffix_header::pack_tags(tags);
-    compact_u64::relative_encode(&mut buffer[1..], TagWidth::Four, total);
-    compact_u64::relative_encode(&mut buffer[a..], TagWidth::Four, count);
+    compact_u64::relative_encode(
+        &mut buffer[suffix_header::HEADER_LENGTH..],
+        suffix_header::TOTAL_WIDTH,
+        total,
+    );
+    compact_u64::relative_encode(&mut buffer[a..], suffix_header::COUNT_WIDTH, count);
     b
 }

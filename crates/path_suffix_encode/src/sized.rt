@@ -8,8 +8,8 @@ ghost use Rattle.path.specs.Record.{componentsOf, sized};
 ghost use Rattle.path.specs.inside.Sizes.{Leads};
 ghost use Rattle.path.specs.Flat.{pathIn};
 ghost use Rattle.path_suffix.specs.Suffix.{componentBytes, suffixBytes, suffixBy};
+use crate::suffix_header;
 use codec::Encoded;
-use compact_u64::TagWidth;
 
 // How many bytes the components from the k-th on are written as.
 fn components_len(path: &[u8], k: usize) -> usize
@@ -60,9 +60,9 @@ fn len_of(path: &[u8], k: usize) -> usize
 {
     let n = path::lent::count(path);
     let total = path::lent::span(path, k, n) as u64;
-    let a = compact_u64::relative_len_of_encoding(TagWidth::Four, total);
-    let b = compact_u64::relative_len_of_encoding(TagWidth::Four, (n - k) as u64);
-    1 + (a + b) + components_len(path, k)
+    let a = compact_u64::relative_len_of_encoding(suffix_header::TOTAL_WIDTH, total);
+    let b = compact_u64::relative_len_of_encoding(suffix_header::COUNT_WIDTH, (n - k) as u64);
+    suffix_header::HEADER_LENGTH + (a + b) + components_len(path, k)
 }
 
 // Writes the suffix from the k-th component on.

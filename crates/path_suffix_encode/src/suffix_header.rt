@@ -2,19 +2,33 @@
 ghost use mathlib.Core.Path.{_≡_};
 ghost use Rattle.path_suffix.specs.Header.{unpackTags, packTags};
 ghost use Rattle.path_suffix.specs.inside.Header.{TagsFit};
+use compact_u64::TagWidth;
 use path_suffix::Tags;
 
-// What one of each tag adds to the header byte.
-const TOTAL: u8 = 16;
+// How many bytes the header takes.
+pub const HEADER_LENGTH: usize = 1;
 
+// The widths of the tags.
+pub const TOTAL_WIDTH: TagWidth = TagWidth::Four;
+
+pub const COUNT_WIDTH: TagWidth = TagWidth::Four;
+
+// What one of each tag adds to the byte, the last first: each stands above the one before it.
 const COUNT: u8 = 1;
+
+const TOTAL: u8 = COUNT << COUNT_WIDTH as u8;
+
+// How many tags there are.
+const TOTAL_TAGS: u8 = 1 << TOTAL_WIDTH as u8;
+
+const COUNT_TAGS: u8 = 1 << COUNT_WIDTH as u8;
 
 pub fn unpack_tags(b: u8) -> Tags
     ensures { λ r. ⌜ r ≡ unpackTags b ⌝ }
 {
     Tags {
-        total: b / TOTAL % 16,
-        count: b / COUNT % 16,
+        total: b / TOTAL % TOTAL_TAGS,
+        count: b / COUNT % COUNT_TAGS,
     }
 }
 

@@ -19,7 +19,7 @@ use Rattle.range_times.specs.Header.{unpackHeader as unpackTimes}
 use Rattle.range_times.specs.Times.{readTimes}
 use Rattle.range_times.proofs.Times.{times-bounded}
 use Rattle.range_header.specs.declared.Range3dHeader.{Range3dHeader}
-use Rattle.range_header.specs.Header.{unpackHeader}
+use Rattle.range_header.specs.Header.{headerLength, unpackHeader}
 use Rattle.range3d_range3d.specs.Range.{sourcesIn, sidesIn, valueFrom, readParts, readRange}
 use Rattle.range3d_range3d.specs.Records.{readAgainstRange}
 use Rattle.range3d_range3d.specs.inside.Reading.{readPathsTimes}
@@ -31,24 +31,25 @@ module _ (r : Range3d) (s : List ℕ) where
   range-unformed w = rw w
 
 module _ (r : Range3d) (w : wellFormedRange3d r ≡ true) (s : List ℕ) (i : ℕ) where
-  pub header-cut : length s ≤ i + 1 → readAgainstRange r (drop i s) ≡ refused 1
+  pub header-cut : length s < i + headerLength → readAgainstRange r (drop i s) ≡ refused 1
   unfolding readAgainstRange readRange
   header-cut h = rw w (go (drop i s) (omega (arith, length-drop i s)))
     where
-      go : (l : List ℕ) → length l ≤ 1 → mapped rangeFrom (readRange (rangeOf r)) l ≡ refused 1
+      go : (l : List ℕ) → length l < headerLength → mapped rangeFrom (readRange (rangeOf r)) l ≡ refused 1
       go [] h = refl
       go (b ∷ []) h = refl
       go (b ∷ d ∷ l) h = absurd (omega arith)
 
-  pub header-read : i + 1 < length s → readAgainstRange r (drop i s) ≡ shift 2 (mapped rangeFrom (readParts (rangeOf r) (unpackHeader (getD s i 0)) (getD s (i + 1) 0)) (drop (i + 1 + 1) s))
+  pub header-read : i + headerLength ≤ length s
+      → readAgainstRange r (drop i s) ≡ shift headerLength (mapped rangeFrom (readParts (rangeOf r) (unpackHeader (getD s i 0)) (getD s (i + 1) 0)) (drop (i + headerLength) s))
   unfolding readAgainstRange readRange
   header-read k =
-      let h : i < length s = omega (arith, k) in
-      rw (w, drop-cons s i 0 h, ← (add-one i), drop-cons s (i + 1) 0 k, ← (add-one (i + 1)))
-      (twice (readParts (rangeOf r) (unpackHeader (getD s i 0)) (getD s (i + 1) 0) (drop (i + 1 + 1) s)))
+      let at : i + 1 + 1 ≡ i + headerLength = omega arith in
+      rw (w, drop-cons s i 0 (omega (arith, k)), ← (add-one i), drop-cons s (i + 1) 0 (omega (arith, k)), ← (add-one (i + 1)), at)
+      (twice (readParts (rangeOf r) (unpackHeader (getD s i 0)) (getD s (i + 1) 0) (drop (i + headerLength) s)))
     where
-      twice : (x : Answer Range3dValue) → named rangeFrom (shift 1 (shift 1 x)) ≡ shift 2 (named rangeFrom x)
-      twice (accepted v n) = let two : 1 + (1 + n) ≡ 2 + n = omega arith in rw two
+      twice : (x : Answer Range3dValue) → named rangeFrom (shift 1 (shift 1 x)) ≡ shift headerLength (named rangeFrom x)
+      twice (accepted v n) = let both : 1 + (1 + n) ≡ headerLength + n = omega arith in rw both
       twice (refused k) = refl
 
 -- ---- what follows the header bytes

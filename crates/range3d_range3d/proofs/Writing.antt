@@ -19,15 +19,16 @@ use Rattle.range_paths.specs.Records.{measureOf, measureIn}
 use Rattle.range_paths.specs.inside.Writing.{bothBytes, Shares}
 use Rattle.range_paths.proofs.Writing.{told-is, told-shares, told-bytes, told-long, told-short}
 use Rattle.range_times.specs.Times.{timesBytes}
+use Rattle.range_header.specs.Header.{headerLength}
 use Rattle.range3d_range3d.specs.Range.{headerOf, rangeBytes}
 use Rattle.range3d_range3d.specs.Records.{againstRange}
 use Rattle.range3d_range3d.specs.inside.Writing.{measureRange, headWith, measuredRange}
 
--- two bytes set at the start
-pub over-two : (l : List ℕ) (x y : ℕ) → 2 ≤ length l → set (set l 0 x) 1 y ≡ over (x ∷ y ∷ []) l
-over-two [] x y h = absurd (omega arith)
-over-two (a ∷ []) x y h = absurd (omega arith)
-over-two (a ∷ b ∷ l) x y h = refl
+-- the header bytes set at the start
+pub over-head : (l : List ℕ) (x y : ℕ) → headerLength ≤ length l → set (set l 0 x) 1 y ≡ over (x ∷ y ∷ []) l
+over-head [] x y h = absurd (omega arith)
+over-head (a ∷ []) x y h = absurd (omega arith)
+over-head (a ∷ b ∷ l) x y h = refl
 
 over-long : (bs l : List ℕ) → length bs ≤ length l → length (over bs l) ≡ length l
 over-long bs l h = length-append bs (drop (length bs) l) ∙ omega (arith, length-drop (length bs) l)
@@ -104,7 +105,7 @@ module _ (r v : Range3d) where
 -- ---- the parts of what is written
 module _ (r : Range3dHead) (v : Range3d) (m : MeasuredPaths) where
   pub measured-long : (s n t : ℕ) → s ≡ length (subspacesBytes (subspacesOf (r .subspaces)) (subspacesOf (v .subspaces))) → n ≡ length (bothBytes (v .paths) m)
-      → t ≡ length (timesBytes (r .times) (v .times)) → 2 + (s + (n + t)) ≡ length (measuredRange r m .encode v)
+      → t ≡ length (timesBytes (r .times) (v .times)) → headerLength + (s + (n + t)) ≡ length (measuredRange r m .encode v)
   measured-long s n t es en et =
       let subspaces = subspacesBytes (subspacesOf (r .subspaces)) (subspacesOf (v .subspaces)) in
       let times = timesBytes (r .times) (v .times) in
@@ -119,7 +120,7 @@ module _ (r : Range3dHead) (v : Range3d) (m : MeasuredPaths) where
 
 pub range-long : (r v : Range3d) {m : MeasuredPaths} (k : Measures r v m) (s t : ℕ)
     → s ≡ length (subspacesBytes (subspacesOf (r .subspaces)) (subspacesOf (v .subspaces))) → t ≡ length (timesBytes (r .times) (v .times))
-    → 2 + (s + (m .len + t)) ≡ length (againstRange r .encode v)
+    → headerLength + (s + (m .len + t)) ≡ length (againstRange r .encode v)
 range-long r v {m} k s t es et = measured-long (headOf r) v m s (m .len) t es (k .long) et ∙ ap length (k .bytes)
 
 -- both paths

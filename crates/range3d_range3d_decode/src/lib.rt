@@ -2,7 +2,7 @@
 ghost use mathlib.Core.Path.{_≡_};
 ghost use mathlib.Core.Bool.{true};
 ghost use Prim.Native.Nat.{_+_, _<_, _^_};
-ghost use lib.Dec.{ltb};
+ghost use lib.Dec.{leb};
 ghost use lib.ListN.{length, drop, replicate};
 ghost use Rattle.codec.specs.Answers.{Gives};
 ghost use Rattle.codec.specs.Reader.{shift, mapped};
@@ -12,6 +12,7 @@ ghost use Rattle.range_3d.specs.Record.{rangeWith, rangeOf, rangeFrom};
 ghost use Rattle.range_3d.specs.inside.Sizes.{sizedRange3d};
 ghost use Rattle.grouping.specs.Answers.{noTimes};
 ghost use Rattle.range_paths.specs.Records.{pathsWith, emptyPaths};
+ghost use Rattle.range_header.specs.Header.{headerLength};
 ghost use Rattle.range3d_range3d.specs.Range.{readParts};
 ghost use Rattle.range3d_range3d.specs.Records.{readAgainstRange};
 ghost use Rattle.range3d_range3d.specs.inside.Reading.{readPathsTimes};
@@ -19,18 +20,19 @@ use codec::Decoded;
 use grouping::DecodedTimes;
 use range_3d::DecodedRange3dHead;
 use range_3d::Range3dHead;
+use range_header::HEADER_LENGTH;
 use range_header::Range3dHeader;
 use range_paths::Sides;
 use range_subspaces::Sources;
 
-// Whether two header bytes lie at `start`.
+// Whether the header bytes lie at `start`.
 fn has_header(len: usize, start: usize) -> bool
-    ensures { λ r. ⌜ r ≡ ltb (start + 1) len ⌝ }
+    ensures { λ r. ⌜ r ≡ leb (start + headerLength) len ⌝ }
 {
     if len <= start {
         return false;
     }
-    start + 1 < len
+    HEADER_LENGTH <= len - start
 }
 
 // Reads what follows the subspaces; `times` is the second header byte.
@@ -79,7 +81,7 @@ fn decode_rest<'a>(
     }
 }
 
-// Reads what follows the two header bytes, and counts them; `times` is the second. Both records are empty.
+// Reads what follows the header bytes, and counts them; `times` is the second. Both records are empty.
 fn decode_parts<'a>(
     message: &[u8],
     header: Range3dHeader,
@@ -90,8 +92,8 @@ fn decode_parts<'a>(
     start: &mut [u8; 641],
     end: &mut [u8; 641],
 ) -> DecodedRange3dHead
-    requires { ⌜ (2 + length (now message) < 2 ^ 64) × (sizedRange3d (rangeWith reference (pathIn (now «reference_start»)) (pathIn (now «reference_end»))) ≡ true) × (now start ≡ replicate pathSize 0) × (now end ≡ replicate pathSize 0) ⌝ }
-    ensures { λ r. ⌜ ReadsRange r (now (start .exit)) (now (end .exit)) (shift 2 (mapped rangeFrom (readParts (rangeOf (rangeWith reference (pathIn (now («reference_start» .entry))) (pathIn (now («reference_end» .entry))))) header times) (now (message .entry)))) ⌝ }
+    requires { ⌜ (headerLength + length (now message) < 2 ^ 64) × (sizedRange3d (rangeWith reference (pathIn (now «reference_start»)) (pathIn (now «reference_end»))) ≡ true) × (now start ≡ replicate pathSize 0) × (now end ≡ replicate pathSize 0) ⌝ }
+    ensures { λ r. ⌜ ReadsRange r (now (start .exit)) (now (end .exit)) (shift headerLength (mapped rangeFrom (readParts (rangeOf (rangeWith reference (pathIn (now («reference_start» .entry))) (pathIn (now («reference_end» .entry))))) header times) (now (message .entry)))) ⌝ }
 {
     let subspace_start = header.subspace_start;
     let subspace_end = header.subspace_end;
@@ -122,7 +124,7 @@ fn decode_parts<'a>(
     let subspaces = first.subspaces;
     let range_times = second.times;
     DecodedRange3dHead {
-        answer: Decoded::Consumed(2 + (a + b)),
+        answer: Decoded::Consumed(HEADER_LENGTH + (a + b)),
         head: Range3dHead {
             subspaces: subspaces,
             end_open: header.path_end_open,
@@ -156,7 +158,7 @@ pub fn relative_decode<'a>(
     let header = range_header::unpack(message[from]);
     let second = from + 1;
     let times = message[second];
-    let at = second + 1;
+    let at = from + HEADER_LENGTH;
     let rest = &message[at..];
     decode_parts(
         rest,

@@ -9,6 +9,7 @@ ghost use Rattle.range3d_range3d.specs.Records.{againstRange};
 ghost use Rattle.range3d_range3d.specs.inside.Writing.{measureRange};
 use codec::Encoded;
 use range_3d::Range3dHead;
+use range_header::HEADER_LENGTH;
 use range_paths::Measured;
 
 mod range_encode;
@@ -59,7 +60,7 @@ pub fn relative_len_of_encoding<'a>(
     };
     let a = range_subspaces::relative_len_of_encoding(range.subspaces, reference.subspaces);
     let c = range_times::relative_len_of_encoding(range.times, reference.times);
-    Encoded::Length(2 + (a + (paths.len + c)))
+    Encoded::Length(HEADER_LENGTH + (a + (paths.len + c)))
 }
 
 // Writes a 3d range against a reference.

@@ -1,4 +1,4 @@
-// Writing the two header bytes and what follows them, paths lent as their records.
+// Writing the header bytes and what follows them, paths lent as their records.
 ghost use mathlib.Core.Path.{_≡_};
 ghost use Prim.Native.Nat.{_≤_};
 ghost use lib.ListN.{length};
@@ -7,15 +7,17 @@ ghost use Rattle.path.specs.Flat.{pathIn};
 ghost use Rattle.range_3d.specs.Record.{rangeWith};
 ghost use Rattle.range_paths.specs.Records.{pathsWith};
 ghost use Rattle.range_paths.specs.inside.Writing.{bothBytes, Shares};
+ghost use Rattle.range_header.specs.Header.{headerLength};
 ghost use Rattle.range3d_range3d.specs.inside.Writing.{headWith, measuredRange};
 use codec::Encoded;
 use range_3d::Range3dHead;
+use range_header::HEADER_LENGTH;
 use range_header::Range3dHeader;
 use range_paths::MeasuredPaths;
 
-// The two header bytes.
+// The header bytes.
 fn put_head(buffer: &mut [u8], range: Range3dHead, reference: Range3dHead, paths: MeasuredPaths)
-    requires { ⌜ 2 ≤ length (now buffer) ⌝ }
+    requires { ⌜ headerLength ≤ length (now buffer) ⌝ }
     ensures { λ _. ⌜ now (buffer .exit) ≡ over (headWith reference range paths) (now (buffer .entry)) ⌝ }
 {
     let sources = range_subspaces::sources_of(range.subspaces, reference.subspaces);
@@ -68,14 +70,19 @@ pub(crate) fn put_range<'a>(
     requires { ⌜ Shares (rangeWith range (pathIn (now start)) (pathIn (now end)) .paths) paths × (paths .len ≡ length (bothBytes (rangeWith range (pathIn (now start)) (pathIn (now end)) .paths) paths)) × (paths .len ≤ 1800) ⌝ }
     ensures { λ r. ⌜ WritesInto (measuredRange reference paths) (rangeWith range (pathIn (now (start .entry))) (pathIn (now (end .entry)))) r (now (buffer .entry)) (now (buffer .exit)) ⌝ }
 {
-    let s = 2 + range_subspaces::relative_len_of_encoding(range.subspaces, reference.subspaces);
+    let s = HEADER_LENGTH
+        + range_subspaces::relative_len_of_encoding(range.subspaces, reference.subspaces);
     let t = s + paths.len;
     let whole = t + range_times::relative_len_of_encoding(range.times, reference.times);
     if buffer.len() < whole {
         return Encoded::NoRoom;
     }
     put_head(buffer, range, reference, paths);
-    range_subspaces::relative_encode(&mut buffer[2..], range.subspaces, reference.subspaces);
+    range_subspaces::relative_encode(
+        &mut buffer[HEADER_LENGTH..],
+        range.subspaces,
+        reference.subspaces,
+    );
     put_paths(&mut buffer[s..], start, range.end_open, end, paths);
     range_times::relative_encode(&mut buffer[t..], range.times, reference.times);
     Encoded::Length(whole)

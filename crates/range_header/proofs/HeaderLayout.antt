@@ -1,14 +1,14 @@
 -- The first header byte of a 3d range: packing and taking apart undo each other. No law here knows a place.
-use Rattle.codec.proofs.Prelude.{_≡_, refl, ℕ, _+_, _≤_, _<_, arith}
+use Rattle.codec.proofs.Prelude.{_≡_, refl, ℕ, _+_, _≤_, _<_, _^_, arith}
 use Rattle.codec.specs.Header.{bitsAt, placed, bit, Layout}
 use Rattle.codec.proofs.Header.{bit-small, flag-of, same-bytes}
 use Rattle.range_subspaces.specs.declared.IdSource.{IdSource}
 use Rattle.range_subspaces.specs.declared.IdSource.the-variants.{Nowhere, Start, End, Written}
 use Rattle.range_header.specs.declared.Range3dHeader.{Range3dHeader}
-use Rattle.range_header.specs.Header.{subspaceStartAt, subspaceEndAt, pathStartFromStartAt, pathEndOpenAt, pathEndFromStartAt, timesEndOpenAt, sourceBits, sourceFrom, unpackHeader, packHeader}
+use Rattle.range_header.specs.Header.{sourceWidth, subspaceStartAt, subspaceEndAt, pathStartFromStartAt, pathEndOpenAt, pathEndFromStartAt, timesEndOpenAt, sourceBits, sourceFrom, unpackHeader, packHeader}
 
 -- ---- where an id is taken from
-bits-small : (x : IdSource) → sourceBits x < 4
+bits-small : (x : IdSource) → sourceBits x < 2 ^ sourceWidth
 bits-small Nowhere = omega arith
 bits-small Start = omega arith
 bits-small End = omega arith
@@ -23,18 +23,18 @@ source-of n Written e = rw e
 -- the sum of the parts, each a number that fits its bits
 abbrev sum : ℕ → ℕ → ℕ → ℕ → ℕ → ℕ → ℕ
 sum s t a b d e =
-    placed subspaceStartAt 2 s + placed subspaceEndAt 2 t + placed pathStartFromStartAt 1 a + placed pathEndOpenAt 1 b + placed pathEndFromStartAt 1 d + placed timesEndOpenAt 1 e
+    placed subspaceStartAt sourceWidth s + placed subspaceEndAt sourceWidth t + placed pathStartFromStartAt 1 a + placed pathEndOpenAt 1 b + placed pathEndFromStartAt 1 d + placed timesEndOpenAt 1 e
 
 record Parts (p s t a b d e : ℕ) : Type 0 where
   byte : p < 256
-  s-is : bitsAt subspaceStartAt 2 p ≡ s
-  t-is : bitsAt subspaceEndAt 2 p ≡ t
+  s-is : bitsAt subspaceStartAt sourceWidth p ≡ s
+  t-is : bitsAt subspaceEndAt sourceWidth p ≡ t
   a-is : bitsAt pathStartFromStartAt 1 p ≡ a
   b-is : bitsAt pathEndOpenAt 1 p ≡ b
   d-is : bitsAt pathEndFromStartAt 1 p ≡ d
   e-is : bitsAt timesEndOpenAt 1 p ≡ e
 
-parts : (s t a b d e : ℕ) → s < 4 → t < 4 → a ≤ 1 → b ≤ 1 → d ≤ 1 → e ≤ 1 → Parts (sum s t a b d e) s t a b d e
+parts : (s t a b d e : ℕ) → s < 2 ^ sourceWidth → t < 2 ^ sourceWidth → a ≤ 1 → b ≤ 1 → d ≤ 1 → e ≤ 1 → Parts (sum s t a b d e) s t a b d e
 parts s t a b d e i j k l m n =
     record { byte = omega arith; s-is = omega arith; t-is = omega arith; a-is = omega arith; b-is = omega arith; d-is = omega arith; e-is = omega arith }
 
@@ -47,8 +47,8 @@ header-apart h =
     (bit-small (h .«path_end_from_start»)) (bit-small (h .«times_end_open»)) in (
       x .byte,
       rw (
-        source-of (bitsAt subspaceStartAt 2 p) (h .«subspace_start») (x .s-is),
-        source-of (bitsAt subspaceEndAt 2 p) (h .«subspace_end») (x .t-is),
+        source-of (bitsAt subspaceStartAt sourceWidth p) (h .«subspace_start») (x .s-is),
+        source-of (bitsAt subspaceEndAt sourceWidth p) (h .«subspace_end») (x .t-is),
         flag-of pathStartFromStartAt p (h .«path_start_from_start») (x .a-is),
         flag-of pathEndOpenAt p (h .«path_end_open») (x .b-is),
         flag-of pathEndFromStartAt p (h .«path_end_from_start») (x .d-is),

@@ -1,32 +1,40 @@
 -- docs/FORMAT.md, "3d ranges": the first header byte.
 use mathlib.Core.Bool.{cond}
-use Prim.Native.Nat.{ℕ, _+_}
+use Prim.Native.Nat.{ℕ, _+_, _-_}
 use lib.Dec.{eqb}
 use Rattle.codec.specs.Header.{bitsAt, flag, placed, bit}
 use Rattle.range_subspaces.specs.declared.IdSource.{IdSource}
 use Rattle.range_subspaces.specs.declared.IdSource.the-variants.{Nowhere, Start, End, Written}
 use Rattle.range_header.specs.declared.Range3dHeader.{Range3dHeader}
 
--- where each part stands
-abbrev pub subspaceStartAt : ℕ
-subspaceStartAt = 0
+-- how many bytes both headers take
+abbrev pub headerLength : ℕ
+headerLength = 2
 
-abbrev pub subspaceEndAt : ℕ
-subspaceEndAt = 2
+-- the bits that say where an id is taken from
+abbrev pub sourceWidth : ℕ
+sourceWidth = 2
 
-abbrev pub pathStartFromStartAt : ℕ
-pathStartFromStartAt = 4
-
-abbrev pub pathEndOpenAt : ℕ
-pathEndOpenAt = 5
+-- where each part stands, the last first: each before the one below it
+abbrev pub timesEndOpenAt : ℕ
+timesEndOpenAt = 8 - 1
 
 abbrev pub pathEndFromStartAt : ℕ
-pathEndFromStartAt = 6
+pathEndFromStartAt = timesEndOpenAt - 1
 
-abbrev pub timesEndOpenAt : ℕ
-timesEndOpenAt = 7
+abbrev pub pathEndOpenAt : ℕ
+pathEndOpenAt = pathEndFromStartAt - 1
 
--- where an id is taken from, in two bits
+abbrev pub pathStartFromStartAt : ℕ
+pathStartFromStartAt = pathEndOpenAt - 1
+
+abbrev pub subspaceEndAt : ℕ
+subspaceEndAt = pathStartFromStartAt - sourceWidth
+
+abbrev pub subspaceStartAt : ℕ
+subspaceStartAt = subspaceEndAt - sourceWidth
+
+-- where an id is taken from
 abbrev pub sourceBits : IdSource → ℕ
 sourceBits Nowhere = 0
 sourceBits Start = 1
@@ -38,8 +46,8 @@ sourceFrom n = cond (eqb n 0) Nowhere (cond (eqb n 1) Start (cond (eqb n 2) End 
 
 abbrev pub unpackHeader : ℕ → Range3dHeader
 unpackHeader b = record {
-  «subspace_start» = sourceFrom (bitsAt subspaceStartAt 2 b);
-  «subspace_end» = sourceFrom (bitsAt subspaceEndAt 2 b);
+  «subspace_start» = sourceFrom (bitsAt subspaceStartAt sourceWidth b);
+  «subspace_end» = sourceFrom (bitsAt subspaceEndAt sourceWidth b);
   «path_start_from_start» = flag pathStartFromStartAt b;
   «path_end_open» = flag pathEndOpenAt b;
   «path_end_from_start» = flag pathEndFromStartAt b;
@@ -48,8 +56,8 @@ unpackHeader b = record {
 
 abbrev pub packHeader : Range3dHeader → ℕ
 packHeader h =
-    placed subspaceStartAt 2 (sourceBits (h .«subspace_start»))
-    + placed subspaceEndAt 2 (sourceBits (h .«subspace_end»))
+    placed subspaceStartAt sourceWidth (sourceBits (h .«subspace_start»))
+    + placed subspaceEndAt sourceWidth (sourceBits (h .«subspace_end»))
     + placed pathStartFromStartAt 1 (bit (h .«path_start_from_start»))
     + placed pathEndOpenAt 1 (bit (h .«path_end_open»))
     + placed pathEndFromStartAt 1 (bit (h .«path_end_from_start»))

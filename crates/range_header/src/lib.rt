@@ -1,7 +1,7 @@
 // The first header byte of a 3d range: docs/FORMAT.md, "3d ranges". Part of a port of relative_encodings/range3d_range3d.rs.
 ghost use mathlib.Core.Path.{_≡_};
-ghost use Prim.Native.Nat.{_≤_};
-ghost use Rattle.range_header.specs.Header.{sourceFrom, sourceBits, unpackHeader, packHeader};
+ghost use Prim.Native.Nat.{_<_, _^_};
+ghost use Rattle.range_header.specs.Header.{sourceWidth, sourceFrom, sourceBits, unpackHeader, packHeader};
 use range_subspaces::IdSource;
 
 // What the first header byte says; the second is that of the times.
@@ -14,18 +14,26 @@ pub struct Range3dHeader {
     pub times_end_open: bool,
 }
 
-// What one of each part adds to the byte.
-const SUBSPACE_START: u8 = 64;
+// How many bytes both headers take.
+pub const HEADER_LENGTH: usize = 2;
 
-const SUBSPACE_END: u8 = 16;
+// The bits that say where an id is taken from, and how many numbers they hold.
+const SOURCE_WIDTH: u8 = 2;
 
-const PATH_START_FROM_START: u8 = 8;
+const SOURCES: u8 = 1 << SOURCE_WIDTH;
 
-const PATH_END_OPEN: u8 = 4;
-
-const PATH_END_FROM_START: u8 = 2;
-
+// What one of each part adds to the byte, the last part first: each stands above the one before it.
 const TIMES_END_OPEN: u8 = 1;
+
+const PATH_END_FROM_START: u8 = TIMES_END_OPEN << 1;
+
+const PATH_END_OPEN: u8 = PATH_END_FROM_START << 1;
+
+const PATH_START_FROM_START: u8 = PATH_END_OPEN << 1;
+
+const SUBSPACE_END: u8 = PATH_START_FROM_START << 1;
+
+const SUBSPACE_START: u8 = SUBSPACE_END << SOURCE_WIDTH;
 
 fn source_from(bits: u8) -> IdSource
     ensures { λ r. ⌜ r ≡ sourceFrom bits ⌝ }
@@ -39,7 +47,7 @@ fn source_from(bits: u8) -> IdSource
 }
 
 fn source_bits(source: IdSource) -> u8
-    ensures { λ r. ⌜ (r ≡ sourceBits source) × (r ≤ 3) ⌝ }
+    ensures { λ r. ⌜ (r ≡ sourceBits source) × (r < 2 ^ sourceWidth) ⌝ }
 {
     match source {
         IdSource::Nowhere => 0,
@@ -53,8 +61,8 @@ fn source_bits(source: IdSource) -> u8
 pub fn unpack(b: u8) -> Range3dHeader
     ensures { λ r. ⌜ r ≡ unpackHeader b ⌝ }
 {
-    let start = source_from(b / SUBSPACE_START % 4);
-    let end = source_from(b / SUBSPACE_END % 4);
+    let start = source_from(b / SUBSPACE_START % SOURCES);
+    let end = source_from(b / SUBSPACE_END % SOURCES);
     Range3dHeader {
         subspace_start: start,
         subspace_end: end,

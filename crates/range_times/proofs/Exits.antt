@@ -8,6 +8,7 @@ use Rattle.grouping.specs.declared.RangeEnd.the-variants.{Closed, Open}
 use Rattle.grouping.specs.declared.TimeRange.{TimeRange}
 use Rattle.time_distance.specs.Distance.{nearestOf, sideOf, readFrom}
 use Rattle.range_times.specs.declared.RangeTimesHeader.{RangeTimesHeader}
+use Rattle.range_times.specs.Header.{startTagWidth, endTagWidth}
 use Rattle.range_times.specs.Times.{timesBytes, readEnd, readTimes}
 use Rattle.grouping.specs.Range.{timesFrom}
 
@@ -17,15 +18,15 @@ module _ (r : TimeRange) (endOpen : Bool) (h : RangeTimesHeader) (s : List ℕ) 
   unfolding readEnd
   end-open o = rw o
 
-  pub end-closed : endOpen ≡ false → readEnd r endOpen h s ≡ named Closed (readFrom (sideOf r (h .«end_from_start»)) (h .«end_added») (h .«end_tag») s)
+  pub end-closed : endOpen ≡ false → readEnd r endOpen h s ≡ named Closed (readFrom endTagWidth (sideOf r (h .«end_from_start»)) (h .«end_added») (h .«end_tag») s)
   unfolding readEnd
   end-closed o = rw o
 
-  pub times-start : (k : ℕ) → readFrom (sideOf r (h .«start_from_start»)) (h .«start_added») (h .«start_tag») s ≡ refused k → readTimes r endOpen h s ≡ refused k
+  pub times-start : (k : ℕ) → readFrom startTagWidth (sideOf r (h .«start_from_start»)) (h .«start_added») (h .«start_tag») s ≡ refused k → readTimes r endOpen h s ≡ refused k
   unfolding readTimes
   times-start k e = rw e
 
-  module _ (x a : ℕ) (e : readFrom (sideOf r (h .«start_from_start»)) (h .«start_added») (h .«start_tag») s ≡ accepted x a) where
+  module _ (x a : ℕ) (e : readFrom startTagWidth (sideOf r (h .«start_from_start»)) (h .«start_added») (h .«start_tag») s ≡ accepted x a) where
     pub times-end : (k : ℕ) → readEnd r endOpen h (drop a s) ≡ refused k → readTimes r endOpen h s ≡ refused k
     unfolding readTimes
     times-end k f = rw (e, f)
@@ -36,10 +37,10 @@ module _ (r : TimeRange) (endOpen : Bool) (h : RangeTimesHeader) (s : List ℕ) 
 
 -- ---- writing
 module _ (r t : TimeRange) where
-  pub times-open : t .end ≡ Open → timesBytes r t ≡ numberBytes 2 (nearestOf r (t .start) .difference)
+  pub times-open : t .end ≡ Open → timesBytes r t ≡ numberBytes startTagWidth (nearestOf r (t .start) .difference)
   unfolding timesBytes
   times-open e = rw e (append-nil _)
 
-  pub times-closed : (x : ℕ) → t .end ≡ Closed x → timesBytes r t ≡ numberBytes 2 (nearestOf r (t .start) .difference) ++ numberBytes 2 (nearestOf r x .difference)
+  pub times-closed : (x : ℕ) → t .end ≡ Closed x → timesBytes r t ≡ numberBytes startTagWidth (nearestOf r (t .start) .difference) ++ numberBytes endTagWidth (nearestOf r x .difference)
   unfolding timesBytes
   times-closed x e = rw e

@@ -12,11 +12,12 @@ ghost use Rattle.range_times.specs.Times.{headerOf, timesBytes, readEnd,
 use codec::Decoded;
 use codec::Encoded;
 use compact_u64::DecodedU64;
-use compact_u64::TagWidth;
 use grouping::DecodedEnd;
 use grouping::DecodedTimes;
 use grouping::RangeEnd;
 use grouping::TimeRange;
+use times_header::END_TAG_WIDTH;
+use times_header::START_TAG_WIDTH;
 
 mod times_header;
 
@@ -39,10 +40,10 @@ fn header_of(times: TimeRange, reference: TimeRange) -> RangeTimesHeader
     RangeTimesHeader {
         start_from_start: first.from_start,
         start_added: first.added,
-        start_tag: compact_u64::min_tag(TagWidth::Two, first.difference),
+        start_tag: compact_u64::min_tag(START_TAG_WIDTH, first.difference),
         end_from_start: last.from_start,
         end_added: last.added,
-        end_tag: compact_u64::min_tag(TagWidth::Two, last.difference),
+        end_tag: compact_u64::min_tag(END_TAG_WIDTH, last.difference),
     }
 }
 
@@ -84,6 +85,7 @@ fn decode_end(
         start,
         from,
         header.end_added,
+        END_TAG_WIDTH,
         header.end_tag,
     ))
 }
@@ -99,7 +101,14 @@ pub fn relative_decode(
 {
     let said = times_header::unpack(header);
     let from = side(reference, said.start_from_start);
-    let first = time_distance::relative_decode(message, 0, from, said.start_added, said.start_tag);
+    let first = time_distance::relative_decode(
+        message,
+        0,
+        from,
+        said.start_added,
+        START_TAG_WIDTH,
+        said.start_tag,
+    );
     let DecodedU64::Value(start, a) = first else {
         return grouping::refuse_times(compact_u64::unvalued(first));
     };
@@ -125,13 +134,13 @@ pub fn relative_len_of_encoding(times: TimeRange, reference: TimeRange) -> usize
     let first = time_distance::nearest(reference, times.start);
     let end = times.end;
     let RangeEnd::Closed(time) = end else {
-        return compact_u64::relative_len_of_encoding(TagWidth::Two, first.difference);
+        return compact_u64::relative_len_of_encoding(START_TAG_WIDTH, first.difference);
     };
     let last = time_distance::nearest(reference, time);
     compact_u64::relative_len_of_pair(
-        TagWidth::Two,
+        START_TAG_WIDTH,
         first.difference,
-        TagWidth::Two,
+        END_TAG_WIDTH,
         last.difference,
     )
 }
@@ -143,14 +152,14 @@ pub fn relative_encode(buffer: &mut [u8], times: TimeRange, reference: TimeRange
     let first = time_distance::nearest(reference, times.start);
     let end = times.end;
     let RangeEnd::Closed(time) = end else {
-        return compact_u64::relative_encode(buffer, TagWidth::Two, first.difference);
+        return compact_u64::relative_encode(buffer, START_TAG_WIDTH, first.difference);
     };
     let last = time_distance::nearest(reference, time);
     compact_u64::relative_encode_pair(
         buffer,
-        TagWidth::Two,
+        START_TAG_WIDTH,
         first.difference,
-        TagWidth::Two,
+        END_TAG_WIDTH,
         last.difference,
     )
 }

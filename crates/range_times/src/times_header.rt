@@ -3,19 +3,30 @@ ghost use mathlib.Core.Path.{_≡_};
 ghost use Rattle.range_times.specs.Header.{unpackHeader, packHeader};
 ghost use Rattle.range_times.specs.inside.Header.{HeaderFits};
 use crate::RangeTimesHeader;
+use compact_u64::TagWidth;
 
-// What one of each part adds to the byte.
-const START_FROM_START: u8 = 128;
+// The widths of the tags.
+pub(crate) const START_TAG_WIDTH: TagWidth = TagWidth::Two;
 
-const START_ADDED: u8 = 64;
+pub(crate) const END_TAG_WIDTH: TagWidth = TagWidth::Two;
 
-const START_TAG: u8 = 16;
-
-const END_FROM_START: u8 = 8;
-
-const END_ADDED: u8 = 4;
-
+// What one of each part adds to the byte, the last part first: each stands above the one before it.
 const END_TAG: u8 = 1;
+
+const END_ADDED: u8 = END_TAG << END_TAG_WIDTH as u8;
+
+const END_FROM_START: u8 = END_ADDED << 1;
+
+const START_TAG: u8 = END_FROM_START << 1;
+
+const START_ADDED: u8 = START_TAG << START_TAG_WIDTH as u8;
+
+const START_FROM_START: u8 = START_ADDED << 1;
+
+// How many tags there are.
+const START_TAGS: u8 = 1 << START_TAG_WIDTH as u8;
+
+const END_TAGS: u8 = 1 << END_TAG_WIDTH as u8;
 
 pub(crate) fn unpack(b: u8) -> RangeTimesHeader
     ensures { λ r. ⌜ r ≡ unpackHeader b ⌝ }
@@ -23,10 +34,10 @@ pub(crate) fn unpack(b: u8) -> RangeTimesHeader
     RangeTimesHeader {
         start_from_start: b / START_FROM_START % 2 == 1,
         start_added: b / START_ADDED % 2 == 1,
-        start_tag: b / START_TAG % 4,
+        start_tag: b / START_TAG % START_TAGS,
         end_from_start: b / END_FROM_START % 2 == 1,
         end_added: b / END_ADDED % 2 == 1,
-        end_tag: b / END_TAG % 4,
+        end_tag: b / END_TAG % END_TAGS,
     }
 }
 

@@ -44,11 +44,12 @@ timeFrom (Closed x) true d = x + d
 timeFrom (Closed x) false d = x - d
 timeFrom Open added d = d
 
-unfoldable pub readFrom : RangeEnd → Bool → ℕ → Reader ℕ
-readFrom from added tag =
+-- after a tag of w bits
+unfoldable pub readFrom : ℕ → RangeEnd → Bool → ℕ → Reader ℕ
+readFrom w from added tag =
     mapped (timeFrom from added) (
     checked (reaches from added) (
-    readNumber false 2 tag))
+    readNumber false w tag))
 
 -- the start or the end of a range, as a flag says
 abbrev pub sideOf : TimeRange → Bool → RangeEnd

@@ -1,7 +1,7 @@
 // A time against a time, and against the nearer of a range's start and end: docs/FORMAT.md, "Distances".
 ghost use mathlib.Core.Path.{_≡_};
 ghost use lib.ListN.{drop};
-ghost use Rattle.compact_u64.specs.Answers.{numberAnswer};
+ghost use Rattle.compact_u64.specs.Answers.{bits, numberAnswer};
 ghost use Rattle.time_distance.specs.Distance.{distance, distanceTo, nearestOf, endNearest, readFrom};
 use compact_u64::DecodedU64;
 use compact_u64::TagWidth;
@@ -74,11 +74,12 @@ pub fn relative_decode(
     start: usize,
     from: RangeEnd,
     added: bool,
+    width: TagWidth,
     tag: u8,
 ) -> DecodedU64
-    ensures { λ r. ⌜ numberAnswer r ≡ readFrom from added tag (drop start (now (message .entry))) ⌝ }
+    ensures { λ r. ⌜ numberAnswer r ≡ readFrom (bits width) from added tag (drop start (now (message .entry))) ⌝ }
 {
-    let number = compact_u64::relative_decode(message, start, TagWidth::Two, tag, false);
+    let number = compact_u64::relative_decode(message, start, width, tag, false);
     let DecodedU64::Value(difference, n) = number else {
         return number;
     };

@@ -38,17 +38,17 @@ past-reach canonic r t false d h = go (bounds r (timeAt r false d)) refl
     go false e = outside canonic r false d (timeAt r false d) e
 
 -- ---- reading, by the one test or the other
-abbrev readTold : Bool → Bool → TimeRange → Bool → ℕ → List ℕ → Answer ℕ
-readTold included canonic r added tag s = cond included (readIncluded canonic r added tag s) (readTime canonic r added tag s)
+abbrev readTold : Bool → Bool → ℕ → TimeRange → Bool → ℕ → List ℕ → Answer ℕ
+readTold included canonic w r added tag s = cond included (readIncluded canonic w r added tag s) (readTime canonic w r added tag s)
 
-module _ (canonic : Bool) (r : TimeRange) (added : Bool) (tag : ℕ) (s : List ℕ) where
-  pub told-refused : (included : Bool) (k : ℕ) → readNumber canonic 2 tag s ≡ refused k → readTold included canonic r added tag s ≡ refused k
+module _ (canonic : Bool) (w : ℕ) (r : TimeRange) (added : Bool) (tag : ℕ) (s : List ℕ) where
+  pub told-refused : (included : Bool) (k : ℕ) → readNumber canonic w tag s ≡ refused k → readTold included canonic w r added tag s ≡ refused k
   unfolding readTime readIncluded
   told-refused true k e = rw e
   told-refused false k e = rw e
 
-  module _ (d n : ℕ) (e : readNumber canonic 2 tag s ≡ accepted d n) where
-    pub told-past : (included : Bool) → TypedRange r → reachOf r added < d → readTold included canonic r added tag s ≡ refused 2
+  module _ (d n : ℕ) (e : readNumber canonic w tag s ≡ accepted d n) where
+    pub told-past : (included : Bool) → TypedRange r → reachOf r added < d → readTold included canonic w r added tag s ≡ refused 2
     unfolding readTime readIncluded isIncluded
     told-past true ty h = rw (e, lt-leb d (reachOf r added) h)
     told-past false ty h = rw (e, past-reach canonic r ty added d h)
@@ -60,7 +60,7 @@ module _ (canonic : Bool) (r : TimeRange) (added : Bool) (tag : ℕ) (s : List �
 
       pub told-tested : (included : Bool)
           → cond included (includesTime r (timeAt r added d) && cond canonic (cond (differenceOf r (timeAt r added d) .added) added (not added)) true) (isNearest canonic r added d (timeAt r added d)) ≡ t
-          → readTold included canonic r added tag s ≡ passed t (accepted (timeAt r added d) n)
+          → readTold included canonic w r added tag s ≡ passed t (accepted (timeAt r added d) n)
       unfolding readTime readIncluded isIncluded
       told-tested true f = rw (e, le-leb d (reachOf r added) h, f) (passed-time t)
       told-tested false f = rw (e, f) (passed-time t)

@@ -70,11 +70,11 @@ says-small r t true d h = omega (arith, h, t .start)
 says-small r t false d h = omega (arith, t .end)
 
 -- ---- reading
-module _ (r : TimeRange) (added : Bool) (tag : ℕ) where
+module _ (w : ℕ) (r : TimeRange) (added : Bool) (tag : ℕ) where
   Rel : ℕ → List ℕ → Type 0
-  Rel = Mapped (timeAt r added) (Tested (λ d. isIncluded true r added d (timeAt r added d)) (NumberAs 2 tag))
+  Rel = Mapped (timeAt r added) (Tested (λ d. isIncluded true r added d (timeAt r added d)) (NumberAs w tag))
 
-  included-there : TypedRange r → (x : ℕ) (e : List ℕ) → Rel x e → IncludedAs r added tag x e
+  included-there : TypedRange r → (x : ℕ) (e : List ℕ) → Rel x e → IncludedAs w r added tag x e
   unfolding Rel
   included-there ty x e m =
       let d = m .value in
@@ -89,7 +89,7 @@ module _ (r : TimeRange) (added : Bool) (tag : ℕ) where
         bytes = rw is (m .stands .1 .bytes);
       })
 
-  included-back : TypedRange r → (x : ℕ) (e : List ℕ) → IncludedAs r added tag x e → Rel x e
+  included-back : TypedRange r → (x : ℕ) (e : List ℕ) → IncludedAs w r added tag x e → Rel x e
   unfolding Rel timeAt
   included-back ty x e t =
       let d = differenceOf r x .difference in
@@ -108,21 +108,21 @@ module _ (r : TimeRange) (added : Bool) (tag : ℕ) where
       reaches true f b = omega (arith, t .small, rw f at (difference-says r x b), ty .start)
       reaches false f b = difference-small r x b
 
-  pub included-reads : TypedRange r → Reads (readIncluded true r added tag) (IncludedAs r added tag)
+  pub included-reads : 2 ≤ w → w ≤ 64 → TypedRange r → Reads (readIncluded true w r added tag) (IncludedAs w r added tag)
   unfolding Rel readIncluded
-  included-reads ty = reads-as _ _ _
-      (mapped-reads (timeAt r added) _ _ (checked-reads (λ d. isIncluded true r added d (timeAt r added d)) _ _ (number-reads 2 tag (omega arith) (omega arith))))
+  included-reads w2 w64 ty = reads-as _ _ _
+      (mapped-reads (timeAt r added) _ _ (checked-reads (λ d. isIncluded true r added d (timeAt r added d)) _ _ (number-reads w tag w2 w64)))
       (included-there ty) (included-back ty)
 
-  pub included-relaxes : Relaxes (readIncluded true r added tag) (readIncluded false r added tag)
+  pub included-relaxes : Relaxes (readIncluded true w r added tag) (readIncluded false w r added tag)
   unfolding readIncluded
   included-relaxes =
       mapped-relaxes (timeAt r added) _ _ (
       checked-relaxes (λ d. isIncluded true r added d (timeAt r added d)) (λ d. isIncluded false r added d (timeAt r added d)) _ _
-      (λ d. included-relaxes' r added d (timeAt r added d)) (number-relaxes 2 tag))
+      (λ d. included-relaxes' r added d (timeAt r added d)) (number-relaxes w tag))
 
-  pub included-bounded : (canonic : Bool) → Bounded (readIncluded canonic r added tag)
+  pub included-bounded : (canonic : Bool) → Bounded (readIncluded canonic w r added tag)
   unfolding readIncluded
   included-bounded canonic =
       mapped-bounded (timeAt r added) _ (
-      checked-bounded (λ d. isIncluded canonic r added d (timeAt r added d)) _ (number-bounded 2 tag canonic))
+      checked-bounded (λ d. isIncluded canonic r added d (timeAt r added d)) _ (number-bounded w tag canonic))

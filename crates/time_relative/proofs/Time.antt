@@ -73,11 +73,11 @@ module _ (r : TimeRange) (added : Bool) (d x : ℕ) where
   is-nearest n f = rw (n .inside, eq-eqb _ d (n .is), f) (flag-same added)
 
 -- ---- reading
-module _ (r : TimeRange) (added : Bool) (tag : ℕ) where
+module _ (w : ℕ) (r : TimeRange) (added : Bool) (tag : ℕ) where
   Rel : ℕ → List ℕ → Type 0
-  Rel = Mapped (timeAt r added) (Tested (λ d. isNearest true r added d (timeAt r added d)) (NumberAs 2 tag))
+  Rel = Mapped (timeAt r added) (Tested (λ d. isNearest true r added d (timeAt r added d)) (NumberAs w tag))
 
-  time-there : (x : ℕ) (e : List ℕ) → Rel x e → TimeAs r added tag x e
+  time-there : (x : ℕ) (e : List ℕ) → Rel x e → TimeAs w r added tag x e
   unfolding Rel
   time-there x e m =
       let d = m .value in
@@ -89,7 +89,7 @@ module _ (r : TimeRange) (added : Bool) (tag : ℕ) where
         bytes = rw (n .is) (m .stands .1 .bytes);
       })
 
-  time-back : TypedRange r → (x : ℕ) (e : List ℕ) → TimeAs r added tag x e → Rel x e
+  time-back : TypedRange r → (x : ℕ) (e : List ℕ) → TimeAs w r added tag x e → Rel x e
   unfolding Rel
   time-back ty x e t =
       let d = differenceOf r x .difference in
@@ -103,22 +103,22 @@ module _ (r : TimeRange) (added : Bool) (tag : ℕ) where
         );
       }
 
-  pub time-reads : TypedRange r → Reads (readTime true r added tag) (TimeAs r added tag)
+  pub time-reads : 2 ≤ w → w ≤ 64 → TypedRange r → Reads (readTime true w r added tag) (TimeAs w r added tag)
   unfolding Rel readTime
-  time-reads ty = reads-as _ _ _
-      (mapped-reads (timeAt r added) _ _ (checked-reads (λ d. isNearest true r added d (timeAt r added d)) _ _ (number-reads 2 tag (omega arith) (omega arith))))
+  time-reads w2 w64 ty = reads-as _ _ _
+      (mapped-reads (timeAt r added) _ _ (checked-reads (λ d. isNearest true r added d (timeAt r added d)) _ _ (number-reads w tag w2 w64)))
       time-there (time-back ty)
 
-  pub time-relaxes : Relaxes (readTime true r added tag) (readTime false r added tag)
+  pub time-relaxes : Relaxes (readTime true w r added tag) (readTime false w r added tag)
   unfolding readTime
   time-relaxes =
       mapped-relaxes (timeAt r added) _ _ (
       checked-relaxes (λ d. isNearest true r added d (timeAt r added d)) (λ d. isNearest false r added d (timeAt r added d)) _ _
-      (λ d. nearest-relaxes r added d (timeAt r added d)) (number-relaxes 2 tag))
+      (λ d. nearest-relaxes r added d (timeAt r added d)) (number-relaxes w tag))
 
-  pub time-bounded : (canonic : Bool) → Bounded (readTime canonic r added tag)
+  pub time-bounded : (canonic : Bool) → Bounded (readTime canonic w r added tag)
   unfolding readTime
   time-bounded canonic =
       mapped-bounded (timeAt r added) _ (
-      checked-bounded (λ d. isNearest canonic r added d (timeAt r added d)) _ (number-bounded 2 tag canonic))
+      checked-bounded (λ d. isNearest canonic r added d (timeAt r added d)) _ (number-bounded w tag canonic))
   -- in either mode the time lies in the range

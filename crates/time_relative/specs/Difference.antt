@@ -21,7 +21,7 @@ abbrev pub endDifference : TimeRange → RangeEnd → TimeDifference
 endDifference r (Closed x) = differenceOf r x
 endDifference r Open = record { added = false; difference = 0 }
 
--- ---- reading
+-- ---- reading: the tag has w bits
 
 -- the time that a difference says
 unfoldable pub timeAt : TimeRange → Bool → ℕ → ℕ
@@ -32,11 +32,11 @@ unfoldable pub isNearest : Bool → TimeRange → Bool → ℕ → ℕ → Bool
 isNearest canonic r added d x =
     bounds r x && (eqb (differenceOf r x .difference) d && cond canonic (cond (differenceOf r x .added) added (not added)) true)
 
-unfoldable pub readTime : Bool → TimeRange → Bool → ℕ → Reader ℕ
-readTime canonic r added tag =
+unfoldable pub readTime : Bool → ℕ → TimeRange → Bool → ℕ → Reader ℕ
+readTime canonic w r added tag =
     mapped (timeAt r added) (
     checked (λ d. isNearest canonic r added d (timeAt r added d)) (
-    readNumber canonic 2 tag))
+    readNumber canonic w tag))
 
 -- ---- reading a time that the range includes, by either of its differences
 
@@ -49,8 +49,8 @@ unfoldable pub isIncluded : Bool → TimeRange → Bool → ℕ → ℕ → Bool
 isIncluded canonic r added d x =
     leb d (reachOf r added) && (includesTime r x && cond canonic (cond (differenceOf r x .added) added (not added)) true)
 
-unfoldable pub readIncluded : Bool → TimeRange → Bool → ℕ → Reader ℕ
-readIncluded canonic r added tag =
+unfoldable pub readIncluded : Bool → ℕ → TimeRange → Bool → ℕ → Reader ℕ
+readIncluded canonic w r added tag =
     mapped (timeAt r added) (
     checked (λ d. isIncluded canonic r added d (timeAt r added d)) (
-    readNumber canonic 2 tag))
+    readNumber canonic w tag))

@@ -3,7 +3,7 @@ ghost use mathlib.Core.Path.{_≡_};
 ghost use mathlib.Core.Bool.{true, cond, _&&_, not};
 ghost use Prim.Native.Nat.{_-_, _≤_};
 ghost use lib.ListN.{drop};
-ghost use Rattle.compact_u64.specs.Answers.{numberAnswer};
+ghost use Rattle.compact_u64.specs.Answers.{bits, numberAnswer};
 ghost use Rattle.time_relative.specs.Difference.{differenceOf, endDifference, reachOf, timeAt, isNearest, readTime, readIncluded};
 ghost use Rattle.grouping.specs.Range.{includesTime};
 use compact_u64::DecodedU64;
@@ -144,12 +144,13 @@ fn decode_told(
     canonic: bool,
     range: TimeRange,
     added: bool,
+    width: TagWidth,
     tag: u8,
     included: bool,
 ) -> DecodedU64
-    ensures { λ r. ⌜ numberAnswer r ≡ cond included (readIncluded canonic range added tag (drop start (now (message .entry)))) (readTime canonic range added tag (drop start (now (message .entry)))) ⌝ }
+    ensures { λ r. ⌜ numberAnswer r ≡ cond included (readIncluded canonic (bits width) range added tag (drop start (now (message .entry)))) (readTime canonic (bits width) range added tag (drop start (now (message .entry)))) ⌝ }
 {
-    let number = compact_u64::relative_decode(message, start, TagWidth::Two, tag, canonic);
+    let number = compact_u64::relative_decode(message, start, width, tag, canonic);
     let DecodedU64::Value(told, n) = number else {
         return number;
     };
@@ -171,11 +172,12 @@ pub fn relative_decode(
     canonic: bool,
     range: TimeRange,
     added: bool,
+    width: TagWidth,
     tag: u8,
 ) -> DecodedU64
-    ensures { λ r. ⌜ numberAnswer r ≡ readTime canonic range added tag (drop start (now (message .entry))) ⌝ }
+    ensures { λ r. ⌜ numberAnswer r ≡ readTime canonic (bits width) range added tag (drop start (now (message .entry))) ⌝ }
 {
-    decode_told(message, start, canonic, range, added, tag, false)
+    decode_told(message, start, canonic, range, added, width, tag, false)
 }
 
 // Reads the difference of a time that the range includes.
@@ -185,9 +187,10 @@ pub fn decode_included(
     canonic: bool,
     range: TimeRange,
     added: bool,
+    width: TagWidth,
     tag: u8,
 ) -> DecodedU64
-    ensures { λ r. ⌜ numberAnswer r ≡ readIncluded canonic range added tag (drop start (now (message .entry))) ⌝ }
+    ensures { λ r. ⌜ numberAnswer r ≡ readIncluded canonic (bits width) range added tag (drop start (now (message .entry))) ⌝ }
 {
-    decode_told(message, start, canonic, range, added, tag, true)
+    decode_told(message, start, canonic, range, added, width, tag, true)
 }

@@ -11,6 +11,7 @@ use Rattle.path.specs.Flat.{pathIn}
 use Rattle.path.proofs.Components.{well-sized}
 use Rattle.path_relative.specs.Extension.{readExtension}
 use Rattle.grouping.specs.Record.{Area, subspaceOf, subspaceFrom, areaWith, areaOf, areaFrom, wellFormedSubspace, wellFormedArea}
+use Rattle.area_times.specs.Header.{headerLength}
 use Rattle.area_times.specs.Times.{readTimes}
 use Rattle.area_times.proofs.Times.{times-bounded}
 use Rattle.area_area.specs.Area.{readSubspace, readParts}
@@ -116,7 +117,7 @@ inside c =
     let s = read-start (c .before .before .before) in
     tested-inside (s .args .canonic) (reference s) (s .args .header) (now (s .args .message)) _ _ (area-is c)
 
-small : (c : tie.After-known-told3) → 1 + length (now (read-start (c .before .before .before) .args .message)) < 2 ^ 64
+small : (c : tie.After-known-told3) → headerLength + length (now (read-start (c .before .before .before) .args .message)) < 2 ^ 64
 small c = read-start (c .before .before .before) .pre .2
 
 decode-subspace-requires : tie.Need-decode-subspace-requires
@@ -152,7 +153,7 @@ returns-3 c =
 returns-4 : tie.Need-returns-4
 returns-4 c =
     let told3 : tie.After-known-told3 = search in
-    gives-accepted (ap (shift 1) (area-is told3))
+    gives-accepted (ap (shift headerLength) (area-is told3))
 
 pub decode-parts-spec : {M : Type 1} → statement M
 decode-parts-spec =

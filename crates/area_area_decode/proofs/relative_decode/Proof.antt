@@ -5,7 +5,7 @@ use Rattle.path.specs.Flat.{pathIn}
 use Rattle.path.proofs.Growing.{in-empty}
 use Rattle.grouping.specs.Record.{Area, areaWith, wellFormedArea}
 use Rattle.area_times.specs.declared.AreaHeader.{AreaHeader}
-use Rattle.area_times.specs.Header.{unpackHeader, spareBits}
+use Rattle.area_times.specs.Header.{headerLength, unpackHeader, spareBits}
 use Rattle.area_area.proofs.DecodeExits.{reads-refused, area-malformed, tested-none, tested-spare, tested-parts}
 use Rattle.area_area_decode.proofs.relative_decode.Statement.{statement}
 use Rattle.area_area_decode.proofs.relative_decode.Tie as tie
@@ -67,7 +67,7 @@ decode-parts-requires c κs =
     let clear : tie.After-clear = search in
     let s : tie.Start = search in
     let a = s .args in
-    (well else1, cleared clear, rw (to-end (a .start + 1) (now (a .message))) (omega (arith, length-drop (a .start + 1) (now (a .message)), else2 .if2 .left)))
+    (well else1, cleared clear, rw (to-end (a .start + headerLength) (now (a .message))) (omega (arith, length-drop (a .start + headerLength) (now (a .message)), else2 .if2 .left)))
 
 returns-4 : tie.Need-returns-4
 returns-4 c =
@@ -77,7 +77,7 @@ returns-4 c =
     let joined : tie.Joined3 = search in
     let s : tie.Start = search in
     rw (tested-parts (s .args .canonic) (reference s) (well else1) (now (s .args .message)) (s .args .start) (omega (arith, else2 .if2 .left)) (unspared joined))
-    (rw (after-unpack .unpack .ensures, to-end (s .args .start + 1) (now (s .args .message))) at (c .decode-parts .ensures))
+    (rw (after-unpack .unpack .ensures, to-end (s .args .start + headerLength) (now (s .args .message))) at (c .decode-parts .ensures))
 
 pub relative-decode-spec : {M : Type 1} → statement M
 relative-decode-spec =

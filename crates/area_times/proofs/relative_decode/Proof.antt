@@ -5,6 +5,7 @@ use Rattle.compact_u64.specs.Answers.{numberAnswer}
 use Rattle.compact_u64.proofs.Exits.{refused-number}
 use Rattle.grouping.specs.Answers.{noTimes, timesRefusal}
 use Rattle.time_relative.specs.Difference.{readTime}
+use Rattle.area_times.specs.Header.{startTagWidth}
 use Rattle.area_times.specs.Times.{readEnd, readTimes}
 use Rattle.grouping.specs.Range.{timesFrom}
 use Rattle.area_times.proofs.Exits.{times-start, times-end, times-outside, times-read}
@@ -14,7 +15,7 @@ use Rattle.area_times.proofs.relative_decode.Statement.{statement}
 use Rattle.area_times.proofs.relative_decode.Tie as tie
 
 start-is : (c : tie.After-known-told) → let a = c .before .before .before .before .before .args in let x = c .before .first .given .0 in
-    readTime (a .canonic) (a .reference) (a .header .«start_added») (a .header .«start_tag») (now (a .message)) ≡ accepted (x .0) (x .1 .0)
+    readTime (a .canonic) startTagWidth (a .reference) (a .header .«start_added») (a .header .«start_tag») (now (a .message)) ≡ accepted (x .0) (x .1 .0)
 start-is c =
     let after-relative-decode : tie.After-relative-decode = search in
     sym (after-relative-decode .relative-decode .ensures) ∙ ap numberAnswer (c .before .first .given .1)
@@ -71,8 +72,8 @@ returns-3 c =
     (gives-refused 2 refl (times-outside (a .canonic) (a .reference) (a .header) (now (a .message)) _ _ (start-is after-known-told) _ _
     (end-is after-known-told2) (sym (then1 .before .includes-range .ensures) ∙ not-true _ (then1 .if1 .taken))))
 
-add-t17 : tie.Need-add-t17
-add-t17 c =
+add-t18 : tie.Need-add-t18
+add-t18 c =
     let start : tie.Start = search in
     let a = start .args in
     omega (arith, times-bounded (a .reference) (a .header) (a .canonic) .bound (now (a .message)) _ _ (times-are c))
@@ -85,4 +86,4 @@ relative-decode-spec =
     tie.close
     (tie.spec
     (λ c κs. search needs) (λ c. search needs) (λ c κs. search needs) (λ c κs. search needs) returns (λ c κs. search needs) (λ c. search needs) (λ c κs. search needs)
-    returns-2 (λ c κs. search needs) (λ c κs. search needs) returns-3 add-t17 returns-4)
+    returns-2 (λ c κs. search needs) (λ c κs. search needs) returns-3 add-t18 returns-4)

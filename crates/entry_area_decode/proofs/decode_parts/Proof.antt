@@ -10,6 +10,7 @@ use Rattle.path.proofs.Growing.{in-empty}
 use Rattle.path_relative.specs.Records.{readWithinBy}
 use Rattle.grouping.specs.Record.{Area, subspaceOf, areaOf, areaWith}
 use Rattle.entry.specs.Record.{entryFrom}
+use Rattle.entry_area_end.specs.Header.{headerLength}
 use Rattle.entry_area_end.specs.End.{readAfterPath}
 use Rattle.entry_area.specs.Entry.{readId, readRest, readParts}
 use Rattle.entry_area.proofs.DecodeExits.{reads-refused, parts-id, id-inside, parts-rest, within-refused, within-inside, within-end, within-whole, within-read}
@@ -50,8 +51,8 @@ id-in : (c : tie.After-known-told) → c .before .answer .given .0 .0 ≤ length
 id-in c = let s = told-start c in id-inside (s .args .canonic) (s .args .namespace) (area s) (s .args .header) (now (s .args .message)) _ _ (id-is c)
 
 rest-at : (c : tie.After-known-told) → let s = told-start c in let a = s .args in
-    shift 1 (mapped entryFrom (readParts (a .canonic) (a .namespace) (areaOf (area s)) (a .header)) (now (a .message)))
-    ≡ shift (1 + c .before .answer .given .0 .0)
+    shift headerLength (mapped entryFrom (readParts (a .canonic) (a .namespace) (areaOf (area s)) (a .header)) (now (a .message)))
+    ≡ shift (headerLength + c .before .answer .given .0 .0)
     (mapped entryFrom (readRest (a .canonic) (a .namespace) (c .before .before .before .decode-id .result .id) (componentsOf (area s .path)) (a .reference .times) (a .header)) (drop (c .before .answer .given .0 .0) (now (a .message))))
 rest-at c = let s = told-start c in parts-rest (s .args .canonic) (s .args .namespace) (area s) (s .args .header) (now (s .args .message)) _ _ (id-is c)
 
@@ -170,7 +171,7 @@ returns-4 c =
     let u = last-told2 (told3-last k) in
     let t = told2-told u in
     let s = told-start t in
-    gives-accepted (rest-at t ∙ ap (shift (1 + t .before .answer .given .0 .0))
+    gives-accepted (rest-at t ∙ ap (shift (headerLength + t .before .answer .given .0 .0))
     (within-read (s .args .canonic) (s .args .namespace) (t .before .before .before .decode-id .result .id) (area s .path) (s .pre .1) (s .args .reference .times) (s .args .header)
     (drop (t .before .answer .given .0 .0) (now (s .args .message))) _ _ (path-is u) _ _ (end-is k)))
 

@@ -4,7 +4,7 @@ use Rattle.path.specs.Record.{pathFrom}
 use Rattle.path.specs.Flat.{pathIn}
 use Rattle.path.proofs.Growing.{in-empty}
 use Rattle.grouping.specs.Record.{Area, areaWith, wellFormedArea}
-use Rattle.entry_area_end.specs.Header.{unpackHeader}
+use Rattle.entry_area_end.specs.Header.{headerLength, unpackHeader}
 use Rattle.entry_area.proofs.DecodeExits.{reads-refused, area-malformed, area-path, entry-none, entry-spare, entry-parts}
 use Rattle.entry_area_decode.proofs.relative_decode.Statement.{statement}
 use Rattle.entry_area_decode.proofs.relative_decode.Tie as tie
@@ -61,7 +61,7 @@ decode-parts-requires c κs =
     let cleared : tie.After-clear = search in
     let s : tie.Start = search in
     let a = s .args in (
-      rw (to-end (a .start + 1) (now (a .message))) (omega (arith, length-drop (a .start + 1) (now (a .message)), else2 .if2 .left)),
+      rw (to-end (a .start + headerLength) (now (a .message))) (omega (arith, length-drop (a .start + headerLength) (now (a .message)), else2 .if2 .left)),
       area-path (area s) (well else1),
       empty cleared,
     )
@@ -74,7 +74,7 @@ returns-4 c =
     let else1 : tie.Else1 = search in
     let s = else3-start else3 in
     rw (entry-parts (s .args .canonic) (s .args .namespace) (area s) (well else1) (now (s .args .message)) (s .args .start) (omega (arith, else2 .if2 .left)) (unspared else3))
-    (rw (unpacked .unpack .ensures, to-end (s .args .start + 1) (now (s .args .message))) at (c .decode-parts .ensures))
+    (rw (unpacked .unpack .ensures, to-end (s .args .start + headerLength) (now (s .args .message))) at (c .decode-parts .ensures))
 
 pub relative-decode-spec : {M : Type 1} → statement M
 relative-decode-spec =

@@ -7,19 +7,20 @@ use Rattle.compact_u64.specs.Answers.{numberAnswer}
 use Rattle.compact_u64.specs.Number.{readNumber}
 use Rattle.compact_u64.proofs.Exits.{refused-number}
 use Rattle.time_relative.specs.Difference.{readIncluded}
+use Rattle.entry_area_end.specs.Header.{timeTagWidth, lengthTagWidth}
 use Rattle.entry_area_end.specs.End.{noEnd}
 use Rattle.entry_area_end.proofs.Reading.{end-time, end-size, end-inside, end-digest, end-read, digest-inside}
 use Rattle.entry_area_end.proofs.relative_decode.Statement.{statement}
 use Rattle.entry_area_end.proofs.relative_decode.Tie as tie
 
 time-is : (c : tie.After-known-told) → let a = c .before .before .before .before .before .args in let x = c .before .first .given .0 in
-    readIncluded (a .canonic) (a .times) (a .header .«time_added») (a .header .«time_tag») (now (a .message)) ≡ accepted (x .0) (x .1 .0)
+    readIncluded (a .canonic) timeTagWidth (a .times) (a .header .«time_added») (a .header .«time_tag») (now (a .message)) ≡ accepted (x .0) (x .1 .0)
 time-is c =
     let after-decode-included : tie.After-decode-included = search in
     sym (after-decode-included .decode-included .ensures) ∙ ap numberAnswer (c .before .first .given .1)
 
 size-is : (c : tie.After-known-told2) → let a = c .before .before .before .before .before .before .before .before .before .args in let x = c .before .second .given .0 in
-    readNumber (a .canonic) 2 (a .header .«length_tag») (drop (c .before .before .before .before .before .first .given .0 .1 .0) (now (a .message))) ≡ accepted (x .0) (x .1 .0)
+    readNumber (a .canonic) lengthTagWidth (a .header .«length_tag») (drop (c .before .before .before .before .before .first .given .0 .1 .0) (now (a .message))) ≡ accepted (x .0) (x .1 .0)
 size-is c =
     let after-relative-decode : tie.After-relative-decode = search in
     sym (after-relative-decode .relative-decode .ensures) ∙ ap numberAnswer (c .before .second .given .1)

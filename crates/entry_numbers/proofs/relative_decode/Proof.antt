@@ -6,19 +6,20 @@ use Rattle.compact_u64.specs.Number.{readNumber}
 use Rattle.compact_u64.proofs.Exits.{refused-number}
 use Rattle.grouping.specs.declared.RangeEnd.the-variants.{Closed}
 use Rattle.time_distance.specs.Distance.{readFrom}
+use Rattle.entry_numbers.specs.Header.{timeTagWidth, lengthTagWidth}
 use Rattle.entry_numbers.specs.Numbers.{noNumbers}
 use Rattle.entry_numbers.proofs.Reading.{numbers-first, numbers-second, numbers-read, numbers-inside}
 use Rattle.entry_numbers.proofs.relative_decode.Statement.{statement}
 use Rattle.entry_numbers.proofs.relative_decode.Tie as tie
 
 time-is : (c : tie.After-known-told) → let a = c .before .before .before .before .before .args in let x = c .before .first .given .0 in
-    readFrom (Closed (a .reference)) (a .header .«time_added») (a .header .«time_tag») (now (a .message)) ≡ accepted (x .0) (x .1 .0)
+    readFrom timeTagWidth (Closed (a .reference)) (a .header .«time_added») (a .header .«time_tag») (now (a .message)) ≡ accepted (x .0) (x .1 .0)
 time-is c =
     let after-relative-decode : tie.After-relative-decode = search in
     sym (after-relative-decode .relative-decode .ensures) ∙ ap numberAnswer (c .before .first .given .1)
 
 size-is : (c : tie.After-known-told2) → let a = c .before .before .before .before .before .before .before .before .before .args in let x = c .before .second .given .0 in
-    readNumber false 3 (a .header .«length_tag») (drop (c .before .before .before .before .before .first .given .0 .1 .0) (now (a .message))) ≡ accepted (x .0) (x .1 .0)
+    readNumber false lengthTagWidth (a .header .«length_tag») (drop (c .before .before .before .before .before .first .given .0 .1 .0) (now (a .message))) ≡ accepted (x .0) (x .1 .0)
 size-is c =
     let after-relative-decode2 : tie.After-relative-decode2 = search in
     sym (after-relative-decode2 .relative-decode2 .ensures) ∙ ap numberAnswer (c .before .second .given .1)

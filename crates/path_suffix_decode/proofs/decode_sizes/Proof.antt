@@ -5,7 +5,7 @@ use Rattle.compact_u64.specs.Number.{readNumber}
 use Rattle.compact_u64.specs.Answers.{numberAnswer}
 use Rattle.compact_u64.proofs.Number.{number-bounded}
 use Rattle.compact_u64.proofs.Exits.{refused-number}
-use Rattle.path_suffix.specs.Header.{unpackTags}
+use Rattle.path_suffix.specs.Header.{headerLength, totalWidth, countWidth, unpackTags}
 use Rattle.path_suffix_decode.specs.Answers.{noSizes}
 use Rattle.path_suffix_decode.proofs.Exits.{sizes-none, sizes-first, sizes-second, sizes-both}
 use Rattle.path_suffix_decode.proofs.decode_sizes.Statement.{statement}
@@ -13,7 +13,7 @@ use Rattle.path_suffix_decode.proofs.decode_sizes.Tie as tie
 
 -- the first number, of the message's own bytes
 first-is : (c : tie.After-relative-decode) → let a = c .before .before .before .before .before .args in
-    readNumber (a .canonic) 4 (unpackTags (getD (now (a .message)) (a .start) 0) .total) (drop (a .start + 1) (now (a .message)))
+    readNumber (a .canonic) totalWidth (unpackTags (getD (now (a .message)) (a .start) 0) .total) (drop (a .start + headerLength) (now (a .message)))
     ≡ numberAnswer (c .relative-decode .result)
 first-is c = sym (rw (c .before .unpack-tags .ensures) at (c .relative-decode .ensures))
 
@@ -28,43 +28,43 @@ abbrev known-told2-start : tie.After-known-told2 → tie.Start
 known-told2-start c = known-told-start (c .before .before .before .before)
 
 first-value : (c : tie.After-known-told) → let a = known-told-start c .args in
-    readNumber (a .canonic) 4 (unpackTags (getD (now (a .message)) (a .start) 0) .total) (drop (a .start + 1) (now (a .message)))
+    readNumber (a .canonic) totalWidth (unpackTags (getD (now (a .message)) (a .start) 0) .total) (drop (a .start + headerLength) (now (a .message)))
     ≡ accepted (c .before .number .given .0 .0) (c .before .number .given .0 .1 .0)
 first-value c =
     let after-relative-decode : tie.After-relative-decode = search in
     first-is after-relative-decode ∙ ap numberAnswer (c .before .number .given .1)
 
-first-inside : (c : tie.After-known-told) → known-told-start c .args .start + 1 + c .before .number .given .0 .1 .0 ≤ length (now (known-told-start c .args .message))
+first-inside : (c : tie.After-known-told) → known-told-start c .args .start + headerLength + c .before .number .given .0 .1 .0 ≤ length (now (known-told-start c .args .message))
 first-inside c =
     let else1 : tie.Else1 = search in
     let start : tie.Start = search in
     let a = start .args in
-    omega (arith, number-bounded 4 _ (a .canonic) .bound (drop (a .start + 1) (now (a .message))) _ _ (first-value c), length-drop (a .start + 1) (now (a .message)), else1 .if1 .left)
+    omega (arith, number-bounded totalWidth _ (a .canonic) .bound (drop (a .start + headerLength) (now (a .message))) _ _ (first-value c), length-drop (a .start + headerLength) (now (a .message)), else1 .if1 .left)
 
 -- the second, after it
 second-is : (c : tie.After-relative-decode2) → let a = c .before .before .before .before .before .before .before .before .before .args in
-    readNumber (a .canonic) 4 (unpackTags (getD (now (a .message)) (a .start) 0) .count) (drop (a .start + 1 + c .before .before .number .given .0 .1 .0) (now (a .message)))
+    readNumber (a .canonic) countWidth (unpackTags (getD (now (a .message)) (a .start) 0) .count) (drop (a .start + headerLength + c .before .before .number .given .0 .1 .0) (now (a .message)))
     ≡ numberAnswer (c .relative-decode2 .result)
 second-is c =
     let after-unpack-tags : tie.After-unpack-tags = search in
     sym (rw (after-unpack-tags .unpack-tags .ensures) at (c .relative-decode2 .ensures))
 
 second-value : (c : tie.After-known-told2) → let a = known-told2-start c .args in
-    readNumber (a .canonic) 4 (unpackTags (getD (now (a .message)) (a .start) 0) .count) (drop (a .start + 1 + known-told2-number c .number .given .0 .1 .0) (now (a .message)))
+    readNumber (a .canonic) countWidth (unpackTags (getD (now (a .message)) (a .start) 0) .count) (drop (a .start + headerLength + known-told2-number c .number .given .0 .1 .0) (now (a .message)))
     ≡ accepted (c .before .number2 .given .0 .0) (c .before .number2 .given .0 .1 .0)
 second-value c =
     let after-relative-decode2 : tie.After-relative-decode2 = search in
     second-is after-relative-decode2 ∙ ap numberAnswer (c .before .number2 .given .1)
 
 second-inside : (c : tie.After-known-told2)
-    → known-told2-start c .args .start + 1 + known-told2-number c .number .given .0 .1 .0 + c .before .number2 .given .0 .1 .0 ≤ length (now (known-told2-start c .args .message))
+    → known-told2-start c .args .start + headerLength + known-told2-number c .number .given .0 .1 .0 + c .before .number2 .given .0 .1 .0 ≤ length (now (known-told2-start c .args .message))
 second-inside c =
     let after-known-told : tie.After-known-told = search in
     let after-number : tie.After-number = search in
     let start : tie.Start = search in
     let a = start .args in
-    let at = a .start + 1 + after-number .number .given .0 .1 .0 in
-    omega (arith, first-inside after-known-told, number-bounded 4 _ (a .canonic) .bound (drop at (now (a .message))) _ _ (second-value c), length-drop at (now (a .message)))
+    let at = a .start + headerLength + after-number .number .given .0 .1 .0 in
+    omega (arith, first-inside after-known-told, number-bounded countWidth _ (a .canonic) .bound (drop at (now (a .message))) _ _ (second-value c), length-drop at (now (a .message)))
 
 returns : tie.Need-returns
 returns c =

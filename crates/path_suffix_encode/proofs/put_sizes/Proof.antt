@@ -3,14 +3,14 @@ use Rattle.codec.specs.Format.{over}
 use Rattle.codec.proofs.Lending.{to-end, put-end, put-end-long}
 use Rattle.compact_u64.specs.Number.{numberBytes}
 use Rattle.compact_u64.proofs.Tags.{min-tag-fits}
-use Rattle.path_suffix.specs.Header.{packTags}
+use Rattle.path_suffix.specs.Header.{headerLength, totalWidth, countWidth, packTags}
 use Rattle.path_suffix.specs.Suffix.{sizesFrom, tagsOf}
 use Rattle.path_suffix.proofs.Writing.{cons-put, sizes-long, sizes-put}
 use Rattle.path_suffix_encode.proofs.put_sizes.Statement.{statement}
 use Rattle.path_suffix_encode.proofs.put_sizes.Tie as tie
 
 -- the parts fit
-room : (c : tie.Start) → 1 + (length (numberBytes 4 (c .args .total)) + length (numberBytes 4 (c .args .count))) ≤ length (now (c .args .buffer))
+room : (c : tie.Start) → headerLength + (length (numberBytes totalWidth (c .args .total)) + length (numberBytes countWidth (c .args .count))) ≤ length (now (c .args .buffer))
 room c = omega (arith, sizes-long (sizesFrom (c .args .total) (c .args .count)), c .pre)
 
 -- the buffer after the header byte, and after the first number
@@ -18,39 +18,39 @@ abbrev headed : tie.After-pack-tags → List ℕ
 headed c = set (now (c .before .before .before .before .before .before .args .buffer)) 0 (c .pack-tags .result)
 
 abbrev first : tie.After-slice-known2 → List ℕ
-first c = putMid 1 (length (headed (c .before .before .before .before)) - 1) (headed (c .before .before .before .before)) (c .before .before .relative-encode .last .0)
+first c = putMid headerLength (length (headed (c .before .before .before .before)) - headerLength) (headed (c .before .before .before .before)) (c .before .before .relative-encode .last .0)
 
 first-long : (c : tie.After-slice-known2) → length (first c) ≡ length (now (c .before .before .before .before .before .before .before .before .before .before .args .buffer))
 first-long c =
     let after-pack-tags : tie.After-pack-tags = search in
     let start : tie.Start = search in
-    put-end-long 1 (headed after-pack-tags) (c .before .before .relative-encode .last .0) (simp length-set (omega (arith, room start))) (c .before .before .relative-encode .kept .0) ∙ simp length-set
+    put-end-long headerLength (headed after-pack-tags) (c .before .before .relative-encode .last .0) (simp length-set (omega (arith, room start))) (c .before .before .relative-encode .kept .0) ∙ simp length-set
 
 first-is : (c : tie.After-slice-known2)
     → first c ≡ over
     (packTags
     (tagsOf (sizesFrom (c .before .before .before .before .before .before .before .before .before .before .args .total)
-    (c .before .before .before .before .before .before .before .before .before .before .args .count))) ∷ numberBytes 4
+    (c .before .before .before .before .before .before .before .before .before .before .args .count))) ∷ numberBytes totalWidth
     (c .before .before .before .before .before .before .before .before .before .before .args .total))
     (now (c .before .before .before .before .before .before .before .before .before .before .args .buffer))
 first-is c =
     let a = c .before .before .before .before .before .before .before .before .before .before .args in
     let w = c .before .before .relative-encode in
-    let number = rw (to-end 1 (headed (c .before .before .before .before))) at (w .ensures .1) in
+    let number = rw (to-end headerLength (headed (c .before .before .before .before))) at (w .ensures .1) in
     let tags : c .before .before .before .before .pack-tags .result
     ≡ packTags (tagsOf (sizesFrom (a .total) (a .count))) = c .before .before .before .before .pack-tags .ensures
     ∙ rw (c .before .before .before .before .before .before .min-tag .ensures, c .before .before .before .before .before .min-tag2 .ensures) in
-    put-end 1 (headed (c .before .before .before .before)) (w .last .0) ∙ rw (number, ← tags)
-    (cons-put (now (a .buffer)) (numberBytes 4 (a .total)) (c .before .before .before .before .pack-tags .result)
+    put-end headerLength (headed (c .before .before .before .before)) (w .last .0) ∙ rw (number, ← tags)
+    (cons-put (now (a .buffer)) (numberBytes totalWidth (a .total)) (c .before .before .before .before .pack-tags .result)
     (omega (arith, room (c .before .before .before .before .before .before .before .before .before .before))))
 
 pack-tags-requires : tie.Need-pack-tags-requires
 pack-tags-requires c κs =
     let start : tie.Start = search in
     record {
-      total = omega (arith, c .before .min-tag .ensures, min-tag-fits 4 (start .args .total) (omega arith));
+      total = omega (arith, c .before .min-tag .ensures, min-tag-fits totalWidth (start .args .total) (omega arith));
       count = omega
-          (arith, c .min-tag2 .ensures, min-tag-fits 4 (start .args .count) (omega arith));
+          (arith, c .min-tag2 .ensures, min-tag-fits countWidth (start .args .count) (omega arith));
     }
 
 slice-write-buffer : tie.Need-slice-write-buffer
@@ -86,8 +86,8 @@ same-length c =
     let after-relative-len-of-encoding : tie.After-relative-len-of-encoding = search in
     let start : tie.Start = search in
     let n = after-relative-len-of-encoding .relative-len-of-encoding in
-    let inside : 1 + n .result ≤ length (first after-slice-known2) = omega (arith, first-long after-slice-known2, room start, n .ensures .0) in
-    put-end-long (1 + n .result) (first after-slice-known2) (c .before .before .relative-encode2 .last .0) inside (c .before .before .relative-encode2 .kept .0) ∙ first-long after-slice-known2
+    let inside : headerLength + n .result ≤ length (first after-slice-known2) = omega (arith, first-long after-slice-known2, room start, n .ensures .0) in
+    put-end-long (headerLength + n .result) (first after-slice-known2) (c .before .before .relative-encode2 .last .0) inside (c .before .before .relative-encode2 .kept .0) ∙ first-long after-slice-known2
 
 returns : tie.Need-returns
 returns c =
@@ -98,7 +98,7 @@ returns c =
     let a = start .args in
     let n = after-relative-len-of-encoding .relative-len-of-encoding in
     let m = after-relative-len-of-encoding2 .relative-len-of-encoding2 in
-    let at = 1 + n .result in
+    let at = headerLength + n .result in
     let w = c .before .before .relative-encode2 in
     let second = rw (to-end at (first after-slice-known2)) at (w .ensures .1) in (
       omega (arith, sizes-long (sizesFrom (a .total) (a .count)), n .ensures .0, m .ensures .0),

@@ -12,6 +12,7 @@ use Rattle.grouping.specs.Answers.{noTimes}
 use Rattle.range_3d.specs.Answers.{headRefusal}
 use Rattle.range_subspaces.specs.Subspaces.{readSubspaces}
 use Rattle.range_paths.specs.Records.{pathsWith, emptyPaths}
+use Rattle.range_header.specs.Header.{headerLength}
 use Rattle.range3d_range3d.specs.Range.{sourcesIn}
 use Rattle.range3d_range3d.specs.inside.Reading.{readPathsTimes}
 use Rattle.range3d_range3d.proofs.DecodeExits.{rangeOn, subspaces-inside, ids-refused, after-ids, ends-bounded}
@@ -85,7 +86,7 @@ returns c =
     let x = no-value (read .relative-decode .result .answer) (c .before .match .keys2) in
     rw (c .refuse-head .ensures, s .pre .2, s .pre .3, in-empty)
     (gives-refused (x .why) (x .beside _)
-    (ap (shift 2) (ids-refused (known s) (s .args .header) (s .args .times) (now (s .args .message)) (x .why) (sym (read .relative-decode .ensures .answer) ∙ x .beside _))))
+    (ap (shift headerLength) (ids-refused (known s) (s .args .header) (s .args .times) (now (s .args .message)) (x .why) (sym (read .relative-decode .ensures .answer) ∙ x .beside _))))
 
 sub-rest : tie.Need-sub-rest
 sub-rest c = ids-in c
@@ -104,7 +105,7 @@ returns-2 c =
     let none : ends rest ≡ (emptyPaths (s .args .header .«path_end_open»), noTimes) = rw e at (rest-told rest .value) in
     rw (c .refuse-head2 .ensures, ap (λ (v : PathRange × TimeRange). v .0 .start) none, ap (λ (v : PathRange × TimeRange). v .0 .end) none)
     (gives-refused (x .why) (x .beside _)
-    (ap (shift 2)
+    (ap (shift headerLength)
     (after-ids (known s) (s .args .header) (s .args .times) (now (s .args .message)) _ _ (ids-are told) (s .pre .1)
     ∙ ap (λ y. shift (told .before .first-answer .given .0 .0) (named (rangeOn (told-ids told .relative-decode .result .subspaces)) y)) e)))
 
@@ -126,7 +127,7 @@ returns-3 c =
     let told : tie.After-known-told = search in
     let s : tie.Start = search in
     gives-accepted
-    (ap (shift 2)
+    (ap (shift headerLength)
     (after-ids (known s) (s .args .header) (s .args .times) (now (s .args .message)) _ _ (ids-are told) (s .pre .1)
     ∙ ap (λ y. shift (told .before .first-answer .given .0 .0) (named (rangeOn (told-ids told .relative-decode .result .subspaces)) y)) (rest-are told2)))
 

@@ -1,4 +1,4 @@
-use Rattle.codec.proofs.Prelude.{_≡_, refl, sym, _∙_, true, _+_, _<_, _^_, arith, now, ltb-true, ltb-false, not-true, not-false, length, length-drop, needs}
+use Rattle.codec.proofs.Prelude.{_≡_, refl, sym, _∙_, true, _+_, _≤_, _<_, _^_, arith, now, leb-true, leb-false, not-true, not-false, length, length-drop, needs}
 use Rattle.codec.proofs.Answers.{gives-refused}
 use Rattle.codec.proofs.Lending.{to-end}
 use Rattle.path.specs.Flat.{pathIn}
@@ -6,6 +6,7 @@ use Rattle.path.proofs.Growing.{in-empty}
 use Rattle.range_3d.specs.Record.{Range3d, rangeWith, wellFormedRange3d}
 use Rattle.range_3d.specs.Answers.{headRefusal}
 use Rattle.range_3d.proofs.Record.{well-sized-range}
+use Rattle.range_header.specs.Header.{headerLength}
 use Rattle.range3d_range3d.proofs.DecodeExits.{range-unformed, header-cut, header-read}
 use Rattle.range3d_range3d_decode.proofs.relative_decode.Statement.{statement}
 use Rattle.range3d_range3d_decode.proofs.relative_decode.Tie as tie
@@ -25,8 +26,8 @@ start1 c = c .before .before .before .before .before .before .before .before .be
 formed : (c : tie.Else1) → wellFormedRange3d (known (start1 c)) ≡ true
 formed c = sym (c .before .well-formed .ensures) ∙ not-false _ (c .if1 .left)
 
-whole : (c : tie.Else2) → let s = start1 (c .before .before) in s .args .from + 1 < length (now (s .args .message))
-whole c = ltb-true _ _ (sym (c .before .has-header .ensures) ∙ not-false _ (c .if2 .left))
+whole : (c : tie.Else2) → let s = start1 (c .before .before) in s .args .from + headerLength ≤ length (now (s .args .message))
+whole c = leb-true _ _ (sym (c .before .has-header .ensures) ∙ not-false _ (c .if2 .left))
 
 returns : tie.Need-returns
 unfolding headRefusal
@@ -47,7 +48,7 @@ returns-2 c =
     let clear : tie.After-clear = search in
     let s : tie.Start = search in
     rw (c .refuse-head2 .ensures, clear .clear .ensures, clear2 .clear2 .ensures, in-empty)
-    (gives-refused 1 refl (header-cut (known s) (formed else1) (now (s .args .message)) (s .args .from) (ltb-false _ _ (sym (header .has-header .ensures) ∙ not-true _ (c .before .if2 .taken)))))
+    (gives-refused 1 refl (header-cut (known s) (formed else1) (now (s .args .message)) (s .args .from) (leb-false _ _ (sym (header .has-header .ensures) ∙ not-true _ (c .before .if2 .taken)))))
 
 shared-slice-read-unpack : tie.Need-shared-slice-read-unpack
 shared-slice-read-unpack c = omega (arith, whole (c .before))
@@ -86,7 +87,7 @@ decode-parts-requires c κs =
     let clear2 : tie.After-clear2 = search in
     let clear : tie.After-clear = search in
     let s : tie.Start = search in
-    let at = s .args .from + 1 + 1 in (
+    let at = s .args .from + headerLength in (
       rw (to-end at (now (s .args .message))) (omega (arith, length-drop at (now (s .args .message)), whole else2, short s)),
       well-sized-range (known s) (formed else1),
       clear .clear .ensures,
@@ -100,7 +101,7 @@ returns-3 c =
     let else1 : tie.Else1 = search in
     let s = start1 else1 in
     rw (header-read (known s) (formed else1) (now (s .args .message)) (s .args .from) (whole else2))
-    (rw (unpack .unpack .ensures, to-end (s .args .from + 1 + 1) (now (s .args .message))) at (c .decode-parts .ensures))
+    (rw (unpack .unpack .ensures, to-end (s .args .from + headerLength) (now (s .args .message))) at (c .decode-parts .ensures))
 
 pub relative-decode-spec : {M : Type 1} → statement M
 relative-decode-spec =

@@ -6,7 +6,7 @@ use Rattle.codec.proofs.Answers.{no-value, gives-refused, gives-accepted}
 use Rattle.compact_u64.specs.Answers.{numberAnswer}
 use Rattle.compact_u64.proofs.Exits.{refused-number}
 use Rattle.time_distance.specs.Distance.{sideOf, readFrom}
-use Rattle.range_times.specs.Header.{unpackHeader}
+use Rattle.range_times.specs.Header.{startTagWidth, unpackHeader}
 use Rattle.range_times.specs.Times.{readTimes}
 use Rattle.grouping.specs.Range.{timesFrom}
 use Rattle.range_times.proofs.Exits.{times-start, times-end, times-read}
@@ -15,7 +15,7 @@ use Rattle.range_times.proofs.relative_decode.Statement.{statement}
 use Rattle.range_times.proofs.relative_decode.Tie as tie
 
 start-is : (c : tie.After-known-told) → let a = c .before .before .before .before .before .before .before .args in let x = c .before .first .given .0 in let h = unpackHeader (a .header) in
-    readFrom (sideOf (a .reference) (h .«start_from_start»)) (h .«start_added») (h .«start_tag») (now (a .message)) ≡ accepted (x .0) (x .1 .0)
+    readFrom startTagWidth (sideOf (a .reference) (h .«start_from_start»)) (h .«start_added») (h .«start_tag») (now (a .message)) ≡ accepted (x .0) (x .1 .0)
 start-is c =
     let after-relative-decode : tie.After-relative-decode = search in
     let after-side : tie.After-side = search in
@@ -61,8 +61,8 @@ returns-2 c =
     rw (c .refuse-times2 .ensures)
     (gives-refused (x .why) (x .beside noTimes) (times-end (a .reference) (a .end-open) (unpackHeader (a .header)) (now (a .message)) _ _ (start-is after-known-told) (x .why) e))
 
-add-t15 : tie.Need-add-t15
-add-t15 c =
+add-t16 : tie.Need-add-t16
+add-t16 c =
     let start : tie.Start = search in
     let a = start .args in
     omega (arith, times-bounded (a .reference) (a .end-open) (unpackHeader (a .header)) .bound (now (a .message)) _ _ (times-are c))
@@ -75,4 +75,4 @@ relative-decode-spec =
     tie.close
     (tie.spec
     (λ c κs. search needs) (λ c κs. search needs) (λ c κs. search needs) (λ c. search needs) (λ c κs. search needs) (λ c κs. search needs)
-    returns (λ c κs. search needs) (λ c. search needs) (λ c κs. search needs) returns-2 add-t15 returns-3)
+    returns (λ c κs. search needs) (λ c. search needs) (λ c κs. search needs) returns-2 add-t16 returns-3)

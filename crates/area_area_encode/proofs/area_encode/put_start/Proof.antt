@@ -2,7 +2,7 @@ use Rattle.codec.proofs.Prelude.{ap, _∙_, arith, _∷_, Bool, ℕ, now, set, 
 use Rattle.codec.specs.Format.{over}
 use Rattle.codec.proofs.Lending.{over-cons, to-end, put-end, put-end-long}
 use Rattle.grouping.specs.Record.{subspaceOf}
-use Rattle.area_times.specs.Header.{packHeader}
+use Rattle.area_times.specs.Header.{headerLength, packHeader}
 use Rattle.area_times.specs.Times.{headerOf}
 use Rattle.area_area.specs.Area.{subspaceBytes}
 use Rattle.area_area_encode.proofs.area_encode.put_start.Statement.{statement}
@@ -27,7 +27,7 @@ put-subspace-requires : tie.Need-put-subspace-requires
 put-subspace-requires c κs =
     let start : tie.Start = search in
     let l = set (now (start .args .buffer)) 0 (c .before .header-byte .result) in
-    rw (to-end 1 l, length-drop, length-set) (omega (arith, start .pre))
+    rw (to-end headerLength l, length-drop, length-set) (omega (arith, start .pre))
 
 add-result : tie.Need-add-result
 add-result c =
@@ -40,7 +40,7 @@ same-length c =
     let start : tie.Start = search in
     let l = now (start .args .buffer) in
     let h = after-header-byte .header-byte .result in
-    put-end-long 1 (set l 0 h) (c .before .before .put-subspace .last .0) (rw length-set (omega (arith, start .pre))) (c .before .before .put-subspace .kept .0) ∙ length-set l 0 h
+    put-end-long headerLength (set l 0 h) (c .before .before .put-subspace .last .0) (rw length-set (omega (arith, start .pre))) (c .before .before .put-subspace .kept .0) ∙ length-set l 0 h
 
 returns : tie.Need-returns
 returns c =
@@ -52,9 +52,9 @@ returns c =
     let h = after-header-byte .header-byte in
     let w = c .before .before .put-subspace in
     let s = subspaceBytes (subspaceOf (a .reference)) (subspaceOf (a .subspace)) in
-    let rest = rw (to-end 1 (set l 0 (h .result))) at (w .ensures .1) in (
+    let rest = rw (to-end headerLength (set l 0 (h .result))) at (w .ensures .1) in (
       omega (arith, w .ensures .0),
-      put-end 1 (set l 0 (h .result)) (w .last .0) ∙ rw rest (over-cons l s (h .result) (omega (arith, start .pre)))
+      put-end headerLength (set l 0 (h .result)) (w .last .0) ∙ rw rest (over-cons l s (h .result) (omega (arith, start .pre)))
           ∙ ap (λ (b : ℕ). over (b ∷ s) l) (h .ensures ∙ ap (λ (w : Bool). packHeader (headerOf w (a .within) (a .times))) (after-id-written .id-written .ensures)),
     )
 

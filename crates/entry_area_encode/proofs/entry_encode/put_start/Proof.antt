@@ -2,7 +2,7 @@ use Rattle.codec.proofs.Prelude.{_≡_, sym, ap, _∙_, arith, List, Bool, ℕ,
 use Rattle.codec.specs.Format.{over}
 use Rattle.codec.proofs.Lending.{over-cons, over-one, put-over, to-end, put-end, put-end-long}
 use Rattle.grouping.specs.Record.{subspaceOf}
-use Rattle.entry_area_end.specs.Header.{packHeader}
+use Rattle.entry_area_end.specs.Header.{headerLength, packHeader}
 use Rattle.entry_area_end.specs.End.{headerOf}
 use Rattle.entry_area.specs.Entry.{isAny}
 use Rattle.entry_area.proofs.Writing.{any-is, start-any, start-one}
@@ -45,7 +45,7 @@ same-length-2 c =
     let start : tie.Start = search in
     let l = now (start .args .buffer) in
     let h = after-header-byte .header-byte .result in
-    put-end-long 1 (set l 0 h) (c .before .before .put-bytes .last .0) (rw length-set (omega (arith, start .pre))) (c .before .before .put-bytes .kept .0) ∙ length-set l 0 h
+    put-end-long headerLength (set l 0 h) (c .before .before .put-bytes .last .0) (rw length-set (omega (arith, start .pre))) (c .before .before .put-bytes .kept .0) ∙ length-set l 0 h
 
 returns-2 : tie.Need-returns-2
 returns-2 c =
@@ -57,9 +57,9 @@ returns-2 c =
     let h = after-header-byte .header-byte .result in
     let w = c .before .before .put-bytes in
     let is = start-any (a .subspace) (a .times) (a .t4) (a .end) (header-is after-header-byte) (not-false (a .subspace .any) (else1 .if1 .left)) in
-    let rest = rw (to-end 1 (set l 0 h)) at (w .ensures .1) in
-    let room : length (a .t4) ≤ length (drop 1 (set l 0 h)) = rw (length-drop, length-set) (omega (arith, start .pre, ap length is)) in
-    put-end 1 (set l 0 h) (w .last .0) ∙ rw (rest, put-over (a .t4) (drop 1 (set l 0 h)) room) (over-cons l (a .t4) h (omega (arith, start .pre))) ∙ ap (λ (bs : List ℕ). over bs l) (sym is)
+    let rest = rw (to-end headerLength (set l 0 h)) at (w .ensures .1) in
+    let room : length (a .t4) ≤ length (drop headerLength (set l 0 h)) = rw (length-drop, length-set) (omega (arith, start .pre, ap length is)) in
+    put-end headerLength (set l 0 h) (w .last .0) ∙ rw (rest, put-over (a .t4) (drop headerLength (set l 0 h)) room) (over-cons l (a .t4) h (omega (arith, start .pre))) ∙ ap (λ (bs : List ℕ). over bs l) (sym is)
 
 pub put-start-spec : {M : Type 1} → statement M
 put-start-spec =

@@ -4,7 +4,7 @@ use Rattle.codec.specs.declared.Decoded.{Decoded}
 use Rattle.codec.proofs.Answers.{no-value}
 use Rattle.codec.proofs.Lending.{to-end}
 use Rattle.entry_numbers.specs.declared.EntryHeader.{EntryHeader}
-use Rattle.entry_numbers.specs.Header.{unpackHeader}
+use Rattle.entry_numbers.specs.Header.{headerLength, unpackHeader}
 use Rattle.entry_numbers.specs.Numbers.{readNumbers}
 use Rattle.entry_entry.specs.Entry.{readIds}
 use Rattle.entry_entry.proofs.DecodeExits.{head-none, head-ids, head-numbers, head-read, first-inside, second-inside}
@@ -38,19 +38,19 @@ header s = unpackHeader (getD (now (s .args .message)) (s .args .start) 0)
 
 ids-told : (c : tie.After-decode-ids) → let a = decode-ids-start c .args in
     answerOf (c .decode-ids .result .answer) (c .decode-ids .result .ids)
-    ≡ readIds (a .reference .«namespace_id») (a .reference .«subspace_id») (header (decode-ids-start c)) (drop (a .start + 1) (now (a .message)))
+    ≡ readIds (a .reference .«namespace_id») (a .reference .«subspace_id») (header (decode-ids-start c)) (drop (a .start + headerLength) (now (a .message)))
 ids-told c =
     let start : tie.Start = search in
-    rw (c .before .before .unpack .ensures, to-end (start .args .start + 1) (now (start .args .message))) at (c .decode-ids .ensures)
+    rw (c .before .before .unpack .ensures, to-end (start .args .start + headerLength) (now (start .args .message))) at (c .decode-ids .ensures)
 
 ids-is : (c : tie.After-known-told) → let a = known-told-start c .args in
-    readIds (a .reference .«namespace_id») (a .reference .«subspace_id») (header (known-told-start c)) (drop (a .start + 1) (now (a .message)))
+    readIds (a .reference .«namespace_id») (a .reference .«subspace_id») (header (known-told-start c)) (drop (a .start + headerLength) (now (a .message)))
     ≡ accepted (c .before .before .before .decode-ids .result .ids) (c .before .first-answer .given .0 .0)
 ids-is c =
     let after-decode-ids : tie.After-decode-ids = search in
     sym (ids-told after-decode-ids) ∙ ap (λ (d : Decoded). answerOf d (after-decode-ids .decode-ids .result .ids)) (c .before .first-answer .given .1)
 
-ids-in : (c : tie.After-known-told) → known-told-start c .args .start + 1 + c .before .first-answer .given .0 .0 ≤ length (now (known-told-start c .args .message))
+ids-in : (c : tie.After-known-told) → known-told-start c .args .start + headerLength + c .before .first-answer .given .0 .0 ≤ length (now (known-told-start c .args .message))
 ids-in c =
     let after-unpack : tie.After-unpack = search in
     let start : tie.Start = search in
@@ -58,22 +58,22 @@ ids-in c =
 
 numbers-told : (c : tie.After-relative-decode) → let a = relative-decode-start c .args in
     answerOf (c .relative-decode .result .answer) (c .relative-decode .result .numbers)
-    ≡ readNumbers (a .reference .timestamp) (header (relative-decode-start c)) (drop (a .start + 1 + c .before .before .before .first-answer .given .0 .0) (now (a .message)))
+    ≡ readNumbers (a .reference .timestamp) (header (relative-decode-start c)) (drop (a .start + headerLength + c .before .before .before .first-answer .given .0 .0) (now (a .message)))
 numbers-told c =
     let after-first-answer : tie.After-first-answer = search in
     let after-unpack : tie.After-unpack = search in
     let start : tie.Start = search in
-    rw (after-unpack .unpack .ensures, to-end (start .args .start + 1 + after-first-answer .first-answer .given .0 .0) (now (start .args .message))) at (c .relative-decode .ensures .answer)
+    rw (after-unpack .unpack .ensures, to-end (start .args .start + headerLength + after-first-answer .first-answer .given .0 .0) (now (start .args .message))) at (c .relative-decode .ensures .answer)
 
 numbers-is : (c : tie.After-known-told2) → let a = known-told2-start c .args in
-    readNumbers (a .reference .timestamp) (header (known-told2-start c)) (drop (a .start + 1 + known-told2-first-answer c .first-answer .given .0 .0) (now (a .message)))
+    readNumbers (a .reference .timestamp) (header (known-told2-start c)) (drop (a .start + headerLength + known-told2-first-answer c .first-answer .given .0 .0) (now (a .message)))
     ≡ accepted (c .before .before .before .relative-decode .result .numbers) (c .before .second-answer .given .0 .0)
 numbers-is c =
     let after-relative-decode : tie.After-relative-decode = search in
     sym (numbers-told after-relative-decode) ∙ ap (λ (d : Decoded). answerOf d (after-relative-decode .relative-decode .result .numbers)) (c .before .second-answer .given .1)
 
 numbers-in : (c : tie.After-known-told2)
-    → known-told2-start c .args .start + (1 + (known-told2-first-answer c .first-answer .given .0 .0 + c .before .second-answer .given .0 .0))
+    → known-told2-start c .args .start + (headerLength + (known-told2-first-answer c .first-answer .given .0 .0 + c .before .second-answer .given .0 .0))
     ≤ length (now (known-told2-start c .args .message))
 numbers-in c =
     let after-known-told : tie.After-known-told = search in

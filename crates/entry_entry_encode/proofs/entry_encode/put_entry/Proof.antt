@@ -4,6 +4,7 @@ use Rattle.codec.proofs.Lending.{over-cons, to-end, put-end, put-end-long}
 use Rattle.path.specs.Record.{sized}
 use Rattle.path.specs.Flat.{pathIn}
 use Rattle.path_relative.specs.Records.{sharedBy}
+use Rattle.entry_numbers.specs.Header.{headerLength}
 use Rattle.entry_entry.specs.inside.Writing.{partsWith}
 use Rattle.entry_entry_encode.proofs.entry_encode.put_entry.Statement.{statement}
 use Rattle.entry_entry_encode.proofs.entry_encode.put_entry.Tie as tie
@@ -29,7 +30,7 @@ part-put-parts-start c =
 put-parts-requires : tie.Need-put-parts-requires
 put-parts-requires c κs =
     let s : tie.Start = search in
-    (s .pre .0, rw (to-end 1 (set (now (s .args .buffer)) 0 (c .before .header-byte .result)), length-drop, length-set) (omega (arith, s .pre .1)))
+    (s .pre .0, rw (to-end headerLength (set (now (s .args .buffer)) 0 (c .before .header-byte .result)), length-drop, length-set) (omega (arith, s .pre .1)))
 
 same-length : tie.Need-same-length
 same-length c =
@@ -37,7 +38,7 @@ same-length c =
     let s : tie.Start = search in
     let l = now (s .args .buffer) in
     let h = after-header-byte .header-byte .result in
-    put-end-long 1 (set l 0 h) (c .before .before .put-parts .last .0) (rw length-set (omega (arith, s .pre .1))) (c .before .before .put-parts .kept .0) ∙ length-set l 0 h
+    put-end-long headerLength (set l 0 h) (c .before .before .put-parts .last .0) (rw length-set (omega (arith, s .pre .1))) (c .before .before .put-parts .kept .0) ∙ length-set l 0 h
 
 returns : tie.Need-returns
 returns c =
@@ -47,8 +48,8 @@ returns c =
     let h = after-header-byte .header-byte in
     let w = c .before .before .put-parts in
     let bs = partsWith (s .args .reference) (s .args .fields) (bytes s) in
-    let rest = rw (to-end 1 (set l 0 (h .result))) at (w .ensures) in
-    put-end 1 (set l 0 (h .result)) (w .last .0) ∙ rw rest (over-cons l bs (h .result) (omega (arith, s .pre .1))) ∙ ap (λ (b : ℕ). over (b ∷ bs) l) (h .ensures)
+    let rest = rw (to-end headerLength (set l 0 (h .result))) at (w .ensures) in
+    put-end headerLength (set l 0 (h .result)) (w .last .0) ∙ rw rest (over-cons l bs (h .result) (omega (arith, s .pre .1))) ∙ ap (λ (b : ℕ). over (b ∷ bs) l) (h .ensures)
 
 pub put-entry-spec : {M : Type 1} → statement M
 put-entry-spec =

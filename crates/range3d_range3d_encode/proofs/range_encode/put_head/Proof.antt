@@ -1,7 +1,7 @@
 use Rattle.codec.proofs.Prelude.{_≡_, ap, _∙_, List, [], _∷_, ℕ, now, needs}
 use Rattle.codec.specs.Format.{over}
 use Rattle.range3d_range3d.specs.inside.Writing.{headWith}
-use Rattle.range3d_range3d.proofs.Writing.{over-two}
+use Rattle.range3d_range3d.proofs.Writing.{over-head}
 use Rattle.range3d_range3d_encode.proofs.range_encode.put_head.Statement.{statement}
 use Rattle.range3d_range3d_encode.proofs.range_encode.put_head.Tie as tie
 
@@ -15,7 +15,7 @@ returns c =
     let y = c .header-byte .result in
     let is : x ∷ y ∷ [] ≡ headWith (a .reference) (a .range) (a .paths) = rw
     (c .header-byte .ensures, c .before .pack .ensures, c .before .before .is-open .ensures, after-sources-of .sources-of .ensures) in
-    over-two l x y (start .pre) ∙ ap (λ (bs : List ℕ). over bs l) is
+    over-head l x y (start .pre) ∙ ap (λ (bs : List ℕ). over bs l) is
 
 pub put-head-spec : {M : Type 1} → statement M
 put-head-spec =

@@ -6,6 +6,7 @@ use Rattle.range_3d.specs.Record.{Range3d, rangeWith, subspacesOf}
 use Rattle.range_subspaces.specs.Subspaces.{subspacesBytes}
 use Rattle.range_paths.specs.inside.Writing.{bothBytes}
 use Rattle.range_times.specs.Times.{timesBytes}
+use Rattle.range_header.specs.Header.{headerLength}
 use Rattle.range3d_range3d.specs.inside.Writing.{headWith, measuredRange}
 use Rattle.range3d_range3d.proofs.Writing.{measured-long, measured-parts, next-room, over-next, put-next}
 use Rattle.range3d_range3d_encode.proofs.range_encode.put_range.Statement.{statement}
@@ -40,7 +41,7 @@ abbrev slice-known4-else1 : tie.After-slice-known4 → tie.Else1
 slice-known4-else1 c = slice-known3-else1 (c .before .before .before .before)
 
 long : (c : tie.After-relative-len-of-encoding2) → let s = c .before .before .before .before .before .before in
-    2 + c .before .before .relative-len-of-encoding .result + s .args .paths .len + c .relative-len-of-encoding2 .result ≡ length (whole s)
+    headerLength + c .before .before .relative-len-of-encoding .result + s .args .paths .len + c .relative-len-of-encoding2 .result ≡ length (whole s)
 long c =
     let s : tie.Start = search in
     omega (
@@ -50,12 +51,12 @@ long c =
     )
 
 -- where the parts start, and that each has room
-room : (c : tie.Else1) → let s = else1-start c in 2 + length (subspaces s) + length (paths s) + length (times s) ≤ length (now (s .args .buffer))
+room : (c : tie.Else1) → let s = else1-start c in headerLength + length (subspaces s) + length (paths s) + length (times s) ≤ length (now (s .args .buffer))
 room c =
     let s = else1-start c in
     omega (arith, c .if1 .left, c .before .before .before .relative-len-of-encoding .ensures .0, s .pre .1, c .before .relative-len-of-encoding2 .ensures .0)
 
-at-paths : (c : tie.Else1) → let s = else1-start c in 2 + c .before .before .before .relative-len-of-encoding .result ≡ length (head s ++ subspaces s)
+at-paths : (c : tie.Else1) → let s = else1-start c in headerLength + c .before .before .before .relative-len-of-encoding .result ≡ length (head s ++ subspaces s)
 at-paths c =
     let s = else1-start c in
     omega (arith, length-append (head s) (subspaces s), c .before .before .before .relative-len-of-encoding .ensures .0)
@@ -66,7 +67,7 @@ room-paths c =
     omega (arith, length-append (head s) (subspaces s), room c)
 
 at-times : (c : tie.Else1) → let s = else1-start c in
-    2 + c .before .before .before .relative-len-of-encoding .result + s .args .paths .len ≡ length ((head s ++ subspaces s) ++ paths s)
+    headerLength + c .before .before .before .relative-len-of-encoding .result + s .args .paths .len ≡ length ((head s ++ subspaces s) ++ paths s)
 at-times c =
     let s = else1-start c in
     omega (arith, length-append (head s ++ subspaces s) (paths s), at-paths c, s .pre .1)
@@ -79,18 +80,18 @@ room-times c =
 -- what stands in the buffer after the subspaces, and after the paths
 two : (c : tie.After-slice-known3) → let s = else1-start (slice-known3-else1 c) in
     let x = c .before .before .before .before .before .before .put-head .last .0 in
-    putMid 2 (length x - 2) x (c .before .before .relative-encode .last .0) ≡ over (head s ++ subspaces s) (now (s .args .buffer))
+    putMid headerLength (length x - headerLength) x (c .before .before .relative-encode .last .0) ≡ over (head s ++ subspaces s) (now (s .args .buffer))
 two c =
     let after-put-head : tie.After-put-head = search in
     let s = else1-start (slice-known3-else1 c) in
     let w = c .before .before .relative-encode in
-    put-next (now (s .args .buffer)) (head s) (subspaces s) _ 2 (after-put-head .put-head .ensures) refl (omega (arith, room (slice-known3-else1 c))) (w .last .0) (w .ensures .1)
+    put-next (now (s .args .buffer)) (head s) (subspaces s) _ headerLength (after-put-head .put-head .ensures) refl (omega (arith, room (slice-known3-else1 c))) (w .last .0) (w .ensures .1)
 
 three : (c : tie.After-slice-known4) → let e = slice-known4-else1 c in
     let s = else1-start e in
     let x = c .before .before .before .before .before .before .before .before .before .before .put-head .last .0 in
-    let y = putMid 2 (length x - 2) x (c .before .before .before .before .before .before .relative-encode .last .0) in
-    let n = 2 + e .before .before .before .relative-len-of-encoding .result in
+    let y = putMid headerLength (length x - headerLength) x (c .before .before .before .before .before .before .relative-encode .last .0) in
+    let n = headerLength + e .before .before .before .relative-len-of-encoding .result in
     putMid n (length y - n) y (c .before .before .put-paths .last .0) ≡ over ((head s ++ subspaces s) ++ paths s) (now (s .args .buffer))
 three c =
     let e = slice-known4-else1 c in
