@@ -105,11 +105,19 @@ typedef struct {
     jakepuro_time_range times;
 } jakepuro_range3d;
 
+enum {
+    JAKEPURO_PATH_SIZE = 1 + 2 * JAKEPURO_MAX_COMPONENT_COUNT + JAKEPURO_MAX_PATH_LENGTH,
+    JAKEPURO_TIME_RANGE_SIZE = 8 + 1 + 8,
+    JAKEPURO_AREA_SIZE = 1 + JAKEPURO_ID_LENGTH + JAKEPURO_PATH_SIZE + JAKEPURO_TIME_RANGE_SIZE,
+    JAKEPURO_ENTRY_SIZE = 3 * JAKEPURO_ID_LENGTH + JAKEPURO_PATH_SIZE + 8 + 8,
+    JAKEPURO_RANGE3D_SIZE = 2 * JAKEPURO_ID_LENGTH + 1 + 2 * JAKEPURO_PATH_SIZE + 1 + JAKEPURO_TIME_RANGE_SIZE
+};
+
 /* Fails to compile where a compiler pads the records. */
-typedef char jakepuro_path_size[sizeof(jakepuro_path) == 641 ? 1 : -1];
-typedef char jakepuro_area_size[sizeof(jakepuro_area) == 691 ? 1 : -1];
-typedef char jakepuro_entry_size[sizeof(jakepuro_entry) == 753 ? 1 : -1];
-typedef char jakepuro_range3d_size[sizeof(jakepuro_range3d) == 1365 ? 1 : -1];
+typedef char jakepuro_path_size[sizeof(jakepuro_path) == JAKEPURO_PATH_SIZE ? 1 : -1];
+typedef char jakepuro_area_size[sizeof(jakepuro_area) == JAKEPURO_AREA_SIZE ? 1 : -1];
+typedef char jakepuro_entry_size[sizeof(jakepuro_entry) == JAKEPURO_ENTRY_SIZE ? 1 : -1];
+typedef char jakepuro_range3d_size[sizeof(jakepuro_range3d) == JAKEPURO_RANGE3D_SIZE ? 1 : -1];
 
 /* ---- Fields of records */
 

@@ -3,7 +3,8 @@ use crate::raw::{self, MAX_COMPONENT_COUNT, MAX_COMPONENT_LENGTH, MAX_PATH_LENGT
 use std::error::Error;
 use std::fmt;
 
-/// A path: at most 20 components of at most 300 bytes each, 600 bytes in all.
+/// A path: at most [`MAX_COMPONENT_COUNT`] components of at most [`MAX_COMPONENT_LENGTH`] bytes each,
+/// [`MAX_PATH_LENGTH`] bytes in all.
 ///
 /// By itself:
 ///
@@ -50,11 +51,11 @@ pub struct Path(pub(crate) raw::Path);
 /// Why components make no path.
 #[derive(Clone, Copy, Debug, PartialEq, Eq, Hash)]
 pub enum InvalidPathError {
-    /// There are more than 20 components.
+    /// There are more than [`MAX_COMPONENT_COUNT`] components.
     TooManyComponents,
-    /// A component has more than 300 bytes.
+    /// A component has more than [`MAX_COMPONENT_LENGTH`] bytes.
     ComponentTooLong,
-    /// The components have more than 600 bytes in all.
+    /// The components have more than [`MAX_PATH_LENGTH`] bytes in all.
     PathTooLong,
 }
 
@@ -85,12 +86,12 @@ impl Path {
     /// The path of these components.
     ///
     /// ```
-    /// use jakepuro::{InvalidPathError, Path};
+    /// use jakepuro::{InvalidPathError, Path, raw::MAX_COMPONENT_LENGTH};
     ///
     /// let path = Path::from_components(&[b"blog", b"", b"idea"])?;
     /// assert_eq!(path.component_count(), 3);
     /// assert_eq!(path.components().last(), Some(&b"idea"[..]));
-    /// let error = Path::from_components(&[&[0; 301]]).unwrap_err();
+    /// let error = Path::from_components(&[&[0; MAX_COMPONENT_LENGTH + 1]]).unwrap_err();
     /// assert_eq!(error, InvalidPathError::ComponentTooLong);
     /// # Ok::<(), InvalidPathError>(())
     /// ```

@@ -20,7 +20,7 @@ pub const ID_LENGTH: usize = 32;
 macro_rules! records {
     ($(
         $(#[$doc:meta])*
-        $name:ident: $size:literal { $($(#[$of_field:meta])* $field:ident: $type:ty,)* }
+        $name:ident { $($(#[$of_field:meta])* $field:ident: $type:ty,)* }
     )*) => { $(
         $(#[$doc])*
         #[repr(C)]
@@ -31,13 +31,14 @@ macro_rules! records {
             // SAFETY: it is bytes.
             pub const ZERO: Self = unsafe { std::mem::zeroed() };
         }
-        const _: () = assert!(std::mem::size_of::<$name>() == $size);
+        // No byte of padding.
+        const _: () = assert!(std::mem::size_of::<$name>() == 0 $(+ std::mem::size_of::<$type>())*);
     )* };
 }
 
 records! {
     /// A path. What is not used of bytes and lengths is zero.
-    Path: 641 {
+    Path {
         /// How many components there are.
         count: u8,
         /// Their lengths, the highest byte first.
@@ -46,7 +47,7 @@ records! {
         bytes: [u8; MAX_PATH_LENGTH],
     }
     /// A range of times; they have the highest byte first.
-    TimeRange: 17 {
+    TimeRange {
         /// From here on.
         start: [u8; 8],
         /// 1 if the end is open, else 0.
@@ -55,7 +56,7 @@ records! {
         end: [u8; 8],
     }
     /// An area.
-    Area: 691 {
+    Area {
         /// 1 for any subspace, else 0.
         any: u8,
         /// The subspace; zero beside any.
@@ -66,7 +67,7 @@ records! {
         times: TimeRange,
     }
     /// An entry; numbers have the highest byte first.
-    Entry: 753 {
+    Entry {
         /// Its namespace.
         namespace_id: [u8; ID_LENGTH],
         /// Its subspace.
@@ -81,7 +82,7 @@ records! {
         payload_digest: [u8; ID_LENGTH],
     }
     /// A 3d range.
-    Range3d: 1365 {
+    Range3d {
         /// The first subspace.
         subspace_start: [u8; ID_LENGTH],
         /// 1 if the subspaces' end is open, else 0.

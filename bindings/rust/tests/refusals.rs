@@ -55,7 +55,7 @@ fn too_short_a_buffer_is_4_and_unchanged() {
 
 #[test]
 fn a_record_that_is_not_well_formed_is_5() {
-    let bad = raw::Path { count: 21, ..raw::Path::ZERO };
+    let bad = raw::Path { count: raw::MAX_COMPONENT_COUNT as u8 + 1, ..raw::Path::ZERO };
     let (mut buffer, mut count) = ([0xee; 8], 7);
     assert_eq!(raw::path_encode(&mut buffer, &bad, &mut count), 5);
     assert_eq!((buffer, count), ([0xee; 8], 0));

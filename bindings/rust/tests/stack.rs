@@ -5,7 +5,7 @@ const STACK: usize = 64 * 1024;
 
 macro_rules! three {
     ($encode:ident, $length:ident, $decode:ident, $value:expr, [$($reference:expr),*] $(, $canonic:expr)?) => {{
-        let (mut buffer, mut n, mut back) = ([0; 2048], 0, $value);
+        let (mut buffer, mut n, mut back) = ([0; 2 * std::mem::size_of::<Range3d>()], 0, $value);
         assert_eq!($encode(&mut buffer, &$value, $(&$reference,)* &mut n), 0);
         let written = n;
         assert_eq!($length(&$value, $(&$reference,)* &mut n), 0);
@@ -15,7 +15,14 @@ macro_rules! three {
 }
 
 fn path() -> Path {
-    Path { count: 20, lengths: [[0, 30]; MAX_COMPONENT_COUNT], bytes: [0x61; MAX_PATH_LENGTH] }
+    let each = (MAX_PATH_LENGTH / MAX_COMPONENT_COUNT) as u16;
+    let mut bytes = [0; MAX_PATH_LENGTH];
+    bytes[..MAX_COMPONENT_COUNT * usize::from(each)].fill(0x61);
+    Path {
+        count: MAX_COMPONENT_COUNT as u8,
+        lengths: [each.to_be_bytes(); MAX_COMPONENT_COUNT],
+        bytes,
+    }
 }
 
 fn area(path: Path) -> Area {

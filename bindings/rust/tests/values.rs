@@ -1,22 +1,25 @@
 //! The types: their parts come back, and paths keep their limits.
+use jakepuro::raw::{MAX_COMPONENT_COUNT, MAX_COMPONENT_LENGTH, MAX_PATH_LENGTH};
 use jakepuro::*;
 
 #[test]
 fn limits_of_paths() {
-    let at_most = [&[0x61; 300][..], &[0x62; 300]];
-    assert_eq!(Path::from_components(&at_most).unwrap().path_length(), 600);
+    let bytes = [0x61; MAX_PATH_LENGTH];
+    let at_most: Vec<_> = bytes.chunks(MAX_COMPONENT_LENGTH).collect();
+    assert_eq!(Path::from_components(&at_most).unwrap().path_length(), MAX_PATH_LENGTH);
     let too_long = [&at_most[..], &[b"c"]].concat();
     assert_eq!(Path::from_components(&too_long), Err(InvalidPathError::PathTooLong));
-    let error = Path::from_components(&[&[0; 301]]).unwrap_err();
+    let error = Path::from_components(&[&[0; MAX_COMPONENT_LENGTH + 1]]).unwrap_err();
     assert_eq!(error, InvalidPathError::ComponentTooLong);
-    let empty: [&[u8]; 21] = [b""; 21];
-    assert_eq!(Path::from_components(&empty[..20]).unwrap().component_count(), 20);
+    let empty: [&[u8]; MAX_COMPONENT_COUNT + 1] = [b""; MAX_COMPONENT_COUNT + 1];
+    let most = Path::from_components(&empty[1..]).unwrap();
+    assert_eq!(most.component_count(), MAX_COMPONENT_COUNT);
     assert_eq!(Path::from_components(&empty), Err(InvalidPathError::TooManyComponents));
 }
 
 #[test]
 fn parts_come_back() {
-    let components: [&[u8]; 3] = [b"a", b"", &[0xff; 300]];
+    let components: [&[u8]; 3] = [b"a", b"", &[0xff; MAX_COMPONENT_LENGTH - 1]];
     let path = Path::from_components(&components).unwrap();
     assert_eq!(path.components().collect::<Vec<_>>(), components);
     assert_eq!(path.components().len(), 3);

@@ -27,7 +27,7 @@ fn decode_parts(
     header: AreaHeader,
     reference: AreaHead,
     reference_path: &[u8],
-    out: &mut [u8; 641],
+    out: &mut [u8; path::lent::SIZE],
 ) -> DecodedAreaHead
     requires { ⌜ (wellFormedArea (areaWith reference (pathIn (now «reference_path»))) ≡ true) × (pathIn (now out) ≡ pathFrom []) × (headerLength + length (now message) < 2 ^ 64) ⌝ }
     ensures { λ r. ⌜ ReadsArea r (now (out .exit)) (shift headerLength (mapped areaFrom (readParts canonic (areaOf (areaWith reference (pathIn (now («reference_path» .entry))))) header) (now (message .entry)))) ⌝ }
@@ -77,7 +77,7 @@ pub fn relative_decode(
     canonic: bool,
     reference: AreaHead,
     reference_path: &[u8],
-    out: &mut [u8; 641],
+    out: &mut [u8; path::lent::SIZE],
 ) -> DecodedAreaHead
     ensures { λ r. ⌜ ReadsArea r (now (out .exit)) (readAgainstArea canonic (areaWith reference (pathIn (now («reference_path» .entry)))) (drop start (now (message .entry)))) ⌝ }
 {

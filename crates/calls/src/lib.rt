@@ -70,8 +70,8 @@ fn copy_path(flat: &mut [u8], path: &[u8])
 // The record of a path that was read is copied.
 pub fn give_path(
     answer: Decoded,
-    path: &[u8; 641],
-    flat: &mut [u8; 641],
+    path: &[u8; path::lent::SIZE],
+    flat: &mut [u8; path::lent::SIZE],
     consumed: &mut usize,
 ) -> u8
     ensures { λ r. ⌜ Stores pathFlat (answerOf answer (pathIn (now (path .entry)))) (now (flat .entry)) (now (flat .exit)) r (now (consumed .exit)) ⌝ }
@@ -88,8 +88,8 @@ pub fn give_path(
 pub fn give_area(
     answer: Decoded,
     head: AreaHead,
-    path: &[u8; 641],
-    flat: &mut [u8; 691],
+    path: &[u8; path::lent::SIZE],
+    flat: &mut [u8; flat_records::area_record::SIZE],
     consumed: &mut usize,
 ) -> u8
     ensures { λ r. ⌜ Stores areaFlat (answerOf answer (areaWith head (pathIn (now (path .entry))))) (now (flat .entry)) (now (flat .exit)) r (now (consumed .exit)) ⌝ }
@@ -106,8 +106,8 @@ pub fn give_area(
 pub fn give_entry(
     answer: Decoded,
     fields: EntryFields,
-    path: &[u8; 641],
-    flat: &mut [u8; 753],
+    path: &[u8; path::lent::SIZE],
+    flat: &mut [u8; flat_records::entry_record::SIZE],
     consumed: &mut usize,
 ) -> u8
     ensures { λ r. ⌜ Stores entryFlat (answerOf answer (entryWith fields (pathIn (now (path .entry))))) (now (flat .entry)) (now (flat .exit)) r (now (consumed .exit)) ⌝ }
@@ -124,9 +124,9 @@ pub fn give_entry(
 pub fn give_range<'a>(
     answer: Decoded,
     head: Range3dHead,
-    start: &'a [u8; 641],
-    end: &'a [u8; 641],
-    flat: &mut [u8; 1365],
+    start: &'a [u8; path::lent::SIZE],
+    end: &'a [u8; path::lent::SIZE],
+    flat: &mut [u8; flat_records::range_record::SIZE],
     consumed: &mut usize,
 ) -> u8
     ensures { λ r. ⌜ Stores rangeFlat (answerOf answer (rangeWith head (pathIn (now (start .entry))) (pathIn (now (end .entry))))) (now (flat .entry)) (now (flat .exit)) r (now (consumed .exit)) ⌝ }

@@ -1,10 +1,11 @@
 -- The answer to a case line: docs/CASES.md.
 use mathlib.Core.List.{List}
 use mathlib.Core.Bool.{cond}
-use Prim.Native.Nat.{ℕ}
+use Prim.Native.Nat.{ℕ, _*_}
 use lib.Dec.{leb}
 use lib.ListN.{length}
 use Rattle.codec.specs.Bytes.{sameBytes}
+use Rattle.case_text.specs.Limits.{maxBytes}
 use Rattle.case_text.specs.Texts.{six, ended}
 use Rattle.case_text.specs.Fields.{field}
 use Rattle.case_numbers.specs.Lines.{taggedLine, standaloneLine}
@@ -51,6 +52,9 @@ kindLine kind.Range3d line = rangeLine line
 kindLine kind.Raw line = rawLine line
 kindLine kind.Unknown line = six
 
--- a line of more than 16,384 bytes is not in its form
+-- how long a line may be; a longer one is not in its form
+abbrev pub maxLine : ℕ
+maxLine = 2 * maxBytes
+
 unfoldable pub answerTo : List ℕ → List ℕ
-answerTo line = ended (cond (leb (length line) 16384) (kindLine (kindOf (field 0 line)) line) six)
+answerTo line = ended (cond (leb (length line) maxLine) (kindLine (kindOf (field 0 line)) line) six)

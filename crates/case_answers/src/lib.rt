@@ -1,5 +1,6 @@
 // Answers to case lines: docs/CASES.md.
 ghost use mathlib.Core.Path.{_≡_};
+ghost use Rattle.case_text.specs.Limits.{maxAnswer};
 ghost use Rattle.case_text.specs.Answers.{PutsWithin};
 ghost use Rattle.case_answers.specs.Lines.{recordKind, kindOf, answerTo};
 use case_paths::Encoding;
@@ -19,7 +20,7 @@ enum Kind {
 }
 
 // The longest line, its newline not counted.
-pub const MAX_LINE: usize = 16384;
+pub const MAX_LINE: usize = 2 * case_text::MAX_BYTES;
 
 // The kinds of records other than numbers and paths.
 fn record_kind(field: &[u8]) -> Kind
@@ -66,7 +67,7 @@ fn kind_of(field: &[u8]) -> Kind
 
 // Writes the answer to a line from a place on, and answers the next place; where fewer than MAX_ANSWER bytes are free, nothing changes.
 pub fn answer(line: &[u8], out: &mut [u8], at: usize) -> usize
-    ensures { λ r. ⌜ PutsWithin 16640 at (answerTo (now (line .entry))) (now (out .entry)) (now (out .exit)) r ⌝ }
+    ensures { λ r. ⌜ PutsWithin maxAnswer at (answerTo (now (line .entry))) (now (out .entry)) (now (out .exit)) r ⌝ }
 {
     if MAX_LINE < line.len() {
         return case_text::put::refuse(out, at);

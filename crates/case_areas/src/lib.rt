@@ -5,6 +5,7 @@ ghost use lib.ListN.{length, take};
 ghost use Rattle.path.specs.Flat.{pathIn};
 ghost use Rattle.grouping.specs.Record.{areaWith};
 ghost use Rattle.area_area.specs.Records.{againstArea};
+ghost use Rattle.case_text.specs.Limits.{maxAnswer};
 ghost use Rattle.case_text.specs.Texts.{ended};
 ghost use Rattle.case_text.specs.Fields.{Says};
 ghost use Rattle.case_text.specs.inside.Values.{valueText};
@@ -80,7 +81,7 @@ pub fn read_area(line: &[u8], place: u8) -> AreaField
 }
 
 // Prints an area from the buffer's first byte on.
-fn print(area: AreaHead, path: &[u8; 641], buffer: &mut [u8; MAX_BYTES]) -> usize
+fn print(area: AreaHead, path: &[u8; path::lent::SIZE], buffer: &mut [u8; MAX_BYTES]) -> usize
     ensures { λ r. ⌜ take r (now (buffer .exit)) ≡ areaText (areaWith area (pathIn (now (path .entry)))) ⌝ }
 {
     let subspace = area.subspace;
@@ -105,7 +106,7 @@ fn write(
     mut buffer: [u8; MAX_BYTES],
 ) -> usize
     requires { ⌜ OutputInside (length buffer) output ⌝ }
-    ensures { λ r. ⌜ PutsWithin 16640 at (ended (areaField 6 (now (line .entry)) (valueText (againstArea (fieldArea reference)) output buffer))) (now (out .entry)) (now (out .exit)) r ⌝ }
+    ensures { λ r. ⌜ PutsWithin maxAnswer at (ended (areaField 6 (now (line .entry)) (valueText (againstArea (fieldArea reference)) output buffer))) (now (out .entry)) (now (out .exit)) r ⌝ }
 {
     let value = read_area(line, 6);
     if !value.ok {
@@ -131,7 +132,7 @@ fn write(
 
 // Answers a line of an area against a reference, which stands before the other fields.
 pub fn area(line: &[u8], out: &mut [u8], at: usize) -> usize
-    ensures { λ r. ⌜ PutsWithin 16640 at (ended (areaLine (now (line .entry)))) (now (out .entry)) (now (out .exit)) r ⌝ }
+    ensures { λ r. ⌜ PutsWithin maxAnswer at (ended (areaLine (now (line .entry)))) (now (out .entry)) (now (out .exit)) r ⌝ }
 {
     let reference = read_area(line, 2);
     if !reference.ok {

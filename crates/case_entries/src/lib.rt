@@ -1,6 +1,7 @@
 // Case lines of entries against a namespace and an area: docs/CASES.md. A line is answered where MAX_ANSWER bytes are free; elsewhere nothing changes.
 ghost use lib.ListN.{length};
 ghost use Rattle.entry_area.specs.Records.{againstNamespaceArea};
+ghost use Rattle.case_text.specs.Limits.{maxAnswer};
 ghost use Rattle.case_text.specs.Texts.{ended};
 ghost use Rattle.case_text.specs.inside.Values.{valueText};
 ghost use Rattle.case_text.specs.Answers.{PutsWithin};
@@ -26,7 +27,7 @@ fn write(
     mut buffer: [u8; MAX_BYTES],
 ) -> usize
     requires { ⌜ OutputInside (length buffer) output ⌝ }
-    ensures { λ r. ⌜ PutsWithin 16640 at (ended (entryField 7 (now (line .entry)) (valueText (againstNamespaceArea namespace (fieldArea area)) output buffer))) (now (out .entry)) (now (out .exit)) r ⌝ }
+    ensures { λ r. ⌜ PutsWithin maxAnswer at (ended (entryField 7 (now (line .entry)) (valueText (againstNamespaceArea namespace (fieldArea area)) output buffer))) (now (out .entry)) (now (out .exit)) r ⌝ }
 {
     let value = case_entry_text::read_entry(line, 7);
     if !value.ok {
@@ -54,7 +55,7 @@ fn write(
 
 // Answers a line of an entry against a namespace and an area, which stand before the other fields.
 pub fn entry(line: &[u8], out: &mut [u8], at: usize) -> usize
-    ensures { λ r. ⌜ PutsWithin 16640 at (ended (entryLine (now (line .entry)))) (now (out .entry)) (now (out .exit)) r ⌝ }
+    ensures { λ r. ⌜ PutsWithin maxAnswer at (ended (entryLine (now (line .entry)))) (now (out .entry)) (now (out .exit)) r ⌝ }
 {
     let first = text::ids::read_id(text::part(line, b'\t', 2));
     if !first.ok {

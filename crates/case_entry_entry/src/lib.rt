@@ -1,6 +1,7 @@
 // Case lines of entries against an entry: docs/CASES.md. A line is answered where MAX_ANSWER bytes are free; elsewhere nothing changes.
 ghost use lib.ListN.{length};
 ghost use Rattle.entry_entry.specs.Records.{againstEntry};
+ghost use Rattle.case_text.specs.Limits.{maxAnswer};
 ghost use Rattle.case_text.specs.Texts.{ended};
 ghost use Rattle.case_text.specs.inside.Values.{valueText};
 ghost use Rattle.case_text.specs.Answers.{PutsWithin};
@@ -24,7 +25,7 @@ fn write(
     mut buffer: [u8; MAX_BYTES],
 ) -> usize
     requires { ⌜ OutputInside (length buffer) output ⌝ }
-    ensures { λ r. ⌜ PutsWithin 16640 at (ended (entryField 8 (now (line .entry)) (valueText (againstEntry (fieldEntry reference)) output buffer))) (now (out .entry)) (now (out .exit)) r ⌝ }
+    ensures { λ r. ⌜ PutsWithin maxAnswer at (ended (entryField 8 (now (line .entry)) (valueText (againstEntry (fieldEntry reference)) output buffer))) (now (out .entry)) (now (out .exit)) r ⌝ }
 {
     let value = case_entry_text::read_entry(line, 8);
     if !value.ok {
@@ -50,7 +51,7 @@ fn write(
 
 // Answers a line of an entry against a reference, which stands before the other fields. No strict reading is asked for.
 pub fn entry(line: &[u8], out: &mut [u8], at: usize) -> usize
-    ensures { λ r. ⌜ PutsWithin 16640 at (ended (entryEntryLine (now (line .entry)))) (now (out .entry)) (now (out .exit)) r ⌝ }
+    ensures { λ r. ⌜ PutsWithin maxAnswer at (ended (entryEntryLine (now (line .entry)))) (now (out .entry)) (now (out .exit)) r ⌝ }
 {
     let reference = case_entry_text::read_entry(line, 2);
     if !reference.ok {

@@ -4,6 +4,7 @@ ghost use mathlib.Core.Bool.{cond};
 ghost use lib.ListN.{length};
 ghost use Rattle.path.specs.Flat.{pathIn};
 ghost use Rattle.entry.specs.Record.{entryWith};
+ghost use Rattle.case_text.specs.Limits.{maxBytes};
 ghost use Rattle.case_text.specs.Answers.{PutsText};
 ghost use Rattle.case_text.specs.Fields.{Says};
 ghost use Rattle.case_entry_text.specs.Fields.{namesText, entryText, namesField, entryField, fieldEntry, noEntry};
@@ -126,8 +127,12 @@ pub fn read_entry(line: &[u8], place: u8) -> EntryField
 }
 
 // Prints an entry's ids and path from the buffer's first byte on.
-fn print_names(fields: EntryFields, path: &[u8; 641], buffer: &mut [u8; MAX_BYTES]) -> usize
-    ensures { λ r. ⌜ PutsText 0 (namesText (entryWith fields (pathIn (now (path .entry))))) (now (buffer .entry)) (now (buffer .exit)) r × (length (now (buffer .entry)) ≡ 8192) ⌝ }
+fn print_names(
+    fields: EntryFields,
+    path: &[u8; path::lent::SIZE],
+    buffer: &mut [u8; MAX_BYTES],
+) -> usize
+    ensures { λ r. ⌜ PutsText 0 (namesText (entryWith fields (pathIn (now (path .entry))))) (now (buffer .entry)) (now (buffer .exit)) r × (length (now (buffer .entry)) ≡ maxBytes) ⌝ }
 {
     let namespace = fields.namespace_id;
     let mut p = text::put_hex(buffer, 0, &namespace);
@@ -139,7 +144,11 @@ fn print_names(fields: EntryFields, path: &[u8; 641], buffer: &mut [u8; MAX_BYTE
 }
 
 // Prints an entry from the buffer's first byte on.
-pub fn print_entry(fields: EntryFields, path: &[u8; 641], buffer: &mut [u8; MAX_BYTES]) -> usize
+pub fn print_entry(
+    fields: EntryFields,
+    path: &[u8; path::lent::SIZE],
+    buffer: &mut [u8; MAX_BYTES],
+) -> usize
     ensures { λ r. ⌜ PutsText 0 (entryText (entryWith fields (pathIn (now (path .entry))))) (now (buffer .entry)) (now (buffer .exit)) r ⌝ }
 {
     let mut p = print_names(fields, path, buffer);

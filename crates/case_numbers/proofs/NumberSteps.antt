@@ -5,6 +5,7 @@ use Rattle.codec.specs.Format.{allowed, putAnswer, putBuffer}
 use Rattle.compact_u64.specs.Number.{minTag, numberBytes, readNumber}
 use Rattle.text.specs.Parts.{parts}
 use Rattle.text.specs.Decimal.{decimalText}
+use Rattle.case_text.specs.Limits.{maxBytes}
 use Rattle.case_text.specs.declared.Op.{Op}
 use Rattle.case_text.specs.declared.Op.the-variants as op
 use Rattle.case_text.specs.declared.Output.{Output}
@@ -31,7 +32,7 @@ rest w v =
 
 limited : (line : List ℕ) (b : Bool) (k : ℕ → List ℕ → List ℕ) → cond b (messageField 4 line k) six ≡ messageField 4 line (λ start message. cond b (k start message) six)
 limited line true k = refl
-limited line false k = sym (message-falls 8192 4 line _ (λ start message. refl))
+limited line false k = sym (message-falls maxBytes 4 line _ (λ start message. refl))
 
 module _ (w : ℕ) (line : List ℕ) {v : ℕ} where
   pub number-none : Says (decimalField 3 line) false v → (x : Op) → numberLine w x line ≡ six
@@ -41,7 +42,7 @@ module _ (w : ℕ) (line : List ℕ) {v : ℕ} where
   number-none s op.Length = cond-falls (eqb (length (parts 9 line)) 4) (says-refused s refl _)
   number-none s op.Unknown = refl
 
-  number-some : Says (decimalField 3 line) true v → (x : Op) → numberLine w x line ≡ asking 8192 4 4 x line (rest w v)
+  number-some : Says (decimalField 3 line) true v → (x : Op) → numberLine w x line ≡ asking maxBytes 4 4 x line (rest w v)
   number-some s op.Strict = says-value s refl _ ∙ limited line (ltb v (2 ^ w)) (λ start message. readText decimalText (readNumber true w v (drop start message)))
   number-some s op.Lenient = says-value s refl _ ∙ limited line (ltb v (2 ^ w)) (λ start message. readText decimalText (readNumber false w v (drop start message)))
   number-some s op.Write = ap (exactly 5 line) (says-value s refl _)
@@ -49,7 +50,7 @@ module _ (w : ℕ) (line : List ℕ) {v : ℕ} where
   number-some s op.Unknown = refl
 
   module _ {t : List ℕ} (is : t ≡ numberLine w (opOf (field 1 line)) line) (value : Says (decimalField 3 line) true v)
-      {buffer : List ℕ} {x : Asked} (asks : Asks (asking 8192 4 4 (opOf (field 1 line)) line) buffer x) where
+      {buffer : List ℕ} {x : Asked} (asks : Asks (asking maxBytes 4 4 (opOf (field 1 line)) line) buffer x) where
     left : t ≡ onAsked x buffer (rest w v)
     left = is ∙ number-some value (opOf (field 1 line)) ∙ sym (asks .said (rest w v))
 

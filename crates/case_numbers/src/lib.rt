@@ -5,6 +5,7 @@ ghost use Prim.Native.Nat.{ℕ, _≤_, _^_};
 ghost use lib.ListN.{length};
 ghost use Rattle.compact_u64.specs.Number.{standalone};
 ghost use Rattle.compact_u64.specs.Answers.{bits};
+ghost use Rattle.case_text.specs.Limits.{maxAnswer};
 ghost use Rattle.case_text.specs.Texts.{ended};
 ghost use Rattle.case_text.specs.Fields.{decimalField};
 ghost use Rattle.case_text.specs.inside.Values.{valueText};
@@ -76,7 +77,7 @@ fn write_number(
     mut buffer: [u8; MAX_BYTES],
 ) -> usize
     requires { ⌜ OutputInside (length buffer) output ⌝ }
-    ensures { λ r. ⌜ PutsWithin 16640 at (ended (numberText (bits width) output buffer v)) (now (out .entry)) (now (out .exit)) r ⌝ }
+    ensures { λ r. ⌜ PutsWithin maxAnswer at (ended (numberText (bits width) output buffer v)) (now (out .entry)) (now (out .exit)) r ⌝ }
 {
     match output {
         Output::Buffer(n) => {
@@ -94,7 +95,7 @@ fn write_number(
 
 // Answers a line of a number after its tag. The tag stands where a number to write or measure does.
 pub fn number(line: &[u8], out: &mut [u8], at: usize) -> usize
-    ensures { λ r. ⌜ PutsWithin 16640 at (ended (taggedLine (now (line .entry)))) (now (out .entry)) (now (out .exit)) r ⌝ }
+    ensures { λ r. ⌜ PutsWithin maxAnswer at (ended (taggedLine (now (line .entry)))) (now (out .entry)) (now (out .exit)) r ⌝ }
 {
     let field = width(text::part(line, b'\t', 2));
     let WidthField::Width(width) = field else {
@@ -131,7 +132,7 @@ fn write_standalone(
     mut buffer: [u8; MAX_BYTES],
 ) -> usize
     requires { ⌜ OutputInside (length buffer) output ⌝ }
-    ensures { λ r. ⌜ PutsWithin 16640 at (ended (decimalField 2 (now (line .entry)) (valueText standalone output buffer))) (now (out .entry)) (now (out .exit)) r ⌝ }
+    ensures { λ r. ⌜ PutsWithin maxAnswer at (ended (decimalField 2 (now (line .entry)) (valueText standalone output buffer))) (now (out .entry)) (now (out .exit)) r ⌝ }
 {
     let value = decimal::read_decimal(text::part(line, b'\t', 2));
     let Decimal::Value(v) = value else {
@@ -146,7 +147,7 @@ fn write_standalone(
 
 // Answers a line of a number that stands alone.
 pub fn standalone(line: &[u8], out: &mut [u8], at: usize) -> usize
-    ensures { λ r. ⌜ PutsWithin 16640 at (ended (standaloneLine (now (line .entry)))) (now (out .entry)) (now (out .exit)) r ⌝ }
+    ensures { λ r. ⌜ PutsWithin maxAnswer at (ended (standaloneLine (now (line .entry)))) (now (out .entry)) (now (out .exit)) r ⌝ }
 {
     let mut bytes = [0u8; MAX_BYTES];
     let asked = fields::asked(line, 2, 3, &mut bytes);

@@ -2,8 +2,9 @@
 use Rattle.codec.proofs.Prelude.{_≡_, refl, sym, ap, _∙_, List, [], _∷_, _++_, map, append-nil, append-assoc, Bool, true, false, cond, _&&_, ℕ, _+_, _-_, _^_, _%_, _≤_, _<_, mod-eq-of-lt, true≢false, take-append-drop, OneOf, tagOf, arith, add-one, eq-eqb, ne-eqb, le-ltb, ltb, length, take, drop, set, replicate, length-set, length-replicate, drop-of-length-le, drop-cons, take-suc-set, take-all}
 use Rattle.codec.specs.Answers.{Outcome, refusedWriting, said, unsaid}
 use Rattle.codec.specs.Format.{lengthAnswer}
+use Rattle.path.specs.Limits.{maxComponentLength, maxComponentCount, maxPathLength}
 use Rattle.path.specs.Record.{Path, allAtMost, used, wellFormed}
-use Rattle.path.specs.Flat.{shorts, pathFlat, pathIn}
+use Rattle.path.specs.Flat.{pathSize, shorts, pathFlat, pathIn}
 use Rattle.path.specs.Puts.{Puts}
 use Rattle.path.proofs.Puts.{puts-whole}
 use Rattle.path.proofs.Record.{well-formed}
@@ -50,15 +51,15 @@ module _ (p : List ℕ) (rest : Bool) where
 
 -- ---- 20 numbers parted by commas
 abbrev pub noLengths : Lengths
-noLengths = record { ok = false; lengths = replicate 20 0 }
+noLengths = record { ok = false; lengths = replicate maxComponentCount 0 }
 
 module _ (f : List ℕ) where
   lengths-not : lengthsOk f ≡ false → noLengths ≡ lengthsOf f
   unfolding lengthsOf
   lengths-not e = rw e
 
-  pub lengths-few : {m : ℕ} → m ≡ length (parts 44 f) → (m ≡ 20 → ⊥) → noLengths ≡ lengthsOf f
-  lengths-few {m} counted h = lengths-not (rw (← counted, ne-eqb m 20 h))
+  pub lengths-few : {m : ℕ} → m ≡ length (parts 44 f) → (m ≡ maxComponentCount → ⊥) → noLengths ≡ lengthsOf f
+  lengths-few {m} counted h = lengths-not (rw (← counted, ne-eqb m maxComponentCount h))
 
   -- the i-th number was read
   pub number-said : (i : ℕ) {s : List ℕ} {x y : Decimal} → s ≡ partAt 44 i f → decimalAnswer x ≡ readDecimal s → x ≡ y → readDecimal (partAt 44 i f) ≡ decimalAnswer y
@@ -66,22 +67,22 @@ module _ (f : List ℕ) where
 
   -- the numbers from i on are still to be read
   pub record LengthsRead (lengths : List ℕ) (i : ℕ) : Type 0 where
-    pub counted : length (parts 44 f) ≡ 20
-    pub room : length lengths ≡ 20
+    pub counted : length (parts 44 f) ≡ maxComponentCount
+    pub room : length lengths ≡ maxComponentCount
     pub good : allDecimals (parts 44 f) ≡ allDecimals (drop i (parts 44 f))
     pub values : map (digitsAfter 0) (parts 44 f) ≡ take i lengths ++ map (digitsAfter 0) (drop i (parts 44 f))
 
   module _ {lengths : List ℕ} {i : ℕ} (read : LengthsRead lengths i) where
-    part-here : i < 20 → drop i (parts 44 f) ≡ partAt 44 i f ∷ drop (i + 1) (parts 44 f)
+    part-here : i < maxComponentCount → drop i (parts 44 f) ≡ partAt 44 i f ∷ drop (i + 1) (parts 44 f)
     unfolding partAt
     part-here h = rw add-one (drop-cons (parts 44 f) i [] (omega (arith, read .counted)))
 
-    pub lengths-refused : i < 20 → readDecimal (partAt 44 i f) ≡ unsaid 6 → noLengths ≡ lengthsOf f
+    pub lengths-refused : i < maxComponentCount → readDecimal (partAt 44 i f) ≡ unsaid 6 → noLengths ≡ lengthsOf f
     lengths-refused h e =
         let g : allDecimals (parts 44 f) ≡ false = read .good ∙ rw (part-here h) (number-refused (partAt 44 i f) _ e) in
         lengths-not (rw (eq-eqb _ _ (read .counted)) g)
 
-    pub lengths-next : (v : ℕ) → i < 20 → readDecimal (partAt 44 i f) ≡ said v → LengthsRead (set lengths i v) (i + 1)
+    pub lengths-next : (v : ℕ) → i < maxComponentCount → readDecimal (partAt 44 i f) ≡ said v → LengthsRead (set lengths i v) (i + 1)
     lengths-next v h e =
         let n = number-read (partAt 44 i f) (allDecimals (drop (i + 1) (parts 44 f))) v e in
         record {
@@ -91,7 +92,7 @@ module _ (f : List ℕ) where
           values = read .values ∙ rw (part-here h, ← (n .1), add-one i, take-suc-set lengths i v (omega (arith, read .room))) (sym (append-assoc (take i lengths) (v ∷ []) _));
         }
 
-    pub lengths-all : 20 ≤ i → record { ok = true; lengths = lengths } ≡ lengthsOf f
+    pub lengths-all : maxComponentCount ≤ i → record { ok = true; lengths = lengths } ≡ lengthsOf f
     unfolding lengthsOf
     lengths-all h =
         let few : length (parts 44 f) ≤ i = omega (arith, read .counted) in
@@ -137,23 +138,23 @@ module _ (line : List ℕ) {m : ℕ} (counted : m ≡ length (parts 9 line)) whe
         abbrev told : List ℕ → List ℕ
         told bytes = lengthText (lengthAnswer plainPath (rawPath n (map (digitsAfter 0) (parts 44 (field 2 line))) bytes))
 
-        bytes-left : rawLine line ≡ hexFieldIn 600 3 line told
+        bytes-left : rawLine line ≡ hexFieldIn maxPathLength 3 line told
         unfolding rawLine
         bytes-left = fields-are line counted 4 _ many ∙ count _ ∙ rw (lengths-ok true ok)
 
-        pub raw-bytes : (x : Hex) → hexAnswer x ≡ readHex (field 3 line) 600 → OneOf (1 ∷ 2 ∷ []) (tagOf Rattle.text.proofs.Hex.the-type x) → rawLine line ≡ six
-        raw-bytes x e k = bytes-left ∙ hex-none 3 line 600 x e k told
+        pub raw-bytes : (x : Hex) → hexAnswer x ≡ readHex (field 3 line) maxPathLength → OneOf (1 ∷ 2 ∷ []) (tagOf Rattle.text.proofs.Hex.the-type x) → rawLine line ≡ six
+        raw-bytes x e k = bytes-left ∙ hex-none 3 line maxPathLength x e k told
 
-        pub raw-answer : (x : Hex) (b : ℕ) → hexAnswer x ≡ readHex (field 3 line) 600 → x ≡ Bytes b → {bytes : List ℕ} → bytes ≡ hexBuffer (field 3 line) (replicate 600 0)
+        pub raw-answer : (x : Hex) (b : ℕ) → hexAnswer x ≡ readHex (field 3 line) maxPathLength → x ≡ Bytes b → {bytes : List ℕ} → bytes ≡ hexBuffer (field 3 line) (replicate maxPathLength 0)
             → {o : Outcome} → o ≡ lengthAnswer plainPath (record { bytes = bytes; lengths = r .lengths; count = n }) → rawLine line ≡ lengthText o
         raw-answer x b e g {bytes} f {o} h =
             let a = field 3 line in
-            let z : bytes ≡ unhex a ++ replicate (600 - length (unhex a)) 0 = f ∙ bytes-then-zeros a b 600 (sym (ap hexAnswer g) ∙ e) in
+            let z : bytes ≡ unhex a ++ replicate (maxPathLength - length (unhex a)) 0 = f ∙ bytes-then-zeros a b maxPathLength (sym (ap hexAnswer g) ∙ e) in
             let p : rawPath n (map (digitsAfter 0) (parts 44 (field 2 line))) (unhex a) ≡ record { bytes = bytes; lengths = r .lengths; count = n } = rw (z, lengths-are ok) in
-            bytes-left ∙ hex-some 3 line 600 b (sym (ap hexAnswer g) ∙ e) told ∙ ap (λ (q : Path). lengthText (lengthAnswer plainPath q)) p ∙ ap lengthText (sym h)
+            bytes-left ∙ hex-some 3 line maxPathLength b (sym (ap hexAnswer g) ∙ e) told ∙ ap (λ (q : Path). lengthText (lengthAnswer plainPath q)) p ∙ ap lengthText (sym h)
 
 -- ---- a record of parts that it holds
-pub raw-record : {l left : List ℕ} (bs ls : List ℕ) (n : ℕ) → Puts 641 (n ∷ (shorts ls ++ bs)) l left → length l ≡ 641 → length bs ≡ 600 → length ls ≡ 20 → n ≤ 20 → allAtMost 65535 ls ≡ true
+pub raw-record : {l left : List ℕ} (bs ls : List ℕ) (n : ℕ) → Puts pathSize (n ∷ (shorts ls ++ bs)) l left → length l ≡ pathSize → length bs ≡ maxPathLength → length ls ≡ maxComponentCount → n ≤ maxComponentCount → allAtMost 65535 ls ≡ true
     → pathIn left ≡ pathOf bs ls n
 unfolding pathFlat
 raw-record {l} {left} bs ls n p long room slots few small =
@@ -170,12 +171,12 @@ module _ (p : Path) where
       go true w = absurd (never w)
       go false w = length-refused-value plainPath p 5 (plain-malformed p w)
 
-  pub many-refused : 20 < p .count → refusedWriting 5 ≡ lengthAnswer plainPath p
+  pub many-refused : maxComponentCount < p .count → refusedWriting 5 ≡ lengthAnswer plainPath p
   many-refused h = refused-so (λ w. omega (arith, well-formed p w .count, h))
 
   pub long-refused : allAtMost 65535 (p .lengths) ≡ false → refusedWriting 5 ≡ lengthAnswer plainPath p
   long-refused e = refused-so (λ w.
       let f = well-formed p w in
       let all = rw take-append-drop at (at-most-append 65535 (take (p .count) (p .lengths)) (drop (p .count) (p .lengths))
-      (at-most-mono 300 65535 (used p) (omega arith) (f .short)) (at-most-mono 0 65535 (drop (p .count) (p .lengths)) (omega arith) (f .lengths))) in
+      (at-most-mono maxComponentLength 65535 (used p) (omega arith) (f .short)) (at-most-mono 0 65535 (drop (p .count) (p .lengths)) (omega arith) (f .lengths))) in
       true≢false (sym all ∙ e))

@@ -17,7 +17,7 @@ abbrev pub allDecimals : List (List ℕ) → Bool
 allDecimals [] = true
 allDecimals (p ∷ ps) = isDecimal p && (ltb (digitsAfter 0 p) (2 ^ 64) && allDecimals ps)
 
--- 20 lengths parted by commas
+-- as many lengths as a record has, parted by commas
 abbrev pub lengthsOk : List ℕ → Bool
 lengthsOk f = eqb (length (parts 44 f)) maxComponentCount && allDecimals (parts 44 f)
 

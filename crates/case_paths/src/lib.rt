@@ -8,6 +8,7 @@ ghost use Rattle.codec.specs.Format.{lengthAnswer, WritesInto};
 ghost use Rattle.path.specs.Record.{pathFrom};
 ghost use Rattle.path.specs.Flat.{pathIn};
 ghost use Rattle.path_text.specs.PathText.{pathTextOf};
+ghost use Rattle.case_text.specs.Limits.{maxAnswer};
 ghost use Rattle.case_text.specs.Texts.{ended};
 ghost use Rattle.case_text.specs.Fields.{pathField};
 ghost use Rattle.case_text.specs.inside.Values.{valueText};
@@ -36,7 +37,7 @@ pub enum Encoding {
 // The lengths of a path record; all zero where the field is not in its form.
 pub struct Lengths {
     pub ok: bool,
-    pub lengths: [usize; 20],
+    pub lengths: [usize; Path::MAX_COMPONENT_COUNT],
 }
 
 fn decode(
@@ -45,7 +46,7 @@ fn decode(
     start: usize,
     canonic: bool,
     reference: &[u8],
-    out: &mut [u8; 641],
+    out: &mut [u8; path::lent::SIZE],
 ) -> Decoded
     ensures { λ r. ⌜ Gives (pathFrom []) r (pathIn (now (out .exit))) (encodingReader encoding (pathIn (now (reference .entry))) canonic (drop start (now (message .entry)))) ⌝ }
 {
@@ -93,7 +94,7 @@ fn len_of_encoding<'a>(encoding: Encoding, path: &'a [u8], reference: &'a [u8]) 
 }
 
 // Prints a path from the text's first byte on.
-fn print(path: &[u8; 641], text: &mut [u8; MAX_BYTES]) -> usize
+fn print(path: &[u8; path::lent::SIZE], text: &mut [u8; MAX_BYTES]) -> usize
     ensures { λ r. ⌜ take r (now (text .exit)) ≡ pathTextOf (pathIn (now (path .entry))) ⌝ }
 {
     path_text::put_path(text, 0, path)
@@ -111,7 +112,7 @@ fn write(
     mut buffer: [u8; MAX_BYTES],
 ) -> usize
     requires { ⌜ OutputInside (length buffer) output ⌝ }
-    ensures { λ r. ⌜ PutsWithin 16640 at (ended (pathField i (now (line .entry)) (valueText (encodingFormat encoding (pathIn (reference .flat))) output buffer))) (now (out .entry)) (now (out .exit)) r ⌝ }
+    ensures { λ r. ⌜ PutsWithin maxAnswer at (ended (pathField i (now (line .entry)) (valueText (encodingFormat encoding (pathIn (reference .flat))) output buffer))) (now (out .entry)) (now (out .exit)) r ⌝ }
 {
     let field = path_text::read_path(text::part(line, b'\t', i as usize));
     let found = field.found;
@@ -135,7 +136,7 @@ fn answer(
     reference: Path,
 ) -> usize
     requires { ⌜ i ≤ 3 ⌝ }
-    ensures { λ r. ⌜ PutsWithin 16640 at (ended (encodingLine encoding (pathIn (reference .flat)) i (now (line .entry)))) (now (out .entry)) (now (out .exit)) r ⌝ }
+    ensures { λ r. ⌜ PutsWithin maxAnswer at (ended (encodingLine encoding (pathIn (reference .flat)) i (now (line .entry)))) (now (out .entry)) (now (out .exit)) r ⌝ }
 {
     let mut bytes = [0u8; MAX_BYTES];
     let asked = fields::asked(line, i, i + 1, &mut bytes);
@@ -161,7 +162,7 @@ fn answer(
 
 // Answers a line of a plain path.
 pub fn plain(line: &[u8], out: &mut [u8], at: usize) -> usize
-    ensures { λ r. ⌜ PutsWithin 16640 at (ended (plainLine (now (line .entry)))) (now (out .entry)) (now (out .exit)) r ⌝ }
+    ensures { λ r. ⌜ PutsWithin maxAnswer at (ended (plainLine (now (line .entry)))) (now (out .entry)) (now (out .exit)) r ⌝ }
 {
     let none = Path::new_empty();
     answer(line, out, at, Encoding::Plain, 2, none)
@@ -169,7 +170,7 @@ pub fn plain(line: &[u8], out: &mut [u8], at: usize) -> usize
 
 // Answers a line of a path against a reference, which stands before the other fields.
 pub fn relative(line: &[u8], out: &mut [u8], at: usize, encoding: Encoding) -> usize
-    ensures { λ r. ⌜ PutsWithin 16640 at (ended (relativeLine encoding (now (line .entry)))) (now (out .entry)) (now (out .exit)) r ⌝ }
+    ensures { λ r. ⌜ PutsWithin maxAnswer at (ended (relativeLine encoding (now (line .entry)))) (now (out .entry)) (now (out .exit)) r ⌝ }
 {
     let field = path_text::read_path(text::part(line, b'\t', 2));
     let found = field.found;

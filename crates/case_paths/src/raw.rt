@@ -1,6 +1,6 @@
 // Case lines of a path record's raw parts.
 ghost use mathlib.Core.Path.{_≡_};
-ghost use Prim.Native.Nat.{_≤_};
+ghost use Prim.Native.Nat.{_*_, _≤_};
 ghost use lib.ListN.{length};
 ghost use mathlib.Core.Bool.{true};
 ghost use Rattle.codec.specs.Answers.{outcomeOf};
@@ -10,6 +10,7 @@ ghost use Rattle.path.specs.Record.{allAtMost};
 ghost use Rattle.path.specs.Flat.{pathSize, shorts, pathIn};
 ghost use Rattle.path.specs.Puts.{Puts};
 ghost use Rattle.path_codec.specs.Plain.{plainPath};
+ghost use Rattle.case_text.specs.Limits.{maxAnswer};
 ghost use Rattle.case_text.specs.Texts.{ended};
 ghost use Rattle.case_text.specs.Answers.{PutsWithin};
 ghost use Rattle.case_paths.specs.Raw.{pathOf, rawLine};
@@ -21,24 +22,24 @@ use decimal::Decimal;
 use path::Path;
 use text::Hex;
 
-// 20 numbers parted by commas.
+// As many numbers as a record has lengths, parted by commas.
 fn read_lengths(field: &[u8]) -> Lengths
     ensures { λ r. ⌜ r ≡ lengthsOf (now (field .entry)) ⌝ }
 {
-    let mut lengths = [0usize; 20];
-    if text::part_count(field, b',') != 20 {
+    let mut lengths = [0usize; Path::MAX_COMPONENT_COUNT];
+    if text::part_count(field, b',') != Path::MAX_COMPONENT_COUNT {
         return Lengths {
             ok: false,
             lengths: lengths,
         };
     }
     let mut i: usize = 0;
-    while i < 20 {
+    while i < Path::MAX_COMPONENT_COUNT {
         let number = decimal::read_decimal(text::part(field, b',', i));
         let Decimal::Value(v) = number else {
             return Lengths {
                 ok: false,
-                lengths: [0usize; 20],
+                lengths: [0usize; Path::MAX_COMPONENT_COUNT],
             };
         };
         lengths[i] = v as usize;
@@ -66,8 +67,8 @@ fn all_held(lengths: &[usize]) -> bool
 
 // The lengths, from the first byte on.
 fn put_lengths(flat: &mut [u8], lengths: &[usize])
-    requires { ⌜ (40 ≤ length (now flat)) × (length (now lengths) ≡ maxComponentCount) ⌝ }
-    ensures { λ _. ⌜ Puts 40 (shorts (now (lengths .entry))) (now (flat .entry)) (now (flat .exit)) ⌝ }
+    requires { ⌜ (2 * maxComponentCount ≤ length (now flat)) × (length (now lengths) ≡ maxComponentCount) ⌝ }
+    ensures { λ _. ⌜ Puts (2 * maxComponentCount) (shorts (now (lengths .entry))) (now (flat .entry)) (now (flat .exit)) ⌝ }
 {
     let mut at: usize = 0;
     let mut i: usize = 0;
@@ -89,7 +90,11 @@ fn put_raw<'a>(flat: &mut [u8], bytes: &'a [u8], lengths: &'a [usize], count: us
 }
 
 // How many bytes a path of these parts takes. A count or a length that no record holds is refused as one that is too large.
-fn raw_len(bytes: [u8; 600], lengths: [usize; 20], count: usize) -> Encoded
+fn raw_len(
+    bytes: [u8; Path::MAX_PATH_LENGTH],
+    lengths: [usize; Path::MAX_COMPONENT_COUNT],
+    count: usize,
+) -> Encoded
     ensures { λ r. ⌜ outcomeOf r ≡ lengthAnswer plainPath (pathOf bytes lengths count) ⌝ }
 {
     if Path::MAX_COMPONENT_COUNT < count {
@@ -106,7 +111,7 @@ fn raw_len(bytes: [u8; 600], lengths: [usize; 20], count: usize) -> Encoded
 
 // Answers a line of raw parts.
 pub fn raw(line: &[u8], out: &mut [u8], at: usize) -> usize
-    ensures { λ r. ⌜ PutsWithin 16640 at (ended (rawLine (now (line .entry)))) (now (out .entry)) (now (out .exit)) r ⌝ }
+    ensures { λ r. ⌜ PutsWithin maxAnswer at (ended (rawLine (now (line .entry)))) (now (out .entry)) (now (out .exit)) r ⌝ }
 {
     if text::part_count(line, b'\t') != 4 {
         return put::refuse(out, at);
@@ -119,7 +124,7 @@ pub fn raw(line: &[u8], out: &mut [u8], at: usize) -> usize
     if !lengths.ok {
         return put::refuse(out, at);
     }
-    let mut bytes = [0u8; 600];
+    let mut bytes = [0u8; Path::MAX_PATH_LENGTH];
     let hex = text::read_hex(text::part(line, b'\t', 3), &mut bytes);
     let Hex::Bytes(_) = hex else {
         return put::refuse(out, at);

@@ -6,6 +6,7 @@ ghost use lib.ListN.{length};
 ghost use Rattle.path.specs.Flat.{pathIn};
 ghost use Rattle.range_3d.specs.Record.{rangeWith};
 ghost use Rattle.text.specs.Buffer.{placeAfter, putAt};
+ghost use Rattle.case_text.specs.Limits.{maxBytes};
 ghost use Rattle.case_text.specs.Answers.{PutsText};
 ghost use Rattle.case_text.specs.Fields.{Says};
 ghost use Rattle.case_range_text.specs.Fields.{subspacesField, endField, readPathEnd, pathsField, timesField, rangeField, rangeSaid, noRangeField, subspacesText, pathEndText, rangeText};
@@ -70,7 +71,7 @@ fn no_subspaces() -> SubspacesField
 }
 
 fn read_subspaces(line: &[u8], i: usize) -> SubspacesField
-    requires { ⌜ i ≤ 300 ⌝ }
+    requires { ⌜ i ≤ 259 ⌝ }
     ensures { λ r. ⌜ Says (subspacesField i (now (line .entry))) (r .ok) (r .subspaces) ⌝ }
 {
     let first = text::ids::read_id(text::part(line, b'\t', i));
@@ -139,7 +140,7 @@ fn no_paths() -> PathsField
 }
 
 fn read_paths(line: &[u8], i: usize) -> PathsField
-    requires { ⌜ i ≤ 300 ⌝ }
+    requires { ⌜ i ≤ 259 ⌝ }
     ensures { λ r. ⌜ Says (pathsField i (now (line .entry))) (r .ok) (pathsSaid r) ⌝ }
 {
     let first = path_text::read_path(text::part(line, b'\t', i));
@@ -173,7 +174,7 @@ fn no_times() -> TimesField
 }
 
 fn read_times(line: &[u8], i: usize) -> TimesField
-    requires { ⌜ i ≤ 300 ⌝ }
+    requires { ⌜ i ≤ 259 ⌝ }
     ensures { λ r. ⌜ Says (timesField i (now (line .entry))) (r .ok) (r .times) ⌝ }
 {
     let first = decimal::read_decimal(text::part(line, b'\t', i));
@@ -251,7 +252,7 @@ pub fn read_range(line: &[u8], place: u8) -> RangeField
 
 // Prints subspaces from the buffer's first byte on.
 fn print_subspaces(subspaces: SubspaceRange, buffer: &mut [u8; MAX_BYTES]) -> usize
-    ensures { λ r. ⌜ PutsText 0 (subspacesText subspaces) (now (buffer .entry)) (now (buffer .exit)) r × (length (now (buffer .entry)) ≡ 8192) × (r ≤ 129) ⌝ }
+    ensures { λ r. ⌜ PutsText 0 (subspacesText subspaces) (now (buffer .entry)) (now (buffer .exit)) r × (length (now (buffer .entry)) ≡ maxBytes) × (r ≤ 129) ⌝ }
 {
     let start = subspaces.start;
     let end = subspaces.end;
@@ -276,8 +277,8 @@ fn put_path_end(out: &mut [u8], at: usize, end_open: bool, end: &[u8]) -> usize
 // Prints a 3d range from the buffer's first byte on.
 pub fn print_range(
     range: Range3dHead,
-    start: &[u8; 641],
-    end: &[u8; 641],
+    start: &[u8; path::lent::SIZE],
+    end: &[u8; path::lent::SIZE],
     buffer: &mut [u8; MAX_BYTES],
 ) -> usize
     ensures { λ r. ⌜ PutsText 0 (rangeText (rangeWith range (pathIn (now (start .entry))) (pathIn (now (end .entry))))) (now (buffer .entry)) (now (buffer .exit)) r ⌝ }

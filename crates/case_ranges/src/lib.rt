@@ -1,6 +1,7 @@
 // Case lines of 3d ranges against a 3d range: docs/CASES.md. A line is answered where MAX_ANSWER bytes are free; elsewhere nothing changes.
 ghost use lib.ListN.{length};
 ghost use Rattle.range3d_range3d.specs.Records.{againstRange};
+ghost use Rattle.case_text.specs.Limits.{maxAnswer};
 ghost use Rattle.case_text.specs.Texts.{ended};
 ghost use Rattle.case_text.specs.inside.Values.{valueText};
 ghost use Rattle.case_text.specs.Answers.{PutsWithin};
@@ -24,7 +25,7 @@ fn write(
     mut buffer: [u8; MAX_BYTES],
 ) -> usize
     requires { ⌜ OutputInside (length buffer) output ⌝ }
-    ensures { λ r. ⌜ PutsWithin 16640 at (ended (rangeField 8 (now (line .entry)) (valueText (againstRange (rangeSaid reference)) output buffer))) (now (out .entry)) (now (out .exit)) r ⌝ }
+    ensures { λ r. ⌜ PutsWithin maxAnswer at (ended (rangeField 8 (now (line .entry)) (valueText (againstRange (rangeSaid reference)) output buffer))) (now (out .entry)) (now (out .exit)) r ⌝ }
 {
     let value = case_range_text::read_range(line, 8);
     if !value.ok {
@@ -54,7 +55,7 @@ fn write(
 
 // Answers a line of a 3d range against a reference, which stands before the other fields. No strict reading is asked for.
 pub fn range(line: &[u8], out: &mut [u8], at: usize) -> usize
-    ensures { λ r. ⌜ PutsWithin 16640 at (ended (rangeLine (now (line .entry)))) (now (out .entry)) (now (out .exit)) r ⌝ }
+    ensures { λ r. ⌜ PutsWithin maxAnswer at (ended (rangeLine (now (line .entry)))) (now (out .entry)) (now (out .exit)) r ⌝ }
 {
     let reference = case_range_text::read_range(line, 2);
     if !reference.ok {

@@ -7,6 +7,7 @@ use Rattle.codec.specs.Answers.{Answer, answerOf, outcomeOf}
 use Rattle.codec.specs.Format.{Format, writeAnswer, writeBuffer, lengthAnswer}
 use Rattle.codec.specs.Reader.{Reader}
 use Rattle.text.specs.Parts.{parts}
+use Rattle.case_text.specs.Limits.{maxBytes}
 use Rattle.case_text.specs.declared.HexField.{HexField}
 use Rattle.case_text.specs.declared.HexField.the-variants as hex
 use Rattle.case_text.specs.declared.Op.{Op}
@@ -49,7 +50,7 @@ module _ {room at r : ℕ} {l l' : List ℕ} where
     pub says-so : not ok ≡ false → Put room at l l' r (k a) → Put room at l l' r (f i line k)
     says-so e = puts (says-value s (not-false _ e) k)
 
-  module _ {i : ℕ} {line buffer : List ℕ} {x : HexField} (read : ReadsHex 8192 i line buffer x) (k : List ℕ → List ℕ) where
+  module _ {i : ℕ} {line buffer : List ℕ} {x : HexField} (read : ReadsHex maxBytes i line buffer x) (k : List ℕ → List ℕ) where
     pub hex-not : x ≡ hex.Refused → Put room at l l' r six → Put room at l l' r (hexField i line k)
     hex-not e = puts (hex-refused read k e)
 
@@ -65,7 +66,7 @@ module _ {room at r : ℕ} {l l' : List ℕ} where
       same decoded.Malformed = refl
 
   pub hex-printed : {A : Type 0} (print : A → List ℕ) (reader : Reader A) {i n : ℕ} {line buffer t : List ℕ} {x : HexField} (d : Decoded) (a : A)
-      → ReadsHex 8192 i line buffer x → x ≡ hex.Bytes n → answerOf d a ≡ reader (take n buffer) → t ≡ print a
+      → ReadsHex maxBytes i line buffer x → x ≡ hex.Bytes n → answerOf d a ≡ reader (take n buffer) → t ≡ print a
       → Put room at l l' r (readText (λ t. t) (answerOf d t)) → Put room at l l' r (hexField i line (λ message. readText print (reader message)))
   hex-printed print reader d a read e h f p = puts (hex-bytes read e (λ message. readText print (reader message))) (printed print d a h f p)
 
@@ -99,15 +100,15 @@ pub record Left {A : Type 0} (read : Bool → ℕ → List ℕ → List ℕ) (pa
   pub text : t ≡ onAsked x buffer (rest read parse format i line)
 
 module _ {A : Type 0} (parse : ℕ → List ℕ → (A → List ℕ) → List ℕ) (print : A → List ℕ) (format : Format A) (i j : ℕ) (line : List ℕ) (falls : Falls (parse i line))
-    {buffer : List ℕ} {x : Asked} (asks : Asks (asking 8192 i j (opOf (field 1 line)) line) buffer x) where
+    {buffer : List ℕ} {x : Asked} (asks : Asks (asking maxBytes i j (opOf (field 1 line)) line) buffer x) where
   pub record-left : (reader : Bool → Reader A)
       → Left (λ canonic start message. readText print (reader canonic (drop start message))) parse format i line buffer x (recordLine parse print reader format i j (opOf (field 1 line)) line)
   record-left reader = record { text = by (opOf (field 1 line)) ∙ sym (asks .said _) }
     where
-      by : (x : Op) → recordLine parse print reader format i j x line ≡ asking 8192 i j x line (rest (λ canonic start message. readText print (reader canonic (drop start message))) parse format i line)
+      by : (x : Op) → recordLine parse print reader format i j x line ≡ asking maxBytes i j x line (rest (λ canonic start message. readText print (reader canonic (drop start message))) parse format i line)
       by op.Strict = refl
       by op.Lenient = refl
-      by op.Write = ap (exactly (j + 1) line) (hex-first falls (λ v lent. writtenText (writeAnswer format v (length lent)) (writeBuffer format v lent)) 8192 j line)
+      by op.Write = ap (exactly (j + 1) line) (hex-first falls (λ v lent. writtenText (writeAnswer format v (length lent)) (writeBuffer format v lent)) maxBytes j line)
       by op.Length = refl
       by op.Unknown = refl
 
@@ -116,10 +117,10 @@ module _ {A : Type 0} (parse : ℕ → List ℕ → (A → List ℕ) → List �
       → Left (λ canonic start message. cond canonic six (readText print (reader (drop start message)))) parse format i line buffer x (lenientLine parse print reader format i j (opOf (field 1 line)) line)
   lenient-left reader = record { text = by (opOf (field 1 line)) ∙ sym (asks .said _) }
     where
-      by : (x : Op) → lenientLine parse print reader format i j x line ≡ asking 8192 i j x line (rest (λ canonic start message. cond canonic six (readText print (reader (drop start message)))) parse format i line)
-      by op.Strict = sym (message-falls 8192 i line _ (λ start message. refl))
+      by : (x : Op) → lenientLine parse print reader format i j x line ≡ asking maxBytes i j x line (rest (λ canonic start message. cond canonic six (readText print (reader (drop start message)))) parse format i line)
+      by op.Strict = sym (message-falls maxBytes i line _ (λ start message. refl))
       by op.Lenient = refl
-      by op.Write = ap (exactly (j + 1) line) (hex-first falls (λ v lent. writtenText (writeAnswer format v (length lent)) (writeBuffer format v lent)) 8192 j line)
+      by op.Write = ap (exactly (j + 1) line) (hex-first falls (λ v lent. writtenText (writeAnswer format v (length lent)) (writeBuffer format v lent)) maxBytes j line)
       by op.Length = refl
       by op.Unknown = refl
 

@@ -15,6 +15,7 @@ use Rattle.text.specs.Hex.{unhex}
 use Rattle.text.specs.Ids.{readIdText}
 use Rattle.decimal.specs.Decimal.{readDecimal}
 use Rattle.text.specs.Fields.{readHex}
+use Rattle.case_text.specs.Limits.{maxBytes}
 use Rattle.case_text.specs.declared.Op.{Op}
 use Rattle.case_text.specs.declared.Op.the-variants as op
 use Rattle.case_text.specs.Texts.{six}
@@ -48,16 +49,16 @@ decimalField i line k = onSaid (readDecimal (field i line)) k
 abbrev pub hexFieldIn : ℕ → ℕ → List ℕ → (List ℕ → List ℕ) → List ℕ
 hexFieldIn room i line k = onSaid (readHex (field i line) room) (λ n. k (unhex (field i line)))
 
--- a message or a lent buffer: at most 8,192 bytes, all that a line can hold
+-- a message or a lent buffer: all that a line can hold
 abbrev pub hexField : ℕ → List ℕ → (List ℕ → List ℕ) → List ℕ
-hexField i line k = hexFieldIn 8192 i line k
+hexField i line k = hexFieldIn maxBytes i line k
 
 -- a start and a message: the i-th field and the next, which is the last
 abbrev pub messageFieldIn : ℕ → ℕ → List ℕ → (ℕ → List ℕ → List ℕ) → List ℕ
 messageFieldIn room i line k = exactly (i + 2) line (decimalField i line (λ start. hexFieldIn room (i + 1) line (k start)))
 
 abbrev pub messageField : ℕ → List ℕ → (ℕ → List ℕ → List ℕ) → List ℕ
-messageField i line k = messageFieldIn 8192 i line k
+messageField i line k = messageFieldIn maxBytes i line k
 
 -- an id or a digest
 abbrev pub idField : ℕ → List ℕ → (List ℕ → List ℕ) → List ℕ

@@ -1,3 +1,4 @@
+pub mod Limits
 pub mod Texts
 pub mod Fields
 pub mod Records

@@ -34,4 +34,4 @@ pub enum Asked {
 pub const MAX_BYTES: usize = 8192;
 
 // The free bytes that any answer asks for.
-pub const MAX_ANSWER: usize = 16640;
+pub const MAX_ANSWER: usize = 2 * MAX_BYTES + 256;

@@ -1,12 +1,13 @@
 // Answers put from a place on: each public function answers the next place; where fewer than MAX_ANSWER bytes are free, nothing changes.
 ghost use mathlib.Core.Path.{_≡_};
 ghost use mathlib.Core.List.{[], _∷_, _++_};
-ghost use Prim.Native.Nat.{_+_, _-_, _≤_};
+ghost use Prim.Native.Nat.{_+_, _-_, _*_, _≤_};
 ghost use lib.ListN.{length, take};
 ghost use Rattle.codec.specs.Answers.{answerOf, outcomeOf};
 ghost use Rattle.compact_u64.specs.Answers.{numberAnswer};
 ghost use Rattle.text.specs.Decimal.{decimalText};
 ghost use Rattle.text.specs.Hex.{hexText};
+ghost use Rattle.case_text.specs.Limits.{maxBytes, maxAnswer};
 ghost use Rattle.case_text.specs.Texts.{six, noText, afterTab, ended, readText, lengthText, writtenNumberText};
 ghost use Rattle.case_text.specs.Records.{outputText};
 ghost use Rattle.case_text.specs.Answers.{PutsText, PutsWithin};
@@ -29,7 +30,7 @@ pub fn free(out: &[u8], at: usize) -> usize
 
 // The line is not in its form.
 pub fn refuse(out: &mut [u8], at: usize) -> usize
-    ensures { λ r. ⌜ PutsWithin 16640 at (ended six) (now (out .entry)) (now (out .exit)) r ⌝ }
+    ensures { λ r. ⌜ PutsWithin maxAnswer at (ended six) (now (out .entry)) (now (out .exit)) r ⌝ }
 {
     if free(out, at) < MAX_ANSWER {
         return at;
@@ -48,8 +49,8 @@ fn worded(out: &mut [u8], at: usize, word: &[u8], n: u64) -> usize
 
 // The first n bytes of a buffer in hex; all of them where it has no more.
 fn tab_hex(out: &mut [u8], at: usize, buffer: &[u8], n: usize) -> usize
-    requires { ⌜ (at + 16385 ≤ length (now out)) × (length (now buffer) ≤ 8192) ⌝ }
-    ensures { λ r. ⌜ PutsText at (afterTab (hexText (take n (now (buffer .entry))))) (now (out .entry)) (now (out .exit)) r × (r ≤ at + 16385) ⌝ }
+    requires { ⌜ (at + (2 * maxBytes + 1) ≤ length (now out)) × (length (now buffer) ≤ maxBytes) ⌝ }
+    ensures { λ r. ⌜ PutsText at (afterTab (hexText (take n (now (buffer .entry))))) (now (out .entry)) (now (out .exit)) r × (r ≤ at + (2 * maxBytes + 1)) ⌝ }
 {
     let p = text::put_bytes(out, at, b"\t");
     if buffer.len() < n {
@@ -60,8 +61,8 @@ fn tab_hex(out: &mut [u8], at: usize, buffer: &[u8], n: usize) -> usize
 
 // The first n bytes of a text; all of them where it has no more.
 fn tab_bytes(out: &mut [u8], at: usize, bytes: &[u8], n: usize) -> usize
-    requires { ⌜ (at + 8193 ≤ length (now out)) × (length (now bytes) ≤ 8192) ⌝ }
-    ensures { λ r. ⌜ PutsText at (afterTab (take n (now (bytes .entry)))) (now (out .entry)) (now (out .exit)) r × (r ≤ at + 8193) ⌝ }
+    requires { ⌜ (at + (maxBytes + 1) ≤ length (now out)) × (length (now bytes) ≤ maxBytes) ⌝ }
+    ensures { λ r. ⌜ PutsText at (afterTab (take n (now (bytes .entry)))) (now (out .entry)) (now (out .exit)) r × (r ≤ at + (maxBytes + 1)) ⌝ }
 {
     let p = text::put_bytes(out, at, b"\t");
     if bytes.len() < n {
@@ -101,7 +102,7 @@ fn outcome(out: &mut [u8], at: usize, answer: Encoded) -> usize
 
 // What a written length answered.
 pub fn length(out: &mut [u8], at: usize, answer: Encoded) -> usize
-    ensures { λ r. ⌜ PutsWithin 16640 at (ended (lengthText (outcomeOf answer))) (now (out .entry)) (now (out .exit)) r ⌝ }
+    ensures { λ r. ⌜ PutsWithin maxAnswer at (ended (lengthText (outcomeOf answer))) (now (out .entry)) (now (out .exit)) r ⌝ }
 {
     if free(out, at) < MAX_ANSWER {
         return at;
@@ -118,7 +119,7 @@ pub fn output(
     answer: Encoded,
     buffer: &[u8; MAX_BYTES],
 ) -> usize
-    ensures { λ r. ⌜ PutsWithin 16640 at (ended (outputText output (outcomeOf answer) (now (buffer .entry)))) (now (out .entry)) (now (out .exit)) r ⌝ }
+    ensures { λ r. ⌜ PutsWithin maxAnswer at (ended (outputText output (outcomeOf answer) (now (buffer .entry)))) (now (out .entry)) (now (out .exit)) r ⌝ }
 {
     let Output::Buffer(n) = output else {
         return length(out, at, answer);
@@ -140,7 +141,7 @@ pub fn written_number(
     buffer: &[u8; MAX_BYTES],
     n: usize,
 ) -> usize
-    ensures { λ r. ⌜ PutsWithin 16640 at (ended (writtenNumberText (outcomeOf answer) tag (take n (now (buffer .entry))))) (now (out .entry)) (now (out .exit)) r ⌝ }
+    ensures { λ r. ⌜ PutsWithin maxAnswer at (ended (writtenNumberText (outcomeOf answer) tag (take n (now (buffer .entry))))) (now (out .entry)) (now (out .exit)) r ⌝ }
 {
     let Encoded::Length(k) = answer else {
         return output(out, at, Output::Buffer(n), answer, buffer);
@@ -156,7 +157,7 @@ pub fn written_number(
 
 // What reading a number answered.
 pub fn number(out: &mut [u8], at: usize, answer: DecodedU64) -> usize
-    ensures { λ r. ⌜ PutsWithin 16640 at (ended (readText decimalText (numberAnswer answer))) (now (out .entry)) (now (out .exit)) r ⌝ }
+    ensures { λ r. ⌜ PutsWithin maxAnswer at (ended (readText decimalText (numberAnswer answer))) (now (out .entry)) (now (out .exit)) r ⌝ }
 {
     if free(out, at) < MAX_ANSWER {
         return at;
@@ -174,7 +175,7 @@ pub fn number(out: &mut [u8], at: usize, answer: DecodedU64) -> usize
 
 // What reading a record answered, whose text is the first n bytes of a buffer.
 pub fn value(out: &mut [u8], at: usize, answer: Decoded, value: &[u8; MAX_BYTES], n: usize) -> usize
-    ensures { λ r. ⌜ PutsWithin 16640 at (ended (readText (λ t. t) (answerOf answer (take n (now (value .entry)))))) (now (out .entry)) (now (out .exit)) r ⌝ }
+    ensures { λ r. ⌜ PutsWithin maxAnswer at (ended (readText (λ t. t) (answerOf answer (take n (now (value .entry)))))) (now (out .entry)) (now (out .exit)) r ⌝ }
 {
     if free(out, at) < MAX_ANSWER {
         return at;

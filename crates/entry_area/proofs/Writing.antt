@@ -11,6 +11,7 @@ use Rattle.codec.proofs.Tests.{and-left, and-right}
 use Rattle.path.proofs.Verdicts.{said-known, unsaid-known}
 use Rattle.path.proofs.Components.{Formed, sized-formed, parts-formed, count-is}
 use Rattle.path.proofs.Records.{lent-known}
+use Rattle.path_suffix.specs.Lengths.{maxAgainstLength}
 use Rattle.path_suffix.specs.Suffix.{suffixBy}
 use Rattle.path_relative.specs.Records.{sharedBy}
 use Rattle.path_relative.proofs.Writing.{within-by}
@@ -52,7 +53,7 @@ module _ (s : AreaSubspace) (t : TimeRange) (id : List ℕ) (e : End) {b : ℕ} 
   start-one f = ap (λ (l : List ℕ). packHeader (headerOf (isAny (subspaceOf s)) t (e .timestamp) (e .«payload_length»)) ∷ l) (id-one s id f) ∙ ap (λ (h : ℕ). h ∷ []) (sym head)
 
 -- ---- the path, of which k components are shared, takes few bytes
-pub shared-short : (p : Path) (k : ℕ) → sharedBy sized k .check p ≡ allowed → length (sharedBy sized k .encode p) ≤ 1009
+pub shared-short : (p : Path) (k : ℕ) → sharedBy sized k .check p ≡ allowed → length (sharedBy sized k .encode p) ≤ maxAgainstLength
 shared-short p k ok =
     omega (arith, length-append (standaloneBytes k) (suffixBy sized k .encode p), standalone-short k .1, within-by sized p k sized-formed ok)
 

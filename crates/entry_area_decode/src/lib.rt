@@ -46,7 +46,7 @@ fn decode_parts(
     reference: AreaHead,
     reference_path: &[u8],
     header: EntryAreaHeader,
-    out: &mut [u8; 641],
+    out: &mut [u8; path::lent::SIZE],
 ) -> DecodedFields
     requires { ⌜ (headerLength + length (now message) < 2 ^ 64) × (wellFormed (pathIn (now «reference_path»)) ≡ true) × (pathIn (now out) ≡ pathFrom []) ⌝ }
     ensures { λ r. ⌜ ReadsEntry r (now (out .exit)) (shift headerLength (mapped entryFrom (readParts canonic namespace (areaOf (areaWith reference (pathIn (now («reference_path» .entry))))) header) (now (message .entry)))) ⌝ }
@@ -90,7 +90,7 @@ pub fn relative_decode(
     namespace: [u8; 32],
     reference: AreaHead,
     reference_path: &[u8],
-    out: &mut [u8; 641],
+    out: &mut [u8; path::lent::SIZE],
 ) -> DecodedFields
     ensures { λ r. ⌜ ReadsEntry r (now (out .exit)) (readAgainstNamespaceArea canonic namespace (areaWith reference (pathIn (now («reference_path» .entry)))) (drop start (now (message .entry)))) ⌝ }
 {

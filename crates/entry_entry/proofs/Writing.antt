@@ -5,6 +5,7 @@ use Rattle.codec.proofs.Tests.{and-right}
 use Rattle.codec.proofs.Lawful.{verdict-allowed}
 use Rattle.path.specs.Record.{componentsOf, wellFormed}
 use Rattle.path.proofs.Components.{parts-formed, count-is, total-small}
+use Rattle.path_suffix.specs.Lengths.{maxAgainstLength}
 use Rattle.path_relative.specs.Against.{againstBytes}
 use Rattle.path_relative.specs.Records.{againstPath}
 use Rattle.path_relative.proofs.Against.{against-short}
@@ -31,7 +32,7 @@ module _ (r e : Entry) where
   unfolding wellFormedEntry
   path-check = refl
 
-  pub path-short : againstEntry r .check e ≡ allowed → length (againstPath (r .path) .encode (e .path)) ≤ 900
+  pub path-short : againstEntry r .check e ≡ allowed → length (againstPath (r .path) .encode (e .path)) ≤ maxAgainstLength
   unfolding wellFormedEntry
   path-short ok =
       let fits = verdict-allowed (wellFormed (r .path) && wellFormed (e .path)) true ok .0 in

@@ -21,7 +21,7 @@ fn decode_tested(
     start: usize,
     reference: EntryFields,
     reference_path: &[u8],
-    out: &mut [u8; 641],
+    out: &mut [u8; path::lent::SIZE],
 ) -> DecodedFields
     requires { ⌜ (wellFormed (pathIn (now «reference_path»)) ≡ true) × (pathIn (now out) ≡ pathFrom []) ⌝ }
     ensures { λ r. ⌜ ReadsEntry r (now (out .exit)) (readAgainstEntry (entryWith reference (pathIn (now («reference_path» .entry)))) (drop start (now (message .entry)))) ⌝ }
@@ -63,7 +63,7 @@ pub fn relative_decode(
     start: usize,
     reference: EntryFields,
     reference_path: &[u8],
-    out: &mut [u8; 641],
+    out: &mut [u8; path::lent::SIZE],
 ) -> DecodedFields
     ensures { λ r. ⌜ ReadsEntry r (now (out .exit)) (readAgainstEntry (entryWith reference (pathIn (now («reference_path» .entry)))) (drop start (now (message .entry)))) ⌝ }
 {

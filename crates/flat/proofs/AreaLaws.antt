@@ -5,15 +5,15 @@ use Rattle.codec.proofs.Bytes.{AllBytes·drop}
 use Rattle.codec.proofs.Tests.{and-left, and-right}
 use Rattle.path.specs.Record.{wellFormed}
 use Rattle.grouping.specs.Record.{Area, headOf, areaWith, wellFormedArea, wellFormedSubspace, TypedArea}
-use Rattle.path.specs.Flat.{pathFlat, pathIn}
+use Rattle.path.specs.Flat.{pathSize, pathFlat, pathIn}
 use Rattle.flat.specs.PathRecord.{pathIf}
 use Rattle.flat.specs.Times.{timesFlat, timesMarked, timesIn}
-use Rattle.flat.specs.AreaRecord.{subspaceFlat, areaFlat, areaMarked, areaIn}
+use Rattle.flat.specs.AreaRecord.{areaSize, areaTimesStart, subspaceFlat, areaFlat, areaMarked, areaIn}
 use Rattle.path.proofs.Loads.{path-long, path-loads, path-stores, path-within}
 use Rattle.flat.proofs.PathLaws.{unmarked}
 use Rattle.flat.proofs.TimesLaws.{mark-loads, mark-small, mark-stores, times-marked, times-loads, times-stores, times-long, drop-two, three}
 
-pub area-long : (a : Area) → TypedArea a → length (areaFlat a) ≡ 691
+pub area-long : (a : Area) → TypedArea a → length (areaFlat a) ≡ areaSize
 unfolding areaFlat
 area-long a t = rw (length-append, length-append, path-long (a .path) (t .path), times-long (a .times)) (omega (arith, t .long))
 
@@ -26,7 +26,7 @@ area-loads a t w =
     let long : length mark ≡ 33 = ap suc (t .long) in
     let formed : wellFormed (a .path) ≡ true = and-right (wellFormedSubspace (a .subspace)) (wellFormed (a .path)) w in
     let p : drop 33 (mark ++ (path ++ times)) ≡ path ++ times = drop-at mark (path ++ times) 33 long in
-    let q : drop 674 (mark ++ (path ++ times)) ≡ times = drop-two mark path times 33 641 long (path-long (a .path) (t .path)) in
+    let q : drop areaTimesStart (mark ++ (path ++ times)) ≡ times = drop-two mark path times 33 pathSize long (path-long (a .path) (t .path)) in
     rw (
       mark-small (a .subspace .any),
       q,
@@ -38,32 +38,32 @@ area-loads a t w =
       times-loads (a .times) (t .times),
     )
 
-pub area-stores : (s : List ℕ) → length s ≡ 691 → AllBytes s → wellFormedArea (areaIn s) ≡ true → areaFlat (areaIn s) ≡ s
+pub area-stores : (s : List ℕ) → length s ≡ areaSize → AllBytes s → wellFormedArea (areaIn s) ≡ true → areaFlat (areaIn s) ≡ s
 unfolding areaFlat areaIn areaMarked pathIn wellFormedArea
-area-stores s long b w = go (leb (getD s 0 0) 1 && timesMarked (drop 674 s)) refl (and-right (wellFormedSubspace (areaIn s .subspace)) _ w)
+area-stores s long b w = go (leb (getD s 0 0) 1 && timesMarked (drop areaTimesStart s)) refl (and-right (wellFormedSubspace (areaIn s .subspace)) _ w)
   where
     first : (l : List ℕ) → 33 ≤ length l → take 33 l ≡ getD l 0 0 ∷ take 32 (drop 1 l)
     first [] h = absurd (omega arith)
     first (x ∷ l) h = refl
 
-    whole : getD s 0 0 ∷ (take 32 (drop 1 s) ++ (take 641 (drop 33 s) ++ drop 674 s)) ≡ s
-    whole = sym (ap (λ (l : List ℕ). l ++ (take 641 (drop 33 s) ++ drop 674 s)) (first s (omega arith))) ∙ three s 33 641
+    whole : getD s 0 0 ∷ (take 32 (drop 1 s) ++ (take pathSize (drop 33 s) ++ drop areaTimesStart s)) ≡ s
+    whole = sym (ap (λ (l : List ℕ). l ++ (take pathSize (drop 33 s) ++ drop areaTimesStart s)) (first s (omega arith))) ∙ three s 33 pathSize
 
     stored : Bool → List ℕ
-    stored ok = subspaceFlat (areaIn s .subspace) ++ (pathFlat (pathIf ok (drop 33 s)) ++ timesFlat (timesIn (drop 674 s)))
+    stored ok = subspaceFlat (areaIn s .subspace) ++ (pathFlat (pathIf ok (drop 33 s)) ++ timesFlat (timesIn (drop areaTimesStart s)))
 
-    fields : leb (getD s 0 0) 1 ≡ true → timesMarked (drop 674 s) ≡ true → stored true ≡ s
+    fields : leb (getD s 0 0) 1 ≡ true → timesMarked (drop areaTimesStart s) ≡ true → stored true ≡ s
     fields m q =
         let path = path-stores (drop 33 s) (rw length-drop (omega arith)) (AllBytes·drop 33 s b) in
-        let times = times-stores (drop 674 s) (rw length-drop (omega arith)) (AllBytes·drop 674 s b) q in
+        let times = times-stores (drop areaTimesStart s) (rw length-drop (omega arith)) (AllBytes·drop areaTimesStart s b) q in
         rw (mark-stores (getD s 0 0) (leb-true (getD s 0 0) 1 m), path, times) whole
 
-    go : (ok : Bool) → (leb (getD s 0 0) 1 && timesMarked (drop 674 s)) ≡ ok → wellFormed (pathIf ok (drop 33 s)) ≡ true → stored ok ≡ s
-    go true e f = fields (and-left (leb (getD s 0 0) 1) (timesMarked (drop 674 s)) e) (and-right (leb (getD s 0 0) 1) (timesMarked (drop 674 s)) e)
+    go : (ok : Bool) → (leb (getD s 0 0) 1 && timesMarked (drop areaTimesStart s)) ≡ ok → wellFormed (pathIf ok (drop 33 s)) ≡ true → stored ok ≡ s
+    go true e f = fields (and-left (leb (getD s 0 0) 1) (timesMarked (drop areaTimesStart s)) e) (and-right (leb (getD s 0 0) 1) (timesMarked (drop areaTimesStart s)) e)
     go false e f = absurd (unmarked (drop 33 s) f)
 
 -- an area whose marks are 0 or 1, by its head and the record of its path; any other is not well formed
-pub area-lent : (s p : List ℕ) → (p ≡ take 641 (drop 33 s)) × (length p ≡ 641) → areaMarked s ≡ true → areaWith (headOf (areaIn s)) (pathIn p) ≡ areaIn s
+pub area-lent : (s p : List ℕ) → (p ≡ take pathSize (drop 33 s)) × (length p ≡ pathSize) → areaMarked s ≡ true → areaWith (headOf (areaIn s)) (pathIn p) ≡ areaIn s
 unfolding areaIn pathIn
 area-lent s p e m =
     let path : pathIn p ≡ pathIf (areaMarked s) (drop 33 s) = path-within p (drop 33 s) e ∙ whole (areaMarked s) m in

@@ -4,18 +4,18 @@ use Rattle.codec.specs.Answers.{AllBytes}
 use Rattle.codec.proofs.Bytes.{AllBytes·drop}
 use Rattle.compact_u64.specs.BigEndian.{bigEndian, valueOf}
 use Rattle.entry.specs.Record.{Entry, fieldsOf, entryWith, wellFormedEntry, TypedEntry}
-use Rattle.path.specs.Flat.{pathFlat, pathIn}
-use Rattle.flat.specs.EntryRecord.{entryFlat, entryIn}
+use Rattle.path.specs.Flat.{pathSize, pathFlat, pathIn}
+use Rattle.flat.specs.EntryRecord.{entrySize, entryTimeStart, entryLengthStart, entryDigestStart, entryFlat, entryIn}
 use Rattle.path.proofs.Loads.{number-loads, number-stores, path-long, path-loads, path-stores, path-within}
 use Rattle.flat.proofs.TimesLaws.{drop-two, three}
 
-pub entry-long : (e : Entry) → TypedEntry e → length (entryFlat e) ≡ 753
+pub entry-long : (e : Entry) → TypedEntry e → length (entryFlat e) ≡ entrySize
 unfolding entryFlat
 entry-long e t =
     rw (length-append, length-append, length-append, path-long (e .path) (t .path)) (omega (arith, t .namespace .0, t .subspace .0, t .digest .0))
 
 -- where the parts stand
-module _ (n s p a b d : List ℕ) (ln : length n ≡ 32) (ls : length s ≡ 32) (lp : length p ≡ 641) (la : length a ≡ 8) (lb : length b ≡ 8) where
+module _ (n s p a b d : List ℕ) (ln : length n ≡ 32) (ls : length s ≡ 32) (lp : length p ≡ pathSize) (la : length a ≡ 8) (lb : length b ≡ 8) where
   abbrev entryParts : List ℕ
   entryParts = (n ++ s) ++ (p ++ (a ++ (b ++ d)))
 
@@ -30,14 +30,14 @@ module _ (n s p a b d : List ℕ) (ln : length n ≡ 32) (ls : length s ≡ 32) 
   path-part : drop 64 entryParts ≡ p ++ (a ++ (b ++ d))
   path-part = drop-at (n ++ s) (p ++ (a ++ (b ++ d))) 64 (length-append n s ∙ omega (arith, ln, ls))
 
-  time-part : drop 705 entryParts ≡ a ++ (b ++ d)
-  time-part = drop-two (n ++ s) p (a ++ (b ++ d)) 64 641 (length-append n s ∙ omega (arith, ln, ls)) lp
+  time-part : drop entryTimeStart entryParts ≡ a ++ (b ++ d)
+  time-part = drop-two (n ++ s) p (a ++ (b ++ d)) 64 pathSize (length-append n s ∙ omega (arith, ln, ls)) lp
 
-  length-part : drop 713 entryParts ≡ b ++ d
-  length-part = sym (drop-drop 8 705 entryParts) ∙ rw time-part (drop-at a (b ++ d) 8 la)
+  length-part : drop entryLengthStart entryParts ≡ b ++ d
+  length-part = sym (drop-drop 8 entryTimeStart entryParts) ∙ rw time-part (drop-at a (b ++ d) 8 la)
 
-  digest-part : drop 721 entryParts ≡ d
-  digest-part = sym (drop-drop 8 713 entryParts) ∙ rw length-part (drop-at b d 8 lb)
+  digest-part : drop entryDigestStart entryParts ≡ d
+  digest-part = sym (drop-drop 8 entryLengthStart entryParts) ∙ rw length-part (drop-at b d 8 lb)
 
 pub entry-loads : (e : Entry) → TypedEntry e → wellFormedEntry e ≡ true → entryIn (entryFlat e) ≡ e
 unfolding entryFlat entryIn wellFormedEntry
@@ -71,25 +71,25 @@ entry-loads e t w =
           take-all 32 d (omega (arith, t .digest .0)),
         )
 
-pub entry-stores : (s : List ℕ) → length s ≡ 753 → AllBytes s → wellFormedEntry (entryIn s) ≡ true → entryFlat (entryIn s) ≡ s
+pub entry-stores : (s : List ℕ) → length s ≡ entrySize → AllBytes s → wellFormedEntry (entryIn s) ≡ true → entryFlat (entryIn s) ≡ s
 unfolding entryFlat entryIn
 entry-stores s long b w =
     let path = path-stores (drop 64 s) (rw length-drop (omega arith)) (AllBytes·drop 64 s b) in
-    let time = number-stores 8 (drop 705 s) (rw length-drop (omega arith)) (AllBytes·drop 705 s b) in
-    let size = number-stores 8 (drop 713 s) (rw length-drop (omega arith)) (AllBytes·drop 713 s b) in
-    whole (pathFlat (pathIn (drop 64 s))) (bigEndian 8 (valueOf (take 8 (drop 705 s)))) (bigEndian 8 (valueOf (take 8 (drop 713 s)))) path time size
+    let time = number-stores 8 (drop entryTimeStart s) (rw length-drop (omega arith)) (AllBytes·drop entryTimeStart s b) in
+    let size = number-stores 8 (drop entryLengthStart s) (rw length-drop (omega arith)) (AllBytes·drop entryLengthStart s b) in
+    whole (pathFlat (pathIn (drop 64 s))) (bigEndian 8 (valueOf (take 8 (drop entryTimeStart s)))) (bigEndian 8 (valueOf (take 8 (drop entryLengthStart s)))) path time size
   where
-    end : take 8 (drop 705 s) ++ (take 8 (drop 713 s) ++ take 32 (drop 721 s)) ≡ drop 705 s
+    end : take 8 (drop entryTimeStart s) ++ (take 8 (drop entryLengthStart s) ++ take 32 (drop entryDigestStart s)) ≡ drop entryTimeStart s
     end =
-        let all : take 32 (drop 721 s) ≡ drop 721 s = take-all 32 (drop 721 s) (rw length-drop (omega arith)) in
-        rw (all, ← (drop-drop 8 705 s), ← (drop-drop 16 705 s)) (three (drop 705 s) 8 8)
+        let all : take 32 (drop entryDigestStart s) ≡ drop entryDigestStart s = take-all 32 (drop entryDigestStart s) (rw length-drop (omega arith)) in
+        rw (all, ← (drop-drop 8 entryTimeStart s), ← (drop-drop 16 entryTimeStart s)) (three (drop entryTimeStart s) 8 8)
 
-    whole : (p a b : List ℕ) → p ≡ take 641 (drop 64 s) → a ≡ take 8 (drop 705 s) → b ≡ take 8 (drop 713 s)
-        → (take 32 s ++ take 32 (drop 32 s)) ++ (p ++ (a ++ (b ++ take 32 (drop 721 s)))) ≡ s
-    whole p a b ep ea eb = rw (ep, ea, eb, end, ← (take-add 32 32 s)) (three s 64 641)
+    whole : (p a b : List ℕ) → p ≡ take pathSize (drop 64 s) → a ≡ take 8 (drop entryTimeStart s) → b ≡ take 8 (drop entryLengthStart s)
+        → (take 32 s ++ take 32 (drop 32 s)) ++ (p ++ (a ++ (b ++ take 32 (drop entryDigestStart s)))) ≡ s
+    whole p a b ep ea eb = rw (ep, ea, eb, end, ← (take-add 32 32 s)) (three s 64 pathSize)
 
 -- an entry by its fields and the record of its path
-pub entry-lent : (s p : List ℕ) → (p ≡ take 641 (drop 64 s)) × (length p ≡ 641) → entryWith (fieldsOf (entryIn s)) (pathIn p) ≡ entryIn s
+pub entry-lent : (s p : List ℕ) → (p ≡ take pathSize (drop 64 s)) × (length p ≡ pathSize) → entryWith (fieldsOf (entryIn s)) (pathIn p) ≡ entryIn s
 unfolding entryIn
 entry-lent s p e =
     let path = path-within p (drop 64 s) e in

@@ -6,15 +6,15 @@ use Rattle.codec.proofs.Bytes.{AllBytes·drop}
 use Rattle.codec.proofs.Tests.{and-left, and-right}
 use Rattle.path.specs.Record.{wellFormed}
 use Rattle.range_3d.specs.Record.{Range3d, headOf, rangeWith, wellFormedSubspaces, wellFormedPaths, wellFormedRange3d, TypedRange3d}
-use Rattle.path.specs.Flat.{pathFlat, pathIn}
+use Rattle.path.specs.Flat.{pathSize, pathFlat, pathIn}
 use Rattle.flat.specs.PathRecord.{pathIf}
 use Rattle.flat.specs.Times.{timesFlat, timesMarked, timesIn}
-use Rattle.flat.specs.RangeRecord.{subspacesFlat, rangeFlat, rangeMarked, subspacesIn, rangeIn}
+use Rattle.flat.specs.RangeRecord.{rangeSize, rangePathOpen, rangePathEnd, rangeTimesStart, pathsSize, subspacesFlat, rangeFlat, rangeMarked, subspacesIn, rangeIn}
 use Rattle.path.proofs.Loads.{path-long, path-loads, path-stores, path-within}
 use Rattle.flat.proofs.PathLaws.{unmarked}
 use Rattle.flat.proofs.TimesLaws.{mark-loads, mark-small, mark-stores, times-marked, times-loads, times-stores, times-long, three}
 
-pub range-long : (r : Range3d) → TypedRange3d r → length (rangeFlat r) ≡ 1365
+pub range-long : (r : Range3d) → TypedRange3d r → length (rangeFlat r) ≡ rangeSize
 unfolding rangeFlat
 range-long r t =
     let s = r .subspaces in
@@ -30,7 +30,7 @@ range-long r t =
     ) (omega (arith, t .subspaces .start .0, t .subspaces .end .0))
 
 -- where the parts stand
-module _ (a b p q t : List ℕ) (m k : ℕ) (la : length a ≡ 32) (lb : length b ≡ 32) (lp : length p ≡ 641) (lq : length q ≡ 641) where
+module _ (a b p q t : List ℕ) (m k : ℕ) (la : length a ≡ 32) (lb : length b ≡ 32) (lp : length p ≡ pathSize) (lq : length q ≡ pathSize) where
   abbrev paths : List ℕ
   paths = (p ++ (k ∷ q)) ++ t
 
@@ -55,17 +55,17 @@ module _ (a b p q t : List ℕ) (m k : ℕ) (la : length a ≡ 32) (lb : length 
   paths-on : drop 65 rangeParts ≡ p ++ (k ∷ (q ++ t))
   paths-on = sym (drop-drop 32 33 rangeParts) ∙ rw end-on (drop-at b paths 32 lb ∙ append-assoc p (k ∷ q) t)
 
-  open-on : drop 706 rangeParts ≡ k ∷ (q ++ t)
-  open-on = sym (drop-drop 641 65 rangeParts) ∙ rw paths-on (drop-at p (k ∷ (q ++ t)) 641 lp)
+  open-on : drop rangePathOpen rangeParts ≡ k ∷ (q ++ t)
+  open-on = sym (drop-drop pathSize 65 rangeParts) ∙ rw paths-on (drop-at p (k ∷ (q ++ t)) pathSize lp)
 
-  open-part : getD rangeParts 706 0 ≡ k
-  open-part = sym (getD-drop 706 rangeParts 0 0) ∙ rw open-on
+  open-part : getD rangeParts rangePathOpen 0 ≡ k
+  open-part = sym (getD-drop rangePathOpen rangeParts 0 0) ∙ rw open-on
 
-  path-end-on : drop 707 rangeParts ≡ q ++ t
-  path-end-on = sym (drop-drop 1 706 rangeParts) ∙ rw open-on
+  path-end-on : drop rangePathEnd rangeParts ≡ q ++ t
+  path-end-on = sym (drop-drop 1 rangePathOpen rangeParts) ∙ rw open-on
 
-  times-on : drop 1348 rangeParts ≡ t
-  times-on = sym (drop-drop 641 707 rangeParts) ∙ rw path-end-on (drop-at q t 641 lq)
+  times-on : drop rangeTimesStart rangeParts ≡ t
+  times-on = sym (drop-drop pathSize rangePathEnd rangeParts) ∙ rw path-end-on (drop-at q t pathSize lq)
 
 pub range-loads : (r : Range3d) → TypedRange3d r → wellFormedRange3d r ≡ true → rangeIn (rangeFlat r) ≡ r
 unfolding rangeFlat rangeIn rangeMarked pathIn wellFormedRange3d wellFormedPaths
@@ -107,51 +107,51 @@ middle s n m h = sym (take-add n (suc m) s ∙ rw (drop-cons s n 0 h))
 
 record Marks (s : List ℕ) : Type 0 where
   subspaces : getD s 32 0 ≤ 1
-  paths : getD s 706 0 ≤ 1
-  times : timesMarked (drop 1348 s) ≡ true
+  paths : getD s rangePathOpen 0 ≤ 1
+  times : timesMarked (drop rangeTimesStart s) ≡ true
 
 marks : (s : List ℕ) → rangeMarked s ≡ true → Marks s
 unfolding rangeMarked
 marks s e =
-    let f = and-right (leb (getD s 32 0) 1) (leb (getD s 706 0) 1 && timesMarked (drop 1348 s)) e in
+    let f = and-right (leb (getD s 32 0) 1) (leb (getD s rangePathOpen 0) 1 && timesMarked (drop rangeTimesStart s)) e in
     record {
-      subspaces = leb-true (getD s 32 0) 1 (and-left (leb (getD s 32 0) 1) (leb (getD s 706 0) 1 && timesMarked (drop 1348 s)) e);
-      paths = leb-true (getD s 706 0) 1 (and-left (leb (getD s 706 0) 1) (timesMarked (drop 1348 s)) f);
-      times = and-right (leb (getD s 706 0) 1) (timesMarked (drop 1348 s)) f;
+      subspaces = leb-true (getD s 32 0) 1 (and-left (leb (getD s 32 0) 1) (leb (getD s rangePathOpen 0) 1 && timesMarked (drop rangeTimesStart s)) e);
+      paths = leb-true (getD s rangePathOpen 0) 1 (and-left (leb (getD s rangePathOpen 0) 1) (timesMarked (drop rangeTimesStart s)) f);
+      times = and-right (leb (getD s rangePathOpen 0) 1) (timesMarked (drop rangeTimesStart s)) f;
     }
 
-pub range-stores : (s : List ℕ) → length s ≡ 1365 → AllBytes s → wellFormedRange3d (rangeIn s) ≡ true → rangeFlat (rangeIn s) ≡ s
+pub range-stores : (s : List ℕ) → length s ≡ rangeSize → AllBytes s → wellFormedRange3d (rangeIn s) ≡ true → rangeFlat (rangeIn s) ≡ s
 unfolding rangeFlat rangeIn pathIn wellFormedRange3d wellFormedPaths
 range-stores s long b w = go (rangeMarked s) refl (and-left (wellFormed (rangeIn s .paths .start)) _ (and-right (wellFormedSubspaces (rangeIn s .subspaces)) _ w))
   where
     stored : Bool → List ℕ
-    stored ok = subspacesFlat (subspacesIn s) ++ ((pathFlat (pathIf ok (drop 65 s)) ++ (bit (rangeIn s .paths .«end_open») ∷ pathFlat (pathIn (drop 707 s)))) ++ timesFlat (timesIn (drop 1348 s)))
+    stored ok = subspacesFlat (subspacesIn s) ++ ((pathFlat (pathIf ok (drop 65 s)) ++ (bit (rangeIn s .paths .«end_open») ∷ pathFlat (pathIn (drop rangePathEnd s)))) ++ timesFlat (timesIn (drop rangeTimesStart s)))
 
-    whole : (p q t : List ℕ) → p ≡ take 641 (drop 65 s) → q ≡ take 641 (drop 707 s) → t ≡ drop 1348 s
-        → (take 32 s ++ (getD s 32 0 ∷ take 32 (drop 33 s))) ++ ((p ++ (getD s 706 0 ∷ q)) ++ t) ≡ s
+    whole : (p q t : List ℕ) → p ≡ take pathSize (drop 65 s) → q ≡ take pathSize (drop rangePathEnd s) → t ≡ drop rangeTimesStart s
+        → (take 32 s ++ (getD s 32 0 ∷ take 32 (drop 33 s))) ++ ((p ++ (getD s rangePathOpen 0 ∷ q)) ++ t) ≡ s
     whole p q t ep eq et =
-        let e : getD s 706 0 ≡ getD (drop 65 s) 641 0 = sym (getD-drop 65 s 641 0) in
-        let d : drop 707 s ≡ drop 642 (drop 65 s) = sym (drop-drop 642 65 s) in
-        let h : 641 < length (drop 65 s) = rw length-drop (omega arith) in
-        rw (ep, eq, et, e, d, middle (drop 65 s) 641 641 h, middle s 32 32 (omega arith)) (three s 65 1283)
+        let e : getD s rangePathOpen 0 ≡ getD (drop 65 s) pathSize 0 = sym (getD-drop 65 s pathSize 0) in
+        let d : drop rangePathEnd s ≡ drop (pathSize + 1) (drop 65 s) = sym (drop-drop (pathSize + 1) 65 s) in
+        let h : pathSize < length (drop 65 s) = rw length-drop (omega arith) in
+        rw (ep, eq, et, e, d, middle (drop 65 s) pathSize pathSize h, middle s 32 32 (omega arith)) (three s 65 pathsSize)
 
     fields : Marks s → stored true ≡ s
     fields m =
         let p = path-stores (drop 65 s) (rw length-drop (omega arith)) (AllBytes·drop 65 s b) in
-        let q = path-stores (drop 707 s) (rw length-drop (omega arith)) (AllBytes·drop 707 s b) in
-        let t = times-stores (drop 1348 s) (rw length-drop (omega arith)) (AllBytes·drop 1348 s b) (m .times) in
-        rw (mark-stores (getD s 32 0) (m .subspaces), mark-stores (getD s 706 0) (m .paths)) (whole _ _ _ p q t)
+        let q = path-stores (drop rangePathEnd s) (rw length-drop (omega arith)) (AllBytes·drop rangePathEnd s b) in
+        let t = times-stores (drop rangeTimesStart s) (rw length-drop (omega arith)) (AllBytes·drop rangeTimesStart s b) (m .times) in
+        rw (mark-stores (getD s 32 0) (m .subspaces), mark-stores (getD s rangePathOpen 0) (m .paths)) (whole _ _ _ p q t)
 
     go : (ok : Bool) → rangeMarked s ≡ ok → wellFormed (pathIf ok (drop 65 s)) ≡ true → stored ok ≡ s
     go true e f = fields (marks s e)
     go false e f = absurd (unmarked (drop 65 s) f)
 
 -- a 3d range whose marks are 0 or 1, by its head and the records of its paths; any other is not well formed
-pub range-lent : (s p q : List ℕ) → (p ≡ take 641 (drop 65 s)) × (length p ≡ 641) → (q ≡ take 641 (drop 707 s)) × (length q ≡ 641) → rangeMarked s ≡ true → rangeWith (headOf (rangeIn s)) (pathIn p) (pathIn q) ≡ rangeIn s
+pub range-lent : (s p q : List ℕ) → (p ≡ take pathSize (drop 65 s)) × (length p ≡ pathSize) → (q ≡ take pathSize (drop rangePathEnd s)) × (length q ≡ pathSize) → rangeMarked s ≡ true → rangeWith (headOf (rangeIn s)) (pathIn p) (pathIn q) ≡ rangeIn s
 unfolding rangeIn pathIn
 range-lent s p q e f m =
     let start : pathIn p ≡ pathIf (rangeMarked s) (drop 65 s) = path-within p (drop 65 s) e ∙ whole (rangeMarked s) m in
-    let end : pathIn q ≡ pathIn (drop 707 s) = path-within q (drop 707 s) f in
+    let end : pathIn q ≡ pathIn (drop rangePathEnd s) = path-within q (drop rangePathEnd s) f in
     λ i. rangeWith (headOf (rangeIn s)) (start i) (end i)
   where
     whole : (b : Bool) → b ≡ true → pathIn (drop 65 s) ≡ pathIf b (drop 65 s)

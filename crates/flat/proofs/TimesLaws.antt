@@ -8,7 +8,7 @@ use Rattle.grouping.specs.declared.RangeEnd.{RangeEnd}
 use Rattle.grouping.specs.declared.RangeEnd.the-variants.{Closed, Open}
 use Rattle.grouping.specs.declared.TimeRange.{TimeRange}
 use Rattle.grouping.specs.Range.{TypedRange, isOpen, endValue, top}
-use Rattle.flat.specs.Times.{endTime, timesFlat, timesMarked, timesIn}
+use Rattle.flat.specs.Times.{timesSize, endTime, timesFlat, timesMarked, timesIn}
 use Rattle.path.proofs.Loads.{number-loads, number-stores}
 
 -- ---- marks
@@ -47,7 +47,7 @@ times-loads t h = go (t .end) (h .end)
         rw (start (0 ∷ bigEndian 8 x), end)
     go Open l = rw (start (1 ∷ bigEndian 8 0))
 
-pub times-stores : (s : List ℕ) → length s ≡ 17 → AllBytes s → timesMarked s ≡ true → timesFlat (timesIn s) ≡ s
+pub times-stores : (s : List ℕ) → length s ≡ timesSize → AllBytes s → timesMarked s ≡ true → timesFlat (timesIn s) ≡ s
 unfolding timesMarked timesIn timesFlat
 times-stores s long b m = ap (λ (l : List ℕ). l ++ endOf) (number-stores 8 s (omega arith) b) ∙ go (eqb (getD s 8 0) 1) refl ∙ parts
   where
@@ -85,7 +85,7 @@ times-stores s long b m = ap (λ (l : List ℕ). l ++ endOf) (number-stores 8 s 
             ∙ ap (λ (n : ℕ). take 8 s ++ (n ∷ take 8 (drop 9 s))) (sym (eqb-true (getD s 8 0) 0 f))
         other false f = let no : false ≡ true = marked false false e f in let z : _≡_ {A = ℕ} 0 1 = cc in absurd (omega arith)
 
-pub times-long : (t : TimeRange) → length (timesFlat t) ≡ 17
+pub times-long : (t : TimeRange) → length (timesFlat t) ≡ timesSize
 unfolding timesFlat
 times-long t = refl
 

@@ -1,11 +1,24 @@
 -- docs/ABI.md, "Records": an entry as flat bytes, namespace id, subspace id, path, timestamp, payload length, payload digest.
 use mathlib.Core.List.{List, _++_}
-use Prim.Native.Nat.{ℕ}
+use Prim.Native.Nat.{ℕ, _+_}
 use lib.ListN.{take, drop}
 use Rattle.compact_u64.specs.BigEndian.{bigEndian, valueOf}
 use Rattle.entry.specs.Record.{Entry, fieldsOf}
 use Rattle.entry.specs.declared.EntryFields.{EntryFields}
-use Rattle.path.specs.Flat.{pathFlat, pathIn}
+use Rattle.path.specs.Flat.{pathSize, pathFlat, pathIn}
+
+-- where what follows the path starts, and how many bytes there are in all
+abbrev pub entryTimeStart : ℕ
+entryTimeStart = 64 + pathSize
+
+abbrev pub entryLengthStart : ℕ
+entryLengthStart = entryTimeStart + 8
+
+abbrev pub entryDigestStart : ℕ
+entryDigestStart = entryLengthStart + 8
+
+abbrev pub entrySize : ℕ
+entrySize = entryDigestStart + 32
 
 abbrev pub idsFlat : EntryFields → List ℕ
 idsFlat f = f .«namespace_id» ++ f .«subspace_id»
@@ -22,7 +35,7 @@ entryIn s = record {
   «namespace_id» = take 32 s;
   «subspace_id» = take 32 (drop 32 s);
   path = pathIn (drop 64 s);
-  timestamp = valueOf (take 8 (drop 705 s));
-  «payload_length» = valueOf (take 8 (drop 713 s));
-  «payload_digest» = take 32 (drop 721 s);
+  timestamp = valueOf (take 8 (drop entryTimeStart s));
+  «payload_length» = valueOf (take 8 (drop entryLengthStart s));
+  «payload_digest» = take 32 (drop entryDigestStart s);
 }

@@ -9,10 +9,10 @@ use Rattle.path.specs.Record.{wellFormed, TypedPath}
 use Rattle.grouping.specs.Record.{wellFormedArea, TypedArea}
 use Rattle.entry.specs.Record.{wellFormedEntry, TypedEntry}
 use Rattle.range_3d.specs.Record.{wellFormedRange3d, TypedRange3d}
-use Rattle.path.specs.Flat.{pathFlat, pathIn}
-use Rattle.flat.specs.AreaRecord.{areaFlat, areaIn}
-use Rattle.flat.specs.EntryRecord.{entryFlat, entryIn}
-use Rattle.flat.specs.RangeRecord.{rangeFlat, rangeIn}
+use Rattle.path.specs.Flat.{pathSize, pathFlat, pathIn}
+use Rattle.flat.specs.AreaRecord.{areaSize, areaFlat, areaIn}
+use Rattle.flat.specs.EntryRecord.{entrySize, entryFlat, entryIn}
+use Rattle.flat.specs.RangeRecord.{rangeSize, rangeFlat, rangeIn}
 
 -- a well-formed record is loaded from the bytes that it is stored as; bytes of that size load as a well-formed record only if it is stored as
 -- just these bytes, so that all others are refused with 5
@@ -22,7 +22,7 @@ pub record Flat {A : Type 0} (Typed : A → Type 0) (formed : A → Bool) (flat 
   pub stores : (s : List ℕ) → length s ≡ size → AllBytes s → formed (load s) ≡ true → flat (load s) ≡ s
 
 pub record FlatLaws : Type 0 where
-  pub paths : Flat TypedPath wellFormed pathFlat pathIn 641
-  pub areas : Flat TypedArea wellFormedArea areaFlat areaIn 691
-  pub entries : Flat TypedEntry wellFormedEntry entryFlat entryIn 753
-  pub ranges : Flat TypedRange3d wellFormedRange3d rangeFlat rangeIn 1365
+  pub paths : Flat TypedPath wellFormed pathFlat pathIn pathSize
+  pub areas : Flat TypedArea wellFormedArea areaFlat areaIn areaSize
+  pub entries : Flat TypedEntry wellFormedEntry entryFlat entryIn entrySize
+  pub ranges : Flat TypedRange3d wellFormedRange3d rangeFlat rangeIn rangeSize

@@ -11,6 +11,10 @@ use Rattle.grouping.specs.declared.RangeEnd.the-variants.{Closed, Open}
 use Rattle.grouping.specs.declared.TimeRange.{TimeRange}
 use Rattle.grouping.specs.Range.{isOpen}
 
+-- how many bytes there are
+abbrev pub timesSize : ℕ
+timesSize = 17
+
 abbrev pub endTime : RangeEnd → ℕ
 endTime (Closed time) = time
 endTime Open = 0

@@ -4,24 +4,24 @@ ghost use Prim.Native.Nat.{_≤_};
 ghost use lib.ListN.{length, take, drop};
 ghost use Rattle.path.specs.Flat.{pathSize, pathIn};
 ghost use Rattle.grouping.specs.Record.{headOf, areaWith};
-ghost use Rattle.flat.specs.AreaRecord.{subspaceFlat, areaMarked, areaIn, areaFlat};
+ghost use Rattle.flat.specs.AreaRecord.{areaSize, subspaceFlat, areaMarked, areaIn, areaFlat};
 ghost use Rattle.path.specs.Puts.{Puts};
 use grouping::AreaHead;
 use grouping::AreaSubspace;
 
-// How many bytes an area has, and where its parts start.
-pub const SIZE: usize = 691;
-
+// Where an area's parts start, and how many bytes it has.
 const ANY: usize = 0;
 
 const ID: usize = 1;
 
 const PATH: usize = 33;
 
-const TIMES: usize = 674;
+const TIMES: usize = PATH + path::lent::SIZE;
+
+pub const SIZE: usize = TIMES + crate::times::SIZE;
 
 fn subspace_in(flat: &[u8]) -> AreaSubspace
-    requires { ⌜ 691 ≤ length (now flat) ⌝ }
+    requires { ⌜ areaSize ≤ length (now flat) ⌝ }
     ensures { λ r. ⌜ r ≡ areaIn (now (flat .entry)) .subspace ⌝ }
 {
     let read = byte_codec::decode_id(flat, ID);
@@ -43,8 +43,8 @@ fn put_subspace(flat: &mut [u8], subspace: AreaSubspace)
 
 // Writes an area from the first byte on.
 fn put_area(flat: &mut [u8], head: AreaHead, path: &[u8])
-    requires { ⌜ (691 ≤ length (now flat)) × (length (now path) ≡ pathSize) ⌝ }
-    ensures { λ _. ⌜ Puts 691 (areaFlat (areaWith head (pathIn (now (path .entry))))) (now (flat .entry)) (now (flat .exit)) ⌝ }
+    requires { ⌜ (areaSize ≤ length (now flat)) × (length (now path) ≡ pathSize) ⌝ }
+    ensures { λ _. ⌜ Puts areaSize (areaFlat (areaWith head (pathIn (now (path .entry))))) (now (flat .entry)) (now (flat .exit)) ⌝ }
 {
     put_subspace(flat, head.subspace);
     crate::put_path(&mut flat[PATH..], path);
@@ -79,7 +79,7 @@ pub fn is_marked(flat: &[u8; SIZE]) -> bool
     crate::times::marked(flat, TIMES)
 }
 
-pub fn store(flat: &mut [u8; SIZE], head: AreaHead, path: &[u8; 641])
+pub fn store(flat: &mut [u8; SIZE], head: AreaHead, path: &[u8; path::lent::SIZE])
     ensures { λ _. ⌜ now (flat .exit) ≡ areaFlat (areaWith head (pathIn (now (path .entry)))) ⌝ }
 {
     put_area(flat, head, path);

@@ -4,28 +4,28 @@ ghost use Prim.Native.Nat.{_≤_};
 ghost use lib.ListN.{length, take, drop};
 ghost use Rattle.path.specs.Flat.{pathSize, pathIn};
 ghost use Rattle.entry.specs.Record.{fieldsOf, entryWith};
-ghost use Rattle.flat.specs.EntryRecord.{idsFlat, endFlat, entryIn, entryFlat};
+ghost use Rattle.flat.specs.EntryRecord.{entrySize, idsFlat, endFlat, entryIn, entryFlat};
 ghost use Rattle.path.specs.Puts.{Puts};
 use entry::EntryFields;
 
-// How many bytes an entry has, and where its parts start.
-pub const SIZE: usize = 753;
-
+// Where an entry's parts start, and how many bytes it has.
 const NAMESPACE: usize = 0;
 
 const SUBSPACE: usize = 32;
 
 const PATH: usize = 64;
 
-const TIMESTAMP: usize = 705;
+const TIMESTAMP: usize = PATH + path::lent::SIZE;
 
-const PAYLOAD_LENGTH: usize = 713;
+const PAYLOAD_LENGTH: usize = TIMESTAMP + 8;
 
-const DIGEST: usize = 721;
+const DIGEST: usize = PAYLOAD_LENGTH + 8;
+
+pub const SIZE: usize = DIGEST + 32;
 
 // What the entry that starts with the first byte has beside its path.
 fn fields_in(flat: &[u8]) -> EntryFields
-    requires { ⌜ 753 ≤ length (now flat) ⌝ }
+    requires { ⌜ entrySize ≤ length (now flat) ⌝ }
     ensures { λ r. ⌜ r ≡ fieldsOf (entryIn (now (flat .entry))) ⌝ }
 {
     let namespace = byte_codec::decode_id(flat, NAMESPACE);
@@ -63,8 +63,8 @@ fn put_end(flat: &mut [u8], fields: EntryFields)
 
 // Writes an entry from the first byte on.
 fn put_entry(flat: &mut [u8], fields: EntryFields, path: &[u8])
-    requires { ⌜ (753 ≤ length (now flat)) × (length (now path) ≡ pathSize) ⌝ }
-    ensures { λ _. ⌜ Puts 753 (entryFlat (entryWith fields (pathIn (now (path .entry))))) (now (flat .entry)) (now (flat .exit)) ⌝ }
+    requires { ⌜ (entrySize ≤ length (now flat)) × (length (now path) ≡ pathSize) ⌝ }
+    ensures { λ _. ⌜ Puts entrySize (entryFlat (entryWith fields (pathIn (now (path .entry))))) (now (flat .entry)) (now (flat .exit)) ⌝ }
 {
     put_ids(flat, fields);
     crate::put_path(&mut flat[PATH..], path);
@@ -84,7 +84,7 @@ pub fn path<'a>(flat: &'a [u8; SIZE]) -> &'a [u8]
     crate::path_at(flat, PATH)
 }
 
-pub fn store(flat: &mut [u8; SIZE], fields: EntryFields, path: &[u8; 641])
+pub fn store(flat: &mut [u8; SIZE], fields: EntryFields, path: &[u8; path::lent::SIZE])
     ensures { λ _. ⌜ now (flat .exit) ≡ entryFlat (entryWith fields (pathIn (now (path .entry)))) ⌝ }
 {
     put_entry(flat, fields, path);

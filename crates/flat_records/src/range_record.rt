@@ -4,14 +4,12 @@ ghost use Prim.Native.Nat.{_≤_};
 ghost use lib.ListN.{length, take, drop};
 ghost use Rattle.path.specs.Flat.{pathSize, pathIn};
 ghost use Rattle.range_3d.specs.Record.{headOf, rangeWith};
-ghost use Rattle.flat.specs.RangeRecord.{subspacesFlat, pathsFlat, subspacesIn, rangeMarked, rangeIn, rangeFlat};
+ghost use Rattle.flat.specs.RangeRecord.{rangeSize, rangePathEnd, pathsSize, subspacesFlat, pathsFlat, subspacesIn, rangeMarked, rangeIn, rangeFlat};
 ghost use Rattle.path.specs.Puts.{Puts};
 use range_3d::Range3dHead;
 use range_3d::SubspaceRange;
 
-// How many bytes a 3d range has, and where its parts start.
-pub const SIZE: usize = 1365;
-
+// Where a 3d range's parts start, and how many bytes it has.
 const SUBSPACE_START: usize = 0;
 
 const SUBSPACE_OPEN: usize = 32;
@@ -20,11 +18,13 @@ const SUBSPACE_END: usize = 33;
 
 const PATH_START: usize = 65;
 
-const PATH_OPEN: usize = 706;
+const PATH_OPEN: usize = PATH_START + path::lent::SIZE;
 
-const PATH_END: usize = 707;
+const PATH_END: usize = PATH_OPEN + 1;
 
-const TIMES: usize = 1348;
+const TIMES: usize = PATH_END + path::lent::SIZE;
+
+pub const SIZE: usize = TIMES + crate::times::SIZE;
 
 fn subspaces_in(flat: &[u8]) -> SubspaceRange
     requires { ⌜ 65 ≤ length (now flat) ⌝ }
@@ -54,8 +54,8 @@ fn put_subspaces(flat: &mut [u8], subspaces: SubspaceRange)
 
 // The paths, from the first byte on.
 fn put_paths<'a>(flat: &mut [u8], start: &'a [u8], end_open: bool, end: &'a [u8])
-    requires { ⌜ (1283 ≤ length (now flat)) × (length (now start) ≡ pathSize) × (length (now end) ≡ pathSize) ⌝ }
-    ensures { λ _. ⌜ Puts 1283 (pathsFlat (pathIn (now (start .entry))) «end_open» (pathIn (now (end .entry)))) (now (flat .entry)) (now (flat .exit)) ⌝ }
+    requires { ⌜ (pathsSize ≤ length (now flat)) × (length (now start) ≡ pathSize) × (length (now end) ≡ pathSize) ⌝ }
+    ensures { λ _. ⌜ Puts pathsSize (pathsFlat (pathIn (now (start .entry))) «end_open» (pathIn (now (end .entry)))) (now (flat .entry)) (now (flat .exit)) ⌝ }
 {
     let open = PATH_OPEN - PATH_START;
     let at = PATH_END - PATH_START;
@@ -66,8 +66,8 @@ fn put_paths<'a>(flat: &mut [u8], start: &'a [u8], end_open: bool, end: &'a [u8]
 
 // Writes a 3d range from the first byte on.
 fn put_range<'a>(flat: &mut [u8], head: Range3dHead, start: &'a [u8], end: &'a [u8])
-    requires { ⌜ (1365 ≤ length (now flat)) × (length (now start) ≡ pathSize) × (length (now end) ≡ pathSize) ⌝ }
-    ensures { λ _. ⌜ Puts 1365 (rangeFlat (rangeWith head (pathIn (now (start .entry))) (pathIn (now (end .entry))))) (now (flat .entry)) (now (flat .exit)) ⌝ }
+    requires { ⌜ (rangeSize ≤ length (now flat)) × (length (now start) ≡ pathSize) × (length (now end) ≡ pathSize) ⌝ }
+    ensures { λ _. ⌜ Puts rangeSize (rangeFlat (rangeWith head (pathIn (now (start .entry))) (pathIn (now (end .entry))))) (now (flat .entry)) (now (flat .exit)) ⌝ }
 {
     put_subspaces(flat, head.subspaces);
     put_paths(&mut flat[PATH_START..], start, head.end_open, end);
@@ -94,7 +94,7 @@ pub fn path_start<'a>(flat: &'a [u8; SIZE]) -> &'a [u8]
 }
 
 pub fn path_end<'a>(flat: &'a [u8; SIZE]) -> &'a [u8]
-    ensures { λ r. ⌜ (now r ≡ take pathSize (drop 707 (now (flat .entry)))) × (length (now r) ≡ pathSize) ⌝ }
+    ensures { λ r. ⌜ (now r ≡ take pathSize (drop rangePathEnd (now (flat .entry)))) × (length (now r) ≡ pathSize) ⌝ }
 {
     crate::path_at(flat, PATH_END)
 }
@@ -113,7 +113,12 @@ pub fn is_marked(flat: &[u8; SIZE]) -> bool
 }
 
 // Stores a 3d range by its head and the records of its paths.
-pub fn store<'a>(flat: &mut [u8; SIZE], head: Range3dHead, start: &'a [u8; 641], end: &'a [u8; 641])
+pub fn store<'a>(
+    flat: &mut [u8; SIZE],
+    head: Range3dHead,
+    start: &'a [u8; path::lent::SIZE],
+    end: &'a [u8; path::lent::SIZE],
+)
     ensures { λ _. ⌜ now (flat .exit) ≡ rangeFlat (rangeWith head (pathIn (now (start .entry))) (pathIn (now (end .entry)))) ⌝ }
 {
     put_range(flat, head, start, end);

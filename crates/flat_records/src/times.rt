@@ -2,19 +2,21 @@
 ghost use mathlib.Core.Path.{_≡_};
 ghost use Prim.Native.Nat.{_+_, _≤_};
 ghost use lib.ListN.{length, drop};
-ghost use Rattle.flat.specs.Times.{endTime, timesMarked, timesIn, timesFlat};
+ghost use Rattle.flat.specs.Times.{timesSize, endTime, timesMarked, timesIn, timesFlat};
 ghost use Rattle.path.specs.Puts.{Puts};
 use grouping::RangeEnd;
 use grouping::TimeRange;
 
-// Where the mark and the end start.
+// Where the mark and the end start, and how many bytes there are.
 const MARK: usize = 8;
 
 const END: usize = 9;
 
+pub(crate) const SIZE: usize = END + 8;
+
 // Whether the bytes from a place on are a range's: the mark is 0 or 1, and the end beside 1 is zero.
 pub(crate) fn marked(flat: &[u8], at: usize) -> bool
-    requires { ⌜ at + 17 ≤ length (now flat) ⌝ }
+    requires { ⌜ at + timesSize ≤ length (now flat) ⌝ }
     ensures { λ r. ⌜ r ≡ timesMarked (drop at (now (flat .entry))) ⌝ }
 {
     let times = &flat[at..];
@@ -28,7 +30,7 @@ pub(crate) fn marked(flat: &[u8], at: usize) -> bool
 }
 
 pub(crate) fn times_in(flat: &[u8], at: usize) -> TimeRange
-    requires { ⌜ at + 17 ≤ length (now flat) ⌝ }
+    requires { ⌜ at + timesSize ≤ length (now flat) ⌝ }
     ensures { λ r. ⌜ r ≡ timesIn (drop at (now (flat .entry))) ⌝ }
 {
     let times = &flat[at..];
@@ -56,8 +58,8 @@ fn end_time(end: RangeEnd) -> u64
 }
 
 pub(crate) fn put_times(flat: &mut [u8], times: TimeRange)
-    requires { ⌜ 17 ≤ length (now flat) ⌝ }
-    ensures { λ _. ⌜ Puts 17 (timesFlat times) (now (flat .entry)) (now (flat .exit)) ⌝ }
+    requires { ⌜ timesSize ≤ length (now flat) ⌝ }
+    ensures { λ _. ⌜ Puts timesSize (timesFlat times) (now (flat .entry)) (now (flat .exit)) ⌝ }
 {
     let end = times.end;
     compact_u64::put_big_endian(flat, 8, times.start);

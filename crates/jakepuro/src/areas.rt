@@ -11,8 +11,8 @@ use codec::Encoded;
 #[no_mangle]
 pub extern "C" fn jakepuro_area_area_encode<'a>(
     buffer: &mut [u8],
-    area: &'a [u8; 691],
-    reference: &'a [u8; 691],
+    area: &'a [u8; flat_records::area_record::SIZE],
+    reference: &'a [u8; flat_records::area_record::SIZE],
     written: &mut usize,
 ) -> u8
     ensures { λ r. ⌜ Encodes (againstArea (areaIn (now (reference .entry)))) (areaIn (now (area .entry))) (now (buffer .entry)) (now (buffer .exit)) r (now (written .exit)) ⌝ }
@@ -35,8 +35,8 @@ pub extern "C" fn jakepuro_area_area_encode<'a>(
 // How many bytes that takes.
 #[no_mangle]
 pub extern "C" fn jakepuro_area_area_len_of_encoding<'a>(
-    area: &'a [u8; 691],
-    reference: &'a [u8; 691],
+    area: &'a [u8; flat_records::area_record::SIZE],
+    reference: &'a [u8; flat_records::area_record::SIZE],
     length: &mut usize,
 ) -> u8
     ensures { λ r. ⌜ Told (lengthAnswer (againstArea (areaIn (now (reference .entry)))) (areaIn (now (area .entry)))) r (now (length .exit)) ⌝ }
@@ -61,8 +61,8 @@ pub extern "C" fn jakepuro_area_area_decode<'a>(
     message: &'a [u8],
     start: usize,
     canonic: bool,
-    reference: &'a [u8; 691],
-    area: &mut [u8; 691],
+    reference: &'a [u8; flat_records::area_record::SIZE],
+    area: &mut [u8; flat_records::area_record::SIZE],
     consumed: &mut usize,
 ) -> u8
     ensures { λ r. ⌜ Stores areaFlat (readAgainstArea canonic (areaIn (now (reference .entry))) (drop start (now (message .entry)))) (now (area .entry)) (now (area .exit)) r (now (consumed .exit)) ⌝ }
@@ -71,7 +71,7 @@ pub extern "C" fn jakepuro_area_area_decode<'a>(
     if !marked {
         return calls::tell_refusal(Decoded::Malformed, consumed);
     }
-    let mut path = [0u8; 641];
+    let mut path = [0u8; path::lent::SIZE];
     let read = area_area_decode::relative_decode(
         message,
         start,

@@ -13,9 +13,9 @@ use codec::Encoded;
 #[no_mangle]
 pub extern "C" fn jakepuro_entry_area_encode<'a>(
     buffer: &mut [u8],
-    entry: &'a [u8; 753],
+    entry: &'a [u8; flat_records::entry_record::SIZE],
     namespace: &[u8; 32],
-    area: &'a [u8; 691],
+    area: &'a [u8; flat_records::area_record::SIZE],
     written: &mut usize,
 ) -> u8
     ensures { λ r. ⌜ Encodes (againstNamespaceArea (now (namespace .entry)) (areaIn (now (area .entry)))) (entryIn (now (entry .entry))) (now (buffer .entry)) (now (buffer .exit)) r (now (written .exit)) ⌝ }
@@ -39,9 +39,9 @@ pub extern "C" fn jakepuro_entry_area_encode<'a>(
 // How many bytes that takes.
 #[no_mangle]
 pub extern "C" fn jakepuro_entry_area_len_of_encoding<'a>(
-    entry: &'a [u8; 753],
+    entry: &'a [u8; flat_records::entry_record::SIZE],
     namespace: &[u8; 32],
-    area: &'a [u8; 691],
+    area: &'a [u8; flat_records::area_record::SIZE],
     length: &mut usize,
 ) -> u8
     ensures { λ r. ⌜ Told (lengthAnswer (againstNamespaceArea (now (namespace .entry)) (areaIn (now (area .entry)))) (entryIn (now (entry .entry)))) r (now (length .exit)) ⌝ }
@@ -68,8 +68,8 @@ pub extern "C" fn jakepuro_entry_area_decode<'a>(
     start: usize,
     canonic: bool,
     namespace: &[u8; 32],
-    area: &'a [u8; 691],
-    entry: &mut [u8; 753],
+    area: &'a [u8; flat_records::area_record::SIZE],
+    entry: &mut [u8; flat_records::entry_record::SIZE],
     consumed: &mut usize,
 ) -> u8
     ensures { λ r. ⌜ Stores entryFlat (readAgainstNamespaceArea canonic (now (namespace .entry)) (areaIn (now (area .entry))) (drop start (now (message .entry)))) (now (entry .entry)) (now (entry .exit)) r (now (consumed .exit)) ⌝ }
@@ -79,7 +79,7 @@ pub extern "C" fn jakepuro_entry_area_decode<'a>(
         return calls::tell_refusal(Decoded::Malformed, consumed);
     }
     let space = *namespace;
-    let mut path = [0u8; 641];
+    let mut path = [0u8; path::lent::SIZE];
     let read = entry_area_decode::relative_decode(
         message,
         start,
@@ -97,8 +97,8 @@ pub extern "C" fn jakepuro_entry_area_decode<'a>(
 #[no_mangle]
 pub extern "C" fn jakepuro_entry_entry_encode<'a>(
     buffer: &mut [u8],
-    entry: &'a [u8; 753],
-    reference: &'a [u8; 753],
+    entry: &'a [u8; flat_records::entry_record::SIZE],
+    reference: &'a [u8; flat_records::entry_record::SIZE],
     written: &mut usize,
 ) -> u8
     ensures { λ r. ⌜ Encodes (againstEntry (entryIn (now (reference .entry)))) (entryIn (now (entry .entry))) (now (buffer .entry)) (now (buffer .exit)) r (now (written .exit)) ⌝ }
@@ -116,8 +116,8 @@ pub extern "C" fn jakepuro_entry_entry_encode<'a>(
 // How many bytes that takes.
 #[no_mangle]
 pub extern "C" fn jakepuro_entry_entry_len_of_encoding<'a>(
-    entry: &'a [u8; 753],
-    reference: &'a [u8; 753],
+    entry: &'a [u8; flat_records::entry_record::SIZE],
+    reference: &'a [u8; flat_records::entry_record::SIZE],
     length: &mut usize,
 ) -> u8
     ensures { λ r. ⌜ Told (lengthAnswer (againstEntry (entryIn (now (reference .entry)))) (entryIn (now (entry .entry)))) r (now (length .exit)) ⌝ }
@@ -136,13 +136,13 @@ pub extern "C" fn jakepuro_entry_entry_len_of_encoding<'a>(
 pub extern "C" fn jakepuro_entry_entry_decode<'a>(
     message: &'a [u8],
     start: usize,
-    reference: &'a [u8; 753],
-    entry: &mut [u8; 753],
+    reference: &'a [u8; flat_records::entry_record::SIZE],
+    entry: &mut [u8; flat_records::entry_record::SIZE],
     consumed: &mut usize,
 ) -> u8
     ensures { λ r. ⌜ Stores entryFlat (readAgainstEntry (entryIn (now (reference .entry))) (drop start (now (message .entry)))) (now (entry .entry)) (now (entry .exit)) r (now (consumed .exit)) ⌝ }
 {
-    let mut path = [0u8; 641];
+    let mut path = [0u8; path::lent::SIZE];
     let read = entry_entry_decode::relative_decode(
         message,
         start,

@@ -10,7 +10,7 @@ ghost use Rattle.calls.specs.Calls.{Encodes, Told, Stores};
 #[no_mangle]
 pub extern "C" fn jakepuro_path_encode(
     buffer: &mut [u8],
-    path: &[u8; 641],
+    path: &[u8; path::lent::SIZE],
     written: &mut usize,
 ) -> u8
     ensures { λ r. ⌜ Encodes (plainPath) (pathIn (now (path .entry))) (now (buffer .entry)) (now (buffer .exit)) r (now (written .exit)) ⌝ }
@@ -21,7 +21,10 @@ pub extern "C" fn jakepuro_path_encode(
 
 // How many bytes that takes.
 #[no_mangle]
-pub extern "C" fn jakepuro_path_len_of_encoding(path: &[u8; 641], length: &mut usize) -> u8
+pub extern "C" fn jakepuro_path_len_of_encoding(
+    path: &[u8; path::lent::SIZE],
+    length: &mut usize,
+) -> u8
     ensures { λ r. ⌜ Told (lengthAnswer (plainPath) (pathIn (now (path .entry)))) r (now (length .exit)) ⌝ }
 {
     let answer = path_codec::len_of_encoding(path);
@@ -34,12 +37,12 @@ pub extern "C" fn jakepuro_path_decode(
     message: &[u8],
     start: usize,
     canonic: bool,
-    path: &mut [u8; 641],
+    path: &mut [u8; path::lent::SIZE],
     consumed: &mut usize,
 ) -> u8
     ensures { λ r. ⌜ Stores pathFlat (readPath canonic (drop start (now (message .entry)))) (now (path .entry)) (now (path .exit)) r (now (consumed .exit)) ⌝ }
 {
-    let mut out = [0u8; 641];
+    let mut out = [0u8; path::lent::SIZE];
     let answer = path_codec::decode(message, start, canonic, &mut out);
     calls::give_path(answer, &out, path, consumed)
 }
@@ -48,8 +51,8 @@ pub extern "C" fn jakepuro_path_decode(
 #[no_mangle]
 pub extern "C" fn jakepuro_path_path_encode<'a>(
     buffer: &mut [u8],
-    path: &'a [u8; 641],
-    reference: &'a [u8; 641],
+    path: &'a [u8; path::lent::SIZE],
+    reference: &'a [u8; path::lent::SIZE],
     written: &mut usize,
 ) -> u8
     ensures { λ r. ⌜ Encodes (againstPath (pathIn (now (reference .entry)))) (pathIn (now (path .entry))) (now (buffer .entry)) (now (buffer .exit)) r (now (written .exit)) ⌝ }
@@ -61,8 +64,8 @@ pub extern "C" fn jakepuro_path_path_encode<'a>(
 // How many bytes that takes.
 #[no_mangle]
 pub extern "C" fn jakepuro_path_path_len_of_encoding<'a>(
-    path: &'a [u8; 641],
-    reference: &'a [u8; 641],
+    path: &'a [u8; path::lent::SIZE],
+    reference: &'a [u8; path::lent::SIZE],
     length: &mut usize,
 ) -> u8
     ensures { λ r. ⌜ Told (lengthAnswer (againstPath (pathIn (now (reference .entry)))) (pathIn (now (path .entry)))) r (now (length .exit)) ⌝ }
@@ -77,13 +80,13 @@ pub extern "C" fn jakepuro_path_path_decode<'a>(
     message: &'a [u8],
     start: usize,
     canonic: bool,
-    reference: &'a [u8; 641],
-    path: &mut [u8; 641],
+    reference: &'a [u8; path::lent::SIZE],
+    path: &mut [u8; path::lent::SIZE],
     consumed: &mut usize,
 ) -> u8
     ensures { λ r. ⌜ Stores pathFlat (readAgainstPath canonic (pathIn (now (reference .entry))) (drop start (now (message .entry)))) (now (path .entry)) (now (path .exit)) r (now (consumed .exit)) ⌝ }
 {
-    let mut out = [0u8; 641];
+    let mut out = [0u8; path::lent::SIZE];
     let answer = path_relative_decode::relative_decode(
         message,
         start,
@@ -98,8 +101,8 @@ pub extern "C" fn jakepuro_path_path_decode<'a>(
 #[no_mangle]
 pub extern "C" fn jakepuro_path_extends_encode<'a>(
     buffer: &mut [u8],
-    path: &'a [u8; 641],
-    extends: &'a [u8; 641],
+    path: &'a [u8; path::lent::SIZE],
+    extends: &'a [u8; path::lent::SIZE],
     written: &mut usize,
 ) -> u8
     ensures { λ r. ⌜ Encodes (extendsPath (pathIn (now (extends .entry)))) (pathIn (now (path .entry))) (now (buffer .entry)) (now (buffer .exit)) r (now (written .exit)) ⌝ }
@@ -111,8 +114,8 @@ pub extern "C" fn jakepuro_path_extends_encode<'a>(
 // How many bytes that takes.
 #[no_mangle]
 pub extern "C" fn jakepuro_path_extends_len_of_encoding<'a>(
-    path: &'a [u8; 641],
-    extends: &'a [u8; 641],
+    path: &'a [u8; path::lent::SIZE],
+    extends: &'a [u8; path::lent::SIZE],
     length: &mut usize,
 ) -> u8
     ensures { λ r. ⌜ Told (lengthAnswer (extendsPath (pathIn (now (extends .entry)))) (pathIn (now (path .entry)))) r (now (length .exit)) ⌝ }
@@ -127,13 +130,13 @@ pub extern "C" fn jakepuro_path_extends_decode<'a>(
     message: &'a [u8],
     start: usize,
     canonic: bool,
-    extends: &'a [u8; 641],
-    path: &mut [u8; 641],
+    extends: &'a [u8; path::lent::SIZE],
+    path: &mut [u8; path::lent::SIZE],
     consumed: &mut usize,
 ) -> u8
     ensures { λ r. ⌜ Stores pathFlat (readExtendsPath canonic (pathIn (now (extends .entry))) (drop start (now (message .entry)))) (now (path .entry)) (now (path .exit)) r (now (consumed .exit)) ⌝ }
 {
-    let mut out = [0u8; 641];
+    let mut out = [0u8; path::lent::SIZE];
     let answer = path_relative_decode::decode_path_extends_path(
         message,
         start,

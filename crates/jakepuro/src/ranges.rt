@@ -11,8 +11,8 @@ use codec::Encoded;
 #[no_mangle]
 pub extern "C" fn jakepuro_range3d_range3d_encode<'a>(
     buffer: &mut [u8],
-    range: &'a [u8; 1365],
-    reference: &'a [u8; 1365],
+    range: &'a [u8; flat_records::range_record::SIZE],
+    reference: &'a [u8; flat_records::range_record::SIZE],
     written: &mut usize,
 ) -> u8
     ensures { λ r. ⌜ Encodes (againstRange (rangeIn (now (reference .entry)))) (rangeIn (now (range .entry))) (now (buffer .entry)) (now (buffer .exit)) r (now (written .exit)) ⌝ }
@@ -37,8 +37,8 @@ pub extern "C" fn jakepuro_range3d_range3d_encode<'a>(
 // How many bytes that takes.
 #[no_mangle]
 pub extern "C" fn jakepuro_range3d_range3d_len_of_encoding<'a>(
-    range: &'a [u8; 1365],
-    reference: &'a [u8; 1365],
+    range: &'a [u8; flat_records::range_record::SIZE],
+    reference: &'a [u8; flat_records::range_record::SIZE],
     length: &mut usize,
 ) -> u8
     ensures { λ r. ⌜ Told (lengthAnswer (againstRange (rangeIn (now (reference .entry)))) (rangeIn (now (range .entry)))) r (now (length .exit)) ⌝ }
@@ -64,8 +64,8 @@ pub extern "C" fn jakepuro_range3d_range3d_len_of_encoding<'a>(
 pub extern "C" fn jakepuro_range3d_range3d_decode<'a>(
     message: &'a [u8],
     start: usize,
-    reference: &'a [u8; 1365],
-    range: &mut [u8; 1365],
+    reference: &'a [u8; flat_records::range_record::SIZE],
+    range: &mut [u8; flat_records::range_record::SIZE],
     consumed: &mut usize,
 ) -> u8
     ensures { λ r. ⌜ Stores rangeFlat (readAgainstRange (rangeIn (now (reference .entry))) (drop start (now (message .entry)))) (now (range .entry)) (now (range .exit)) r (now (consumed .exit)) ⌝ }
@@ -74,8 +74,8 @@ pub extern "C" fn jakepuro_range3d_range3d_decode<'a>(
     if !marked {
         return calls::tell_refusal(Decoded::Malformed, consumed);
     }
-    let mut path_start = [0u8; 641];
-    let mut path_end = [0u8; 641];
+    let mut path_start = [0u8; path::lent::SIZE];
+    let mut path_end = [0u8; path::lent::SIZE];
     let read = range3d_range3d_decode::relative_decode(
         message,
         start,

@@ -10,6 +10,7 @@ ghost use lib.ListN.{length, take};
 ghost use Rattle.codec.specs.Format.{over};
 ghost use Rattle.lines.specs.Lines.{span, answers, wholeLines, fittingLines};
 ghost use Rattle.lines.specs.Stream.{keptAfter};
+ghost use Rattle.case_text.specs.Limits.{maxAnswer};
 ghost use Rattle.case_text.specs.Answers.{PutsWithin};
 ghost use Rattle.line_program.specs.Programs.{answerTo, limitOf};
 
@@ -36,7 +37,7 @@ fn limit(program: Program) -> usize
 
 // Writes the answer to a line from a place on, and answers the next place; where fewer than MAX_ANSWER bytes are free, nothing changes.
 fn answer(program: Program, line: &[u8], out: &mut [u8], at: usize) -> usize
-    ensures { λ r. ⌜ PutsWithin 16640 at (answerTo program (now (line .entry))) (now (out .entry)) (now (out .exit)) r ⌝ }
+    ensures { λ r. ⌜ PutsWithin maxAnswer at (answerTo program (now (line .entry))) (now (out .entry)) (now (out .exit)) r ⌝ }
 {
     match program {
         Program::Listing => listing::answer(line, out, at),
@@ -46,8 +47,8 @@ fn answer(program: Program, line: &[u8], out: &mut [u8], at: usize) -> usize
 
 // Answers the whole lines of a text, one after another, while MAX_ANSWER bytes of the buffer are free.
 pub fn answer_lines(program: Program, s: &[u8], out: &mut [u8]) -> Answered
-    ensures { λ r. ⌜ (r .taken ≡ span (fittingLines (answerTo program) 16640 (length (now (out .entry))) (now (s .entry)))) × (r .put ≡ length (answers (answerTo program) (fittingLines (answerTo program) 16640 (length (now (out .entry))) (now (s .entry))))) ⌝ }
-    ensures { λ _. ⌜ now (out .exit) ≡ over (answers (answerTo program) (fittingLines (answerTo program) 16640 (length (now (out .entry))) (now (s .entry)))) (now (out .entry)) ⌝ }
+    ensures { λ r. ⌜ (r .taken ≡ span (fittingLines (answerTo program) maxAnswer (length (now (out .entry))) (now (s .entry)))) × (r .put ≡ length (answers (answerTo program) (fittingLines (answerTo program) maxAnswer (length (now (out .entry))) (now (s .entry))))) ⌝ }
+    ensures { λ _. ⌜ now (out .exit) ≡ over (answers (answerTo program) (fittingLines (answerTo program) maxAnswer (length (now (out .entry))) (now (s .entry)))) (now (out .entry)) ⌝ }
     ensures { λ r. ⌜ (r .taken ≤ length (now (s .entry))) × (r .put ≤ length (now (out .exit))) ⌝ }
 {
     let mut at: usize = 0;
@@ -75,7 +76,7 @@ struct Drained {
 
 // Writes the answers to the whole lines of a text.
 fn drain(program: Program, s: &[u8], out: &mut [u8]) -> Drained
-    requires { ⌜ 16640 ≤ length (now out) ⌝ }
+    requires { ⌜ maxAnswer ≤ length (now out) ⌝ }
     ensures { λ r. ⌜ ((r .ok ≡ true → r .taken ≡ span (wholeLines (now (s .entry)))) × (r .taken ≤ length (now (s .entry)))) ⌝ }
 {
     let mut at: usize = 0;
@@ -122,7 +123,7 @@ fn fail(program: Program, what: &[u8]) -> Held
 
 // Answers the whole lines of the first `end` bytes, and keeps what is left of them at the front.
 fn settle(program: Program, buf: &mut [u8], end: usize, out: &mut [u8]) -> Held
-    requires { ⌜ (end ≤ length (now buf)) × (16640 ≤ length (now out)) ⌝ }
+    requires { ⌜ (end ≤ length (now buf)) × (maxAnswer ≤ length (now out)) ⌝ }
     ensures { λ r. ⌜ (r .more ≡ true → (r .have ≡ length (keptAfter (limitOf program) (take end (now (buf .entry))))) × (now (buf .exit) ≡ over (keptAfter (limitOf program) (take end (now (buf .entry)))) (now (buf .entry)))) ⌝ }
     ensures { λ r. ⌜ (r .have ≤ limitOf program) × (r .more ≡ false → r .have ≡ 0) ⌝ }
 {
@@ -155,7 +156,7 @@ fn finish(program: Program, buf: &mut [u8], have: usize, out: &mut [u8])
 
 // Reads once, answers the whole lines and keeps what is left at the front; at the end of the input the last line is answered.
 fn read_once(program: Program, buf: &mut [u8], have: usize, out: &mut [u8]) -> Held
-    requires { ⌜ (have ≤ limitOf program) × ((limitOf program < length (now buf)) × (16640 ≤ length (now out))) ⌝ }
+    requires { ⌜ (have ≤ limitOf program) × ((limitOf program < length (now buf)) × (maxAnswer ≤ length (now out))) ⌝ }
     ensures { λ r. ⌜ (r .have ≤ limitOf program) × (r .more ≡ false → r .have ≡ 0) ⌝ }
 {
     let got = libc::read(STDIN_FILENO, &mut buf[have..]);

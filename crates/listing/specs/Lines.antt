@@ -50,6 +50,9 @@ modeLine op.Write line = six
 modeLine op.Length line = six
 modeLine op.Unknown line = six
 
--- a line of more than 4,096 bytes is not in its form
+-- how long a line may be; a longer one is not in its form
+abbrev pub maxLine : ℕ
+maxLine = 4096
+
 unfoldable pub answerTo : List ℕ → List ℕ
-answerTo line = ended (cond (leb (length line) 4096) (modeLine (opOf (field 0 line)) line) six)
+answerTo line = ended (cond (leb (length line) maxLine) (modeLine (opOf (field 0 line)) line) six)

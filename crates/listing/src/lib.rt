@@ -3,6 +3,7 @@ ghost use mathlib.Core.Path.{_≡_};
 ghost use mathlib.Core.Bool.{false};
 ghost use Rattle.path.specs.Flat.{pathIn};
 ghost use Rattle.grouping.specs.Record.{areaWith};
+ghost use Rattle.case_text.specs.Limits.{maxAnswer};
 ghost use Rattle.case_text.specs.Texts.{ended};
 ghost use Rattle.case_text.specs.Answers.{PutsText, PutsWithin};
 ghost use Rattle.case_text.specs.Fields.{Says};
@@ -94,7 +95,7 @@ fn read_area(line: &[u8]) -> AreaField
 }
 
 // Prints an area from the buffer's first byte on.
-fn print(area: AreaHead, path: &[u8; 641], buffer: &mut [u8; MAX_BYTES]) -> usize
+fn print(area: AreaHead, path: &[u8; path::lent::SIZE], buffer: &mut [u8; MAX_BYTES]) -> usize
     ensures { λ r. ⌜ PutsText 0 (areaText (areaWith area (pathIn (now (path .entry))))) (now (buffer .entry)) (now (buffer .exit)) r ⌝ }
 {
     let subspace = area.subspace;
@@ -111,7 +112,7 @@ fn print(area: AreaHead, path: &[u8; 641], buffer: &mut [u8; MAX_BYTES]) -> usiz
 
 // Reads the area of a line in one of the modes.
 fn read_line(line: &[u8], out: &mut [u8], at: usize, canonic: bool) -> usize
-    ensures { λ r. ⌜ PutsWithin 16640 at (ended (readLine canonic (now (line .entry)))) (now (out .entry)) (now (out .exit)) r ⌝ }
+    ensures { λ r. ⌜ PutsWithin maxAnswer at (ended (readLine canonic (now (line .entry)))) (now (out .entry)) (now (out .exit)) r ⌝ }
 {
     if text::part_count(line, b'\t') != 6 {
         return put::refuse(out, at);
@@ -142,7 +143,7 @@ fn read_line(line: &[u8], out: &mut [u8], at: usize, canonic: bool) -> usize
 
 // Writes the answer to a line from a place on, and answers the next place; where fewer than MAX_ANSWER bytes are free, nothing changes.
 pub fn answer(line: &[u8], out: &mut [u8], at: usize) -> usize
-    ensures { λ r. ⌜ PutsWithin 16640 at (answerTo (now (line .entry))) (now (out .entry)) (now (out .exit)) r ⌝ }
+    ensures { λ r. ⌜ PutsWithin maxAnswer at (answerTo (now (line .entry))) (now (out .entry)) (now (out .exit)) r ⌝ }
 {
     if MAX_LINE < line.len() {
         return put::refuse(out, at);

@@ -1,5 +1,6 @@
 -- Comparing two records component by component: what is known after k components that both have.
 use Rattle.codec.proofs.Prelude.{_≡_, refl, sym, ap, _∙_, List, true, cond, _&&_, ℕ, suc, _+_, _≤_, _<_, add-one, arith, eqb, length, take, drop, getD, length-drop, drop-of-length-le, length-take-le, getD-take, getD-drop, take-suc}
+use Rattle.path.specs.Limits.{maxPathLength}
 use Rattle.path.specs.Record.{Path, componentsOf, sized, wellFormed, lengthAt, startAt}
 use Rattle.codec.specs.Bytes.{sameBytes}
 use Rattle.codec.proofs.SameBytes.{same-refl, different}
@@ -64,11 +65,11 @@ module _ {p q : Path} {k at : ℕ} (t : Together p q k at) where
 
   module _ (hp : k < p .count) (hq : k < q .count) where
     -- the component here, by the arrays' own elements
-    pub left-inside : at + getD (p .lengths) k 0 ≤ 600
+    pub left-inside : at + getD (p .lengths) k 0 ≤ maxPathLength
     unfolding lengthAt
     left-inside = rw (t .start-left) (ends p (t .left) k hp)
 
-    right-inside : at + getD (q .lengths) k 0 ≤ 600
+    right-inside : at + getD (q .lengths) k 0 ≤ maxPathLength
     unfolding lengthAt
     right-inside = rw (t .start-right) (ends q (t .right) k hq)
 

@@ -1,7 +1,7 @@
 -- The components of a well-formed record, one by one: where each starts, how long it is, and what is left after it.
 use Rattle.codec.proofs.Prelude.{_≡_, sym, _∙_, List, _∷_, true, ℕ, _+_, _-_, _≤_, _<_, add-one, arith, leb, eqb, leb-true, le-leb, eqb-true, eq-eqb, length, take, drop, getD, length-drop, drop-cons, drop-drop, length-take-le, getD-take, take-suc, take-take, take-all}
 use Rattle.path.specs.Record.{Path, sumOf, used, componentsOf, sized, wellFormed, TypedPath, lengthAt, startAt}
-use Rattle.path.specs.Limits.{totalOf}
+use Rattle.path.specs.Limits.{maxComponentCount, maxPathLength, totalOf}
 use Rattle.path.proofs.Lists.{sum-snoc, sum-take, cut, drop-cut}
 use Rattle.path.proofs.Limits.{total-split}
 use Rattle.codec.proofs.Tests.{and-left, and-right}
@@ -9,13 +9,13 @@ use Rattle.path.proofs.Record.{well-formed}
 
 -- sizes within the limits
 pub record Fits (p : Path) : Type 0 where
-  pub count : p .count ≤ 20
-  pub total : sumOf (used p) ≤ 600
+  pub count : p .count ≤ maxComponentCount
+  pub total : sumOf (used p) ≤ maxPathLength
 
 -- what a function knows of a path whose sizes it tested
 pub record Formed (p : Path) : Type 0 where
-  pub bytes : length (p .bytes) ≡ 600
-  pub lengths : length (p .lengths) ≡ 20
+  pub bytes : length (p .bytes) ≡ maxPathLength
+  pub lengths : length (p .lengths) ≡ maxComponentCount
   pub well : Fits p
 
 pub formed : {p : Path} → TypedPath p → wellFormed p ≡ true → Formed p
@@ -28,14 +28,14 @@ parts-formed {p} e = let w = well-formed p e in record { bytes = w .room; length
 pub sized-formed : {p : Path} → sized p ≡ true → Formed p
 unfolding sized
 sized-formed {p} e =
-    let f = and-right (eqb (length (p .bytes)) 600) _ e in
-    let g = and-right (eqb (length (p .lengths)) 20) _ f in
+    let f = and-right (eqb (length (p .bytes)) maxPathLength) _ e in
+    let g = and-right (eqb (length (p .lengths)) maxComponentCount) _ f in
     record {
-      bytes = eqb-true (length (p .bytes)) 600 (and-left _ _ e);
-      lengths = eqb-true (length (p .lengths)) 20 (and-left _ _ f);
+      bytes = eqb-true (length (p .bytes)) maxPathLength (and-left _ _ e);
+      lengths = eqb-true (length (p .lengths)) maxComponentCount (and-left _ _ f);
       well = record {
-        count = leb-true (p .count) 20 (and-left _ _ g);
-        total = leb-true (sumOf (used p)) 600 (and-right (leb (p .count) 20) _ g);
+        count = leb-true (p .count) maxComponentCount (and-left _ _ g);
+        total = leb-true (sumOf (used p)) maxPathLength (and-right (leb (p .count) maxComponentCount) _ g);
       };
     }
 
@@ -43,7 +43,7 @@ pub well-sized : (p : Path) → wellFormed p ≡ true → sized p ≡ true
 unfolding sized
 well-sized p e =
     let f = parts-formed e in
-    rw (eq-eqb _ _ (f .bytes), eq-eqb _ _ (f .lengths), le-leb (p .count) 20 (f .well .count)) (le-leb (sumOf (used p)) 600 (f .well .total))
+    rw (eq-eqb _ _ (f .bytes), eq-eqb _ _ (f .lengths), le-leb (p .count) maxComponentCount (f .well .count)) (le-leb (sumOf (used p)) maxPathLength (f .well .total))
 
 -- the bytes of the i-th component
 abbrev pub bytesAt : Path → ℕ → List ℕ
@@ -65,7 +65,7 @@ module _ (p : Path) (f : Formed p) where
   pub total-is : totalOf (componentsOf p) ≡ sumOf (used p)
   total-is = cut (used p) (p .bytes) fits-bytes .total
 
-  pub total-small : totalOf (componentsOf p) ≤ 600
+  pub total-small : totalOf (componentsOf p) ≤ maxPathLength
   total-small = omega (arith, total-is, f .well .total)
 
   pub rest-count : (k : ℕ) → length (drop k (componentsOf p)) ≡ p .count - k
@@ -76,7 +76,7 @@ module _ (p : Path) (f : Formed p) where
       let start = sumOf (take k (used p)) in
       rw (drop-cut k (used p) (p .bytes)) (cut (drop k (used p)) (drop start (p .bytes)) (rw length-drop (omega (arith, sum-take k (used p), fits-bytes))) .total)
 
-  pub rest-small : (k : ℕ) → totalOf (drop k (componentsOf p)) ≤ 600
+  pub rest-small : (k : ℕ) → totalOf (drop k (componentsOf p)) ≤ maxPathLength
   rest-small k = omega (arith, total-split k (componentsOf p), total-small)
 
   pub prefix-count : (k : ℕ) → k ≤ p .count → length (take k (componentsOf p)) ≡ k
@@ -89,7 +89,7 @@ module _ (p : Path) (f : Formed p) where
   pub start-is : (k : ℕ) → k ≤ p .count → startAt p k ≡ sumOf (take k (p .lengths))
   start-is k h = start-sum k ∙ rw (take-take k (p .count) (p .lengths) h)
 
-  pub start-small : (k : ℕ) → startAt p k ≤ 600
+  pub start-small : (k : ℕ) → startAt p k ≤ maxPathLength
   start-small k = omega (arith, total-split k (componentsOf p), total-small)
 
   module _ (i : ℕ) (h : i < p .count) where
@@ -103,7 +103,7 @@ module _ (p : Path) (f : Formed p) where
     pub next-start : startAt p (i + 1) ≡ startAt p i + lengthAt p i
     next-start = start-sum (i + 1) ∙ rw (add-one, take-suc (used p) i 0 in-use, sum-snoc, length-used, ← (start-sum i))
 
-    pub ends : startAt p i + lengthAt p i ≤ 600
+    pub ends : startAt p i + lengthAt p i ≤ maxPathLength
     ends = omega (arith, next-start, start-small (i + 1))
 
     pub bytes-at-long : length (bytesAt p i) ≡ lengthAt p i

@@ -1,7 +1,7 @@
 -- Laws of components and their limits.
 use Rattle.codec.proofs.Prelude.{_≡_, refl, sym, ap, _∙_, List, [], _∷_, _++_, true, ℕ, zero, suc, _+_, _≤_, arith, leb, leb-true, le-leb, length, take, drop, take-append-drop}
 use Rattle.codec.specs.Writings.{All}
-use Rattle.path.specs.Limits.{totalOf, limits, allShort, pathOk, Component, PathOk, TypedComponents}
+use Rattle.path.specs.Limits.{maxComponentLength, maxComponentCount, maxPathLength, totalOf, limits, allShort, pathOk, Component, PathOk, TypedComponents}
 use Rattle.codec.proofs.Tests.{and-left, and-right}
 
 -- ---- totals
@@ -38,20 +38,20 @@ typed-of (c ∷ cs) h = (h .0 .bytes, typed-of cs (h .1))
 
 short-of : (cs : List (List ℕ)) → All Component cs → allShort cs ≡ true
 short-of [] h = refl
-short-of (c ∷ cs) h = rw (le-leb (length c) 300 (h .0 .short)) (short-of cs (h .1))
+short-of (c ∷ cs) h = rw (le-leb (length c) maxComponentLength (h .0 .short)) (short-of cs (h .1))
 
 components-of-short : (cs : List (List ℕ)) → TypedComponents cs → allShort cs ≡ true → All Component cs
 components-of-short [] t e = tt
-components-of-short (c ∷ cs) t e = (record { short = leb-true (length c) 300 (and-left _ _ e); bytes = t .0 }, components-of-short cs (t .1) (and-right (leb (length c) 300) _ e))
+components-of-short (c ∷ cs) t e = (record { short = leb-true (length c) maxComponentLength (and-left _ _ e); bytes = t .0 }, components-of-short cs (t .1) (and-right (leb (length c) maxComponentLength) _ e))
 
-pub limits-total : (total count : ℕ) → limits total count ≡ true → total ≤ 600
-limits-total total count e = leb-true total 600 (and-left _ _ e)
+pub limits-total : (total count : ℕ) → limits total count ≡ true → total ≤ maxPathLength
+limits-total total count e = leb-true total maxPathLength (and-left _ _ e)
 
-pub limits-count : (total count : ℕ) → limits total count ≡ true → count ≤ 20
-limits-count total count e = leb-true count 20 (and-right (leb total 600) _ e)
+pub limits-count : (total count : ℕ) → limits total count ≡ true → count ≤ maxComponentCount
+limits-count total count e = leb-true count maxComponentCount (and-right (leb total maxPathLength) _ e)
 
-pub limits-of : (total count : ℕ) → total ≤ 600 → count ≤ 20 → limits total count ≡ true
-limits-of total count t c = rw (le-leb total 600 t, le-leb count 20 c)
+pub limits-of : (total count : ℕ) → total ≤ maxPathLength → count ≤ maxComponentCount → limits total count ≡ true
+limits-of total count t c = rw (le-leb total maxPathLength t, le-leb count maxComponentCount c)
 
 pub path-ok : (cs : List (List ℕ)) → TypedComponents cs → pathOk cs ≡ true → PathOk cs
 unfolding pathOk

@@ -1,14 +1,15 @@
 -- Numbers, and paths, as flat bytes: there and back.
-use Rattle.codec.proofs.Prelude.{_≡_, refl, sym, ap, _∙_, List, [], _∷_, _++_, append-assoc, append-nil, true, ℕ, zero, suc, _*_, _%_, _^_, _≤_, _<_, mod-eq-of-lt, arith, leb, length, take, drop, length-append, length-take, take-append-drop, take-at, drop-at, take-add, take-take, length-take-le, le-leb, leb-true}
+use Rattle.codec.proofs.Prelude.{_≡_, refl, sym, ap, _∙_, List, [], _∷_, _++_, append-assoc, append-nil, true, ℕ, zero, suc, _-_, _*_, _%_, _^_, _≤_, _<_, mod-eq-of-lt, arith, leb, length, take, drop, length-append, length-take, take-append-drop, take-at, drop-at, take-add, take-take, length-take-le, le-leb, leb-true}
 use Rattle.codec.specs.Answers.{AllBytes}
 use Rattle.codec.proofs.Bytes.{AllBytes·drop, AllBytes·take}
 use Rattle.codec.proofs.Tests.{and-left, and-right}
 use Rattle.compact_u64.specs.BigEndian.{bigEndian, valueOf}
 use Rattle.compact_u64.proofs.BigEndian.{length-bigEndian, valueOf-bigEndian, bigEndian-valueOf}
+use Rattle.path.specs.Limits.{maxComponentLength, maxComponentCount, maxPathLength}
 use Rattle.path.specs.Record.{Path, allAtMost, used, wellFormed, TypedPath}
 use Rattle.path.proofs.Lists.{drop-take}
 use Rattle.path.proofs.Record.{well-formed}
-use Rattle.path.specs.Flat.{shorts, shortsIn, pathFlat, pathIn}
+use Rattle.path.specs.Flat.{pathSize, shorts, shortsIn, pathFlat, pathIn}
 
 -- ---- numbers of n bytes
 pub number-loads : (n v : ℕ) (r : List ℕ) → v < 256 ^ n → valueOf (take n (bigEndian n v ++ r)) ≡ v
@@ -51,36 +52,36 @@ shorts-store (suc n) (x ∷ y ∷ s) h b =
     ∙ sym (ap (λ (k : ℕ). take k (x ∷ y ∷ s)) e)
 
 -- ---- paths, whatever follows
-pub path-long : (p : Path) → TypedPath p → length (pathFlat p) ≡ 641
+pub path-long : (p : Path) → TypedPath p → length (pathFlat p) ≡ pathSize
 unfolding pathFlat
 path-long p t = rw length-append (omega (arith, length-shorts (p .lengths), t .lengths, t .bytes))
 
 -- a count and lengths that fit into their bytes
-pub path-fits : (p : Path) (r : List ℕ) → length (p .bytes) ≡ 600 → length (p .lengths) ≡ 20 → p .count < 256 → allAtMost 65535 (p .lengths) ≡ true → pathIn (pathFlat p ++ r) ≡ p
+pub path-fits : (p : Path) (r : List ℕ) → length (p .bytes) ≡ maxPathLength → length (p .lengths) ≡ maxComponentCount → p .count < 256 → allAtMost 65535 (p .lengths) ≡ true → pathIn (pathFlat p ++ r) ≡ p
 unfolding pathFlat pathIn
 path-fits p r room slots few small =
     let count : p .count % 256 ≡ p .count = mod-eq-of-lt few in
     let e : shorts (p .lengths) ++ p .bytes ++ r ≡ shorts (p .lengths) ++ (p .bytes ++ r) = append-assoc (shorts (p .lengths)) (p .bytes) r in
-    let long : length (shorts (p .lengths)) ≡ 40 = omega (arith, length-shorts (p .lengths), slots) in
-    let lengths : shortsIn 20 (shorts (p .lengths) ++ (p .bytes ++ r)) ≡ p .lengths = rw slots at (shorts-load (p .lengths) (p .bytes ++ r) small) in
-    rw (e, count, lengths, drop-at (shorts (p .lengths)) (p .bytes ++ r) 40 long, take-at (p .bytes) r 600 room)
+    let long : length (shorts (p .lengths)) ≡ 2 * maxComponentCount = omega (arith, length-shorts (p .lengths), slots) in
+    let lengths : shortsIn maxComponentCount (shorts (p .lengths) ++ (p .bytes ++ r)) ≡ p .lengths = rw slots at (shorts-load (p .lengths) (p .bytes ++ r) small) in
+    rw (e, count, lengths, drop-at (shorts (p .lengths)) (p .bytes ++ r) (2 * maxComponentCount) long, take-at (p .bytes) r maxPathLength room)
 
 pub path-loads : (p : Path) (r : List ℕ) → TypedPath p → wellFormed p ≡ true → pathIn (pathFlat p ++ r) ≡ p
 path-loads p r t w =
     let f = well-formed p w in
     path-fits p r (t .bytes) (t .lengths) (omega (arith, f .count))
     (rw take-append-drop at (at-most-append 65535 (take (p .count) (p .lengths)) (drop (p .count) (p .lengths))
-    (at-most-mono 300 65535 (used p) (omega arith) (f .short)) (at-most-mono 0 65535 (drop (p .count) (p .lengths)) (omega arith) (f .lengths))))
+    (at-most-mono maxComponentLength 65535 (used p) (omega arith) (f .short)) (at-most-mono 0 65535 (drop (p .count) (p .lengths)) (omega arith) (f .lengths))))
 
-pub path-stores : (s : List ℕ) → 641 ≤ length s → AllBytes s → pathFlat (pathIn s) ≡ take 641 s
+pub path-stores : (s : List ℕ) → pathSize ≤ length s → AllBytes s → pathFlat (pathIn s) ≡ take pathSize s
 unfolding pathFlat pathIn
 path-stores [] h b = absurd (omega arith)
 path-stores (x ∷ s) h b =
     let count : x % 256 ≡ x = mod-eq-of-lt (b 0) in
     let bytes : AllBytes s = λ i. b (suc i) in
-    ap (λ (c : ℕ). c ∷ (shorts (shortsIn 20 s) ++ take 600 (drop 40 s))) count
-    ∙ ap (λ (l : List ℕ). x ∷ (l ++ take 600 (drop 40 s))) (shorts-store 20 s (omega arith) bytes)
-    ∙ ap (λ (l : List ℕ). x ∷ l) (sym (take-add 40 600 s))
+    ap (λ (c : ℕ). c ∷ (shorts (shortsIn maxComponentCount s) ++ take maxPathLength (drop (2 * maxComponentCount) s))) count
+    ∙ ap (λ (l : List ℕ). x ∷ (l ++ take maxPathLength (drop (2 * maxComponentCount) s))) (shorts-store maxComponentCount s (omega arith) bytes)
+    ∙ ap (λ (l : List ℕ). x ∷ l) (sym (take-add (2 * maxComponentCount) maxPathLength s))
 
 -- a record that was tested whole
 pub flat-back : (p : Path) → TypedPath p → wellFormed p ≡ true → pathIn (pathFlat p) ≡ p
@@ -95,14 +96,14 @@ shorts-taken (suc n) zero (x ∷ y ∷ s) h l = absurd (omega arith)
 shorts-taken (suc n) (suc zero) (x ∷ y ∷ s) h l = absurd (omega arith)
 shorts-taken (suc n) (suc (suc m)) (x ∷ y ∷ s) h l = ap (λ (t : List ℕ). valueOf (x ∷ y ∷ []) ∷ t) (shorts-taken n m s (omega arith) (omega arith))
 
-path-taken : (s : List ℕ) → 641 ≤ length s → pathIn (take 641 s) ≡ pathIn s
+path-taken : (s : List ℕ) → pathSize ≤ length s → pathIn (take pathSize s) ≡ pathIn s
 unfolding pathIn
 path-taken [] h = absurd (omega arith)
 path-taken (x ∷ s) h =
-    let bytes : take 600 (drop 40 (take 640 s)) ≡ take 600 (drop 40 s) = ap (take 600) (drop-take 40 640 s) ∙ take-take 600 600 (drop 40 s) (omega arith) in
-    let lengths : shortsIn 20 (take 640 s) ≡ shortsIn 20 s = shorts-taken 20 640 s (omega arith) (omega arith) in
+    let bytes : take maxPathLength (drop (2 * maxComponentCount) (take (pathSize - 1) s)) ≡ take maxPathLength (drop (2 * maxComponentCount) s) = ap (take maxPathLength) (drop-take (2 * maxComponentCount) (pathSize - 1) s) ∙ take-take maxPathLength maxPathLength (drop (2 * maxComponentCount) s) (omega arith) in
+    let lengths : shortsIn maxComponentCount (take (pathSize - 1) s) ≡ shortsIn maxComponentCount s = shorts-taken maxComponentCount (pathSize - 1) s (omega arith) (omega arith) in
     λ i. record { bytes = bytes i; lengths = lengths i; count = x }
 
 -- a part of other bytes that is a record
-pub path-within : (p s : List ℕ) → (p ≡ take 641 s) × (length p ≡ 641) → pathIn p ≡ pathIn s
-path-within p s e = ap pathIn (e .0) ∙ path-taken s (omega (arith, length-take 641 s, ap length (e .0), e .1))
+pub path-within : (p s : List ℕ) → (p ≡ take pathSize s) × (length p ≡ pathSize) → pathIn p ≡ pathIn s
+path-within p s e = ap pathIn (e .0) ∙ path-taken s (omega (arith, length-take pathSize s, ap length (e .0), e .1))

@@ -3,8 +3,8 @@ use Rattle.codec.proofs.Prelude.{_≡_, refl, sym, ap, _∙_, List, [], _∷_, 
 use lib.ListN.{length-take}
 use Rattle.compact_u64.specs.BigEndian.{valueOf}
 use Rattle.path.specs.Record.{Path, sumOf, used, componentsOf, startAt, allAtMost, lengthAt, sized, wellFormed}
-use Rattle.path.specs.Limits.{totalOf}
-use Rattle.path.specs.Flat.{shortsIn, pathIn, lent}
+use Rattle.path.specs.Limits.{maxComponentLength, maxComponentCount, maxPathLength, totalOf}
+use Rattle.path.specs.Flat.{bytesStart, pathSize, shortsIn, pathIn, lent}
 use Rattle.path.proofs.Lists.{at-most-next, at-most-end, drop-take}
 use Rattle.path.proofs.Shorts.{short-there}
 use Rattle.path.proofs.Components.{Formed, well-sized, start-is, rest-total}
@@ -22,27 +22,27 @@ short-at (suc n) s (suc i) h =
     rw (e, ← (drop-drop (2 * i) 2 s)) (short-at n (drop 2 s) i (omega arith))
 
 module _ (s : List ℕ) where
-  pub slots : length (pathIn s .lengths) ≡ 20
+  pub slots : length (pathIn s .lengths) ≡ maxComponentCount
   unfolding pathIn
-  slots = length-shorts-in 20 (drop 1 s)
+  slots = length-shorts-in maxComponentCount (drop 1 s)
 
-  module _ (h : 641 ≤ length s) where
-    pub room : length (pathIn s .bytes) ≡ 600
+  module _ (h : pathSize ≤ length s) where
+    pub room : length (pathIn s .bytes) ≡ maxPathLength
     unfolding pathIn
-    room = length-take-le 600 (drop 41 s) (rw length-drop (omega arith))
+    room = length-take-le maxPathLength (drop bytesStart s) (rw length-drop (omega arith))
 
-    pub length-there : (i : ℕ) → i < 20 → lengthAt (pathIn s) i ≡ getD s (1 + 2 * i) 0 * 256 + getD s (1 + 2 * i + 1) 0
+    pub length-there : (i : ℕ) → i < maxComponentCount → lengthAt (pathIn s) i ≡ getD s (1 + 2 * i) 0 * 256 + getD s (1 + 2 * i + 1) 0
     unfolding pathIn lengthAt
     length-there i few =
-        let e = short-at 20 (drop 1 s) i few in
+        let e = short-at maxComponentCount (drop 1 s) i few in
         rw (drop-drop (2 * i) 1 s) at e ∙ sym (short-there s (1 + 2 * i) (omega arith))
 
     -- what the functions on any bytes say of a whole record
     pub lent-is : {A : Type 0} (none : A) (part : Path → A) → lent none part s ≡ part (pathIn s)
-    lent-is none part = rw (le-leb 641 (length s) h)
+    lent-is none part = rw (le-leb pathSize (length s) h)
 
 -- fewer bytes than a record's are not within the limits
-pub whole-in : (s : List ℕ) → Formed (pathIn s) → 641 ≤ length s
+pub whole-in : (s : List ℕ) → Formed (pathIn s) → pathSize ≤ length s
 unfolding pathIn
 whole-in s f = omega (arith, rw (length-take, length-drop) at (f .bytes))
 
@@ -61,7 +61,7 @@ module _ (s : List ℕ) (f : Formed (pathIn s)) where
 
 -- ---- sums of lengths
 module _ (s : List ℕ) (i : ℕ) where
-  pub span-next : (to : ℕ) → i < 20 → i < to → sumOf (take (to - i) (drop i (pathIn s .lengths))) ≡ lengthAt (pathIn s) i + sumOf (take (to - (i + 1)) (drop (i + 1) (pathIn s .lengths)))
+  pub span-next : (to : ℕ) → i < maxComponentCount → i < to → sumOf (take (to - i) (drop i (pathIn s .lengths))) ≡ lengthAt (pathIn s) i + sumOf (take (to - (i + 1)) (drop (i + 1) (pathIn s .lengths)))
   unfolding lengthAt
   span-next to few more =
       let there : i < length (pathIn s .lengths) = omega (arith, slots s) in
@@ -69,39 +69,39 @@ module _ (s : List ℕ) (i : ℕ) where
       rw (n, drop-cons (pathIn s .lengths) i 0 there, add-one i)
 
 -- places after the last do not matter
-pub span-capped : (s : List ℕ) (from to : ℕ) → 20 < to → take (to - from) (drop from (pathIn s .lengths)) ≡ take (20 - from) (drop from (pathIn s .lengths))
+pub span-capped : (s : List ℕ) (from to : ℕ) → maxComponentCount < to → take (to - from) (drop from (pathIn s .lengths)) ≡ take (maxComponentCount - from) (drop from (pathIn s .lengths))
 span-capped s from to h =
     let ls = pathIn s .lengths in
     let a : length (drop from ls) ≤ to - from = rw length-drop (omega (arith, slots s)) in
-    let b : length (drop from ls) ≤ 20 - from = rw length-drop (omega (arith, slots s)) in
-    take-all (to - from) (drop from ls) a ∙ sym (take-all (20 - from) (drop from ls) b)
+    let b : length (drop from ls) ≤ maxComponentCount - from = rw length-drop (omega (arith, slots s)) in
+    take-all (to - from) (drop from ls) a ∙ sym (take-all (maxComponentCount - from) (drop from ls) b)
 
 -- ---- the first n lengths, tested from the i-th on
-module _ (s : List ℕ) (n : ℕ) (few : n ≤ 20) where
+module _ (s : List ℕ) (n : ℕ) (few : n ≤ maxComponentCount) where
   in-use : length (take n (pathIn s .lengths)) ≡ n
   in-use = length-take-le n (pathIn s .lengths) (omega (arith, slots s))
 
-  pub short-next : (i : ℕ) → i < n → allAtMost 300 (drop i (take n (pathIn s .lengths))) ≡ (leb (lengthAt (pathIn s) i) 300 && allAtMost 300 (drop (i + 1) (take n (pathIn s .lengths))))
+  pub short-next : (i : ℕ) → i < n → allAtMost maxComponentLength (drop i (take n (pathIn s .lengths))) ≡ (leb (lengthAt (pathIn s) i) maxComponentLength && allAtMost maxComponentLength (drop (i + 1) (take n (pathIn s .lengths))))
   unfolding lengthAt
-  short-next i h = at-most-next 300 (take n (pathIn s .lengths)) i (omega (arith, in-use)) ∙ rw (getD-take n (pathIn s .lengths) i 0 h)
+  short-next i h = at-most-next maxComponentLength (take n (pathIn s .lengths)) i (omega (arith, in-use)) ∙ rw (getD-take n (pathIn s .lengths) i 0 h)
 
-  pub short-end : (i : ℕ) → n ≤ i → allAtMost 300 (drop i (take n (pathIn s .lengths))) ≡ true
-  short-end i h = at-most-end 300 (take n (pathIn s .lengths)) i (omega (arith, in-use))
+  pub short-end : (i : ℕ) → n ≤ i → allAtMost maxComponentLength (drop i (take n (pathIn s .lengths))) ≡ true
+  short-end i h = at-most-end maxComponentLength (take n (pathIn s .lengths)) i (omega (arith, in-use))
 
 -- ---- the test of the sizes
 module _ (s : List ℕ) where
-  pub short-not-sized : length s < 641 → sized (pathIn s) ≡ false
+  pub short-not-sized : length s < pathSize → sized (pathIn s) ≡ false
   unfolding sized pathIn
   short-not-sized h =
-      let short : eqb (length (take 600 (drop 41 s))) 600 ≡ false = ne-eqb (length (take 600 (drop 41 s))) 600 (λ (e : length (take 600 (drop 41 s)) ≡ 600). omega (arith, rw (length-take, length-drop) at e)) in
+      let short : eqb (length (take maxPathLength (drop bytesStart s))) maxPathLength ≡ false = ne-eqb (length (take maxPathLength (drop bytesStart s))) maxPathLength (λ (e : length (take maxPathLength (drop bytesStart s)) ≡ maxPathLength). omega (arith, rw (length-take, length-drop) at e)) in
       rw short
 
-  pub sized-by : 641 ≤ length s → sized (pathIn s) ≡ (leb (pathIn s .count) 20 && leb (sumOf (used (pathIn s))) 600)
+  pub sized-by : pathSize ≤ length s → sized (pathIn s) ≡ (leb (pathIn s .count) maxComponentCount && leb (sumOf (used (pathIn s))) maxPathLength)
   unfolding sized
   sized-by h = rw (eq-eqb _ _ (room s h), eq-eqb _ _ (slots s))
 
-  pub well-by : 641 ≤ length s → wellFormed (pathIn s)
-      ≡ (leb (pathIn s .count) 20 && (allAtMost 300 (used (pathIn s)) && (leb (sumOf (used (pathIn s))) 600
+  pub well-by : pathSize ≤ length s → wellFormed (pathIn s)
+      ≡ (leb (pathIn s .count) maxComponentCount && (allAtMost maxComponentLength (used (pathIn s)) && (leb (sumOf (used (pathIn s))) maxPathLength
       && (allAtMost 0 (drop (pathIn s .count) (pathIn s .lengths)) && allAtMost 0 (drop (sumOf (used (pathIn s))) (pathIn s .bytes))))))
   unfolding wellFormed
   well-by h = rw (eq-eqb _ _ (room s h), eq-eqb _ _ (slots s))
@@ -134,19 +134,19 @@ drop-shorts (suc k) (suc n) s =
     let f : suc n - suc k ≡ n - k = omega arith in
     rw (e, f, ← (drop-drop (2 * k) 2 s)) (drop-shorts k n (drop 2 s))
 
-module _ (s : List ℕ) (h : 641 ≤ length s) where
+module _ (s : List ℕ) (h : pathSize ≤ length s) where
   -- unused lengths and unused bytes, as they stand
-  pub zero-lengths : (n : ℕ) → n ≤ 20 → allAtMost 0 (drop n (pathIn s .lengths)) ≡ allAtMost 0 (take (41 - (1 + 2 * n)) (drop (1 + 2 * n) s))
+  pub zero-lengths : (n : ℕ) → n ≤ maxComponentCount → allAtMost 0 (drop n (pathIn s .lengths)) ≡ allAtMost 0 (take (bytesStart - (1 + 2 * n)) (drop (1 + 2 * n) s))
   unfolding pathIn
   zero-lengths n few =
-      let e : 41 - (1 + 2 * n) ≡ 2 * (20 - n) = omega arith in
-      rw (drop-shorts n 20 (drop 1 s), drop-drop (2 * n) 1 s, e) (zero-shorts (20 - n) (drop (1 + 2 * n) s) (rw length-drop (omega arith)))
+      let e : bytesStart - (1 + 2 * n) ≡ 2 * (maxComponentCount - n) = omega arith in
+      rw (drop-shorts n maxComponentCount (drop 1 s), drop-drop (2 * n) 1 s, e) (zero-shorts (maxComponentCount - n) (drop (1 + 2 * n) s) (rw length-drop (omega arith)))
 
-  pub zero-bytes : (t : ℕ) → allAtMost 0 (drop t (pathIn s .bytes)) ≡ allAtMost 0 (take (641 - (41 + t)) (drop (41 + t) s))
+  pub zero-bytes : (t : ℕ) → allAtMost 0 (drop t (pathIn s .bytes)) ≡ allAtMost 0 (take (pathSize - (bytesStart + t)) (drop (bytesStart + t) s))
   unfolding pathIn
   zero-bytes t =
-      let e : 641 - (41 + t) ≡ 600 - t = omega arith in
-      rw (drop-take t 600 (drop 41 s), drop-drop t 41 s, e)
+      let e : pathSize - (bytesStart + t) ≡ maxPathLength - t = omega arith in
+      rw (drop-take t maxPathLength (drop bytesStart s), drop-drop t bytesStart s, e)
 
 module _ (p : Path) where
   pub unsized-malformed : sized p ≡ false → wellFormed p ≡ false

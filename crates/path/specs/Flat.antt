@@ -1,7 +1,7 @@
 -- docs/ABI.md, "Records": a path as a record of bytes, its count, its lengths of two bytes each, its bytes.
 use mathlib.Core.List.{List, [], _∷_, _++_}
 use mathlib.Core.Bool.{cond}
-use Prim.Native.Nat.{ℕ, zero, suc, _%_}
+use Prim.Native.Nat.{ℕ, zero, suc, _+_, _*_, _%_}
 use lib.Dec.{leb}
 use lib.ListN.{length, take, drop, getD}
 use Rattle.compact_u64.specs.BigEndian.{bigEndian, valueOf}
@@ -13,10 +13,10 @@ abbrev pub lengthsStart : ℕ
 lengthsStart = 1
 
 abbrev pub bytesStart : ℕ
-bytesStart = 41
+bytesStart = lengthsStart + 2 * maxComponentCount
 
 abbrev pub pathSize : ℕ
-pathSize = 641
+pathSize = bytesStart + maxPathLength
 
 -- numbers as two bytes each, and n of them from the first byte on
 abbrev pub shorts : List ℕ → List ℕ

@@ -15,11 +15,11 @@ use crate::ComponentCount;
 use crate::Path;
 
 // How many bytes a record has, and where its lengths and its bytes start.
-pub const SIZE: usize = 641;
+pub const SIZE: usize = BYTES + Path::MAX_PATH_LENGTH;
 
 pub const LENGTHS: usize = 1;
 
-pub const BYTES: usize = 41;
+pub const BYTES: usize = LENGTHS + 2 * Path::MAX_COMPONENT_COUNT;
 
 // Of some components: their bytes in all, and whether none is too long.
 pub struct Lengths {
@@ -52,7 +52,7 @@ fn bytes_in<'a>(path: &'a [u8]) -> &'a [u8]
 }
 
 // The empty record.
-pub fn clear(out: &mut [u8; 641])
+pub fn clear(out: &mut [u8; SIZE])
     ensures { λ _. ⌜ now (out .exit) ≡ replicate pathSize 0 ⌝ }
 {
     *out = [0u8; SIZE];

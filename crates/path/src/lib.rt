@@ -12,7 +12,7 @@ mod path_builder;
 
 // A path: its record of bytes, as callers in other languages hold it too. Functions are lent the bytes.
 pub struct Path {
-    pub flat: [u8; 641],
+    pub flat: [u8; lent::SIZE],
 }
 
 // A path that grows by components in a lent record: the sum of their lengths, and their number.

@@ -61,7 +61,7 @@ impl PathBuilder {
     }
 
     // One component more; its bytes and its length go after those that are there.
-    pub fn append_component(self, out: &mut [u8; 641], component: &[u8]) -> Growth
+    pub fn append_component(self, out: &mut [u8; lent::SIZE], component: &[u8]) -> Growth
         ensures { λ r. ⌜ Appends self (now (component .entry)) (now (out .entry)) r (now (out .exit)) ⌝ }
     {
         let n = component.len();
@@ -86,7 +86,7 @@ impl PathBuilder {
     }
 
     // The builder of a path's first `k` components, their bytes and their lengths each copied at once; the empty one beside a refusal.
-    pub fn new_from_prefix(path: &[u8], k: usize, out: &mut [u8; 641]) -> Growth
+    pub fn new_from_prefix(path: &[u8], k: usize, out: &mut [u8; lent::SIZE]) -> Growth
         ensures { λ r. ⌜ Prefixes (pathIn (now (path .entry))) k r (now (out .exit)) ⌝ }
     {
         lent::clear(out);

@@ -11,7 +11,12 @@ use codec::Decoded;
 use codec::Encoded;
 
 // Reads a plain path; beside a refusal the record is the empty one.
-pub fn decode(message: &[u8], start: usize, canonic: bool, out: &mut [u8; 641]) -> Decoded
+pub fn decode(
+    message: &[u8],
+    start: usize,
+    canonic: bool,
+    out: &mut [u8; path::lent::SIZE],
+) -> Decoded
     ensures { λ r. ⌜ Gives (pathFrom []) r (pathIn (now (out .exit))) (readPath canonic (drop start (now (message .entry)))) ⌝ }
 {
     let sizes = path_suffix_decode::decode_sizes(message, start, canonic);

@@ -9,7 +9,7 @@ use Rattle.codec.proofs.Bounded.{then-bounded, checked-bounded, mapped-bounded}
 use Rattle.compact_u64.specs.Number.{standaloneBytes, readStandalone}
 use Rattle.compact_u64.proofs.Relations.{StandaloneAs}
 use Rattle.compact_u64.proofs.Standalone.{standalone-reads, standalone-relaxes, standalone-bounded, standalone-short}
-use Rattle.path.specs.Limits.{totalOf, Component, PathOk}
+use Rattle.path.specs.Limits.{maxComponentCount, maxPathLength, totalOf, Component, PathOk}
 use Rattle.path.specs.Prefix.{shared}
 use Rattle.codec.proofs.Tests.{and-left, and-right}
 use Rattle.path.proofs.Limits.{total-append, total-split, all-append, all-take, all-drop, limits-total, limits-count, limits-of}
@@ -23,8 +23,8 @@ use Rattle.path_relative.proofs.Relations.{AgainstAs}
 -- ---- the limits of the whole path, as a test and as facts
 pub record JoinOk (r : List (List ℕ)) (k total count : ℕ) : Type 0 where
   pub there : k ≤ length r
-  pub totals : totalOf (take k r) + total ≤ 600
-  pub counts : k + count ≤ 20
+  pub totals : totalOf (take k r) + total ≤ maxPathLength
+  pub counts : k + count ≤ maxComponentCount
 
 pub join-ok : (r : List (List ℕ)) (k total count : ℕ) → joinOk r k total count ≡ true → JoinOk r k total count
 unfolding joinOk

@@ -5,7 +5,7 @@ use Rattle.codec.specs.Reads.{Yields}
 use Rattle.codec.proofs.Yields.{yields-as, guard-yields, mapped-yields}
 use Rattle.path.specs.Record.{Path, componentsOf, pathFrom, sized, lengthAt, startAt}
 use Rattle.path.specs.inside.Sizes.{Leads}
-use Rattle.path.specs.Limits.{totalOf, limits}
+use Rattle.path.specs.Limits.{maxComponentCount, maxPathLength, totalOf, limits}
 use Rattle.path.specs.Prefix.{shared}
 use Rattle.path.proofs.Record.{components-of}
 use Rattle.path.proofs.Limits.{limits-total, limits-count, total-append}
@@ -77,8 +77,8 @@ on-alike canonic p k here total count = rw (here .fits, le-leb k (p .count) (her
     yields-as _ _ _ (components-yields canonic count 0 total) (λ ds y.
     let cs = take k (componentsOf p) in
     let long : length (take k (componentsOf p)) ≡ k = prefix-count p (sized-formed (here .fits)) k (here .there) in
-    let fits : totalOf (take k (componentsOf p) ++ ds) ≤ 600 = omega (arith, total-append cs ds, y .sum, limits-total (totalOf cs + total) (length cs + count) within) in
-    let few : length (take k (componentsOf p) ++ ds) ≤ 20 = omega (arith, length-append cs ds, y .count, limits-count (totalOf cs + total) (length cs + count) within) in
+    let fits : totalOf (take k (componentsOf p) ++ ds) ≤ maxPathLength = omega (arith, total-append cs ds, y .sum, limits-total (totalOf cs + total) (length cs + count) within) in
+    let few : length (take k (componentsOf p) ++ ds) ≤ maxComponentCount = omega (arith, length-append cs ds, y .count, limits-count (totalOf cs + total) (length cs + count) within) in
     let is : sized (pathFrom (take k (componentsOf p) ++ ds)) ≡ true = sized-from (cs ++ ds) few fits in
     let all = components-of (cs ++ ds) in
     record {

@@ -8,7 +8,7 @@ use Rattle.codec.proofs.Bytes.{AllBytes·drop}
 use Rattle.compact_u64.specs.Number.{readStandalone}
 use Rattle.path.specs.Record.{Path, componentsOf, pathFrom}
 use Rattle.path.specs.inside.Sizes.{Leads}
-use Rattle.path.specs.Limits.{totalOf, limits}
+use Rattle.path.specs.Limits.{maxComponentCount, maxPathLength, totalOf, limits}
 use Rattle.path.specs.Prefix.{shared}
 use Rattle.path.proofs.Record.{components-of}
 use Rattle.path.proofs.Limits.{limits-of, total-append}
@@ -121,13 +121,13 @@ module _ (formed : Path → Bool) (canonic : Bool) (r : Path) (w : formed r ≡ 
         go true (refused k) e = rw e
         go false x e = refl
 
-    pub extends-long : 600 < totalOf (componentsOf r) + total → readExtendsBy formed canonic r (drop i s) ≡ checked (λ p. false) (readPath canonic) (drop i s)
-    extends-long h = extends-outside (rw (lt-leb (totalOf (componentsOf r) + total) 600 h))
+    pub extends-long : maxPathLength < totalOf (componentsOf r) + total → readExtendsBy formed canonic r (drop i s) ≡ checked (λ p. false) (readPath canonic) (drop i s)
+    extends-long h = extends-outside (rw (lt-leb (totalOf (componentsOf r) + total) maxPathLength h))
 
-    pub extends-many : totalOf (componentsOf r) + total ≤ 600 → 20 < r .count + count → readExtendsBy formed canonic r (drop i s) ≡ checked (λ p. false) (readPath canonic) (drop i s)
-    extends-many h l = extends-outside (rw (le-leb (totalOf (componentsOf r) + total) 600 h, lt-leb (r .count + count) 20 l))
+    pub extends-many : totalOf (componentsOf r) + total ≤ maxPathLength → maxComponentCount < r .count + count → readExtendsBy formed canonic r (drop i s) ≡ checked (λ p. false) (readPath canonic) (drop i s)
+    extends-many h l = extends-outside (rw (le-leb (totalOf (componentsOf r) + total) maxPathLength h, lt-leb (r .count + count) maxComponentCount l))
 
-    pub extends-more : totalOf (componentsOf r) + total ≤ 600 → r .count + count ≤ 20 → readExtendsBy formed canonic r (drop i s) ≡ shift n (readMore canonic (componentsOf r) total count (drop (i + n) s))
+    pub extends-more : totalOf (componentsOf r) + total ≤ maxPathLength → r .count + count ≤ maxComponentCount → readExtendsBy formed canonic r (drop i s) ≡ shift n (readMore canonic (componentsOf r) total count (drop (i + n) s))
     unfolding readExtension readSuffix readMore
     extends-more h l =
         let fits = limits-of (totalOf (componentsOf r) + total) (r .count + count) h l in

@@ -6,7 +6,7 @@ use Rattle.codec.proofs.Relations.{Mapped, Tested}
 use Rattle.codec.proofs.Readers.{reads-as, checked-reads, mapped-reads}
 use Rattle.codec.proofs.Relaxes.{relaxes-back, checked-relaxes, mapped-relaxes}
 use Rattle.codec.proofs.Bounded.{checked-bounded, mapped-bounded}
-use Rattle.path.specs.Limits.{totalOf, limits, Component, PathOk}
+use Rattle.path.specs.Limits.{maxComponentCount, maxPathLength, totalOf, limits, Component, PathOk}
 use Rattle.path.proofs.Limits.{total-append, all-append, all-drop, limits-total, limits-count, limits-of}
 use Rattle.path_suffix.proofs.Relations.{SuffixAs}
 use Rattle.path_suffix.proofs.Suffix.{suffix-reads, suffix-relaxes, suffix-bounded, suffix-empty}
@@ -50,8 +50,8 @@ module _ (r : List (List ℕ)) (wf : PathOk r) where
       let whole : r ++ drop (length r) p ≡ p = cc (take-append-drop (length r) p, x .extends) in
       let tot : totalOf r + totalOf d ≡ totalOf p = sym (total-append r d) ∙ ap totalOf whole in
       let cnt : length d ≤ length p = simp length-drop (omega arith) in
-      let t : totalOf d ≤ 600 = omega (arith, tot, x .ok .total) in
-      let c : length d ≤ 20 = omega (arith, cnt, x .ok .count) in (
+      let t : totalOf d ≤ maxPathLength = omega (arith, tot, x .ok .total) in
+      let c : length d ≤ maxComponentCount = omega (arith, cnt, x .ok .count) in (
         limits-of (totalOf p) (length p) (x .ok .total) (x .ok .count),
         record {
           value = d;

@@ -10,6 +10,7 @@ use Rattle.path.proofs.Components.{Formed, sized-formed, well-sized, count-is, 
 use Rattle.path.proofs.Prefix.{shares}
 use Rattle.path.proofs.Verdicts.{said-known, unsaid-known}
 use Rattle.codec.proofs.Lawful.{verdict-allowed}
+use Rattle.path_suffix.specs.Lengths.{maxSuffixLength}
 use Rattle.path_suffix.proofs.Suffix.{suffix-short}
 use Rattle.path_suffix.specs.Suffix.{suffixBytes, suffixBy}
 use Rattle.path_relative.specs.Records.{sharedBy, extendsBy, againstPath, extendsPath}
@@ -76,7 +77,7 @@ module _ (r p : Path) where
         let right : extendsBy sized r .check p ≡ allowed = rw (prefixed .0, prefixed .1) in
         rw count (left ∙ sym right, ap (λ (k : ℕ). suffixBytes (drop k (componentsOf p))) (sym long))
 
-  pub extends-short : extendsBy sized r .check p ≡ allowed → length (extendsBy sized r .encode p) ≤ 1000
+  pub extends-short : extendsBy sized r .check p ≡ allowed → length (extendsBy sized r .encode p) ≤ maxSuffixLength
   extends-short ok =
       let both = verdict-allowed (sized r && sized p) (isPrefix (componentsOf r) (componentsOf p)) ok .0 in
       let f = sized-formed (and-right (sized r) (sized p) both) in

@@ -7,6 +7,7 @@ use Rattle.codec.proofs.Lending.{put-refused-value, put-full, put-fits, put-ref
 use Rattle.compact_u64.specs.Number.{standaloneBytes}
 use Rattle.path.specs.Record.{Path, componentsOf}
 use Rattle.path.proofs.Components.{Formed, rest-count, rest-small}
+use Rattle.path_suffix.specs.Lengths.{maxSuffixLength}
 use Rattle.path_suffix.specs.Suffix.{suffixBy}
 use Rattle.path_suffix.proofs.Suffix.{suffix-short}
 use Rattle.path_relative.specs.Records.{sharedBy}
@@ -61,7 +62,7 @@ short-unchanged (refusedValue k) bs l h = put-refused-value (refusedValue k) bs 
 
 -- ---- the number of shared components and the suffix after them, whatever is tested of the record
 module _ (formed : Path → Bool) (p : Path) (k : ℕ) where
-  pub within-by : (formed p ≡ true → Formed p) → suffixBy formed k .check p ≡ allowed → length (suffixBy formed k .encode p) ≤ 1000
+  pub within-by : (formed p ≡ true → Formed p) → suffixBy formed k .check p ≡ allowed → length (suffixBy formed k .encode p) ≤ maxSuffixLength
   within-by known ok =
       let f = known (verdict-allowed (formed p) (leb k (p .count)) ok .0) in
       omega (arith, suffix-short (drop k (componentsOf p)), rest-count p f k, rest-small p f k, f .well .count)

@@ -15,7 +15,7 @@ pub fn relative_decode(
     start: usize,
     canonic: bool,
     reference: &[u8],
-    out: &mut [u8; 641],
+    out: &mut [u8; path::lent::SIZE],
 ) -> Decoded
     ensures { λ r. ⌜ Gives (pathFrom []) r (pathIn (now (out .exit))) (readAgainstPath canonic (pathIn (now (reference .entry))) (drop start (now (message .entry)))) ⌝ }
 {
@@ -33,7 +33,7 @@ pub fn decode_path_extends_path(
     start: usize,
     canonic: bool,
     extends: &[u8],
-    out: &mut [u8; 641],
+    out: &mut [u8; path::lent::SIZE],
 ) -> Decoded
     ensures { λ r. ⌜ Gives (pathFrom []) r (pathIn (now (out .exit))) (readExtendsPath canonic (pathIn (now (extends .entry))) (drop start (now (message .entry)))) ⌝ }
 {

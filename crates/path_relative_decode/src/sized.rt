@@ -49,7 +49,7 @@ fn decode_joined(
     total: u64,
     count: u64,
     reference: &[u8],
-    out: &mut [u8; 641],
+    out: &mut [u8; path::lent::SIZE],
 ) -> Decoded
     requires { ⌜ Leads (pathIn (now reference)) k ⌝ }
     ensures { λ r. ⌜ Gives (pathFrom []) r (pathIn (now (out .exit))) (readJoined canonic (pathIn (now (reference .entry))) k total count (now (message .entry))) ⌝ }
@@ -105,7 +105,7 @@ fn decode_tested(
     total: u64,
     count: u64,
     reference: &[u8],
-    out: &mut [u8; 641],
+    out: &mut [u8; path::lent::SIZE],
 ) -> Decoded
     requires { ⌜ Leads (pathIn (now reference)) k ⌝ }
     ensures { λ r. ⌜ Gives (pathFrom []) r (pathIn (now (out .exit))) (readTested within canonic (pathIn (now (reference .entry))) k total count (now (message .entry))) ⌝ }
@@ -132,7 +132,7 @@ fn decode_by(
     within: bool,
     canonic: bool,
     reference: &[u8],
-    out: &mut [u8; 641],
+    out: &mut [u8; path::lent::SIZE],
 ) -> Decoded
     ensures { λ r. ⌜ Gives (pathFrom []) r (pathIn (now (out .exit))) (readTestedBy sized within canonic (pathIn (now (reference .entry))) (drop start (now (message .entry)))) ⌝ }
 {
@@ -172,7 +172,7 @@ pub fn relative_decode(
     start: usize,
     canonic: bool,
     reference: &[u8],
-    out: &mut [u8; 641],
+    out: &mut [u8; path::lent::SIZE],
 ) -> Decoded
     ensures { λ r. ⌜ Gives (pathFrom []) r (pathIn (now (out .exit))) (readAgainstBy sized canonic (pathIn (now (reference .entry))) (drop start (now (message .entry)))) ⌝ }
 {
@@ -185,7 +185,7 @@ pub fn decode_path_within(
     start: usize,
     canonic: bool,
     reference: &[u8],
-    out: &mut [u8; 641],
+    out: &mut [u8; path::lent::SIZE],
 ) -> Decoded
     ensures { λ r. ⌜ Gives (pathFrom []) r (pathIn (now (out .exit))) (readWithinBy sized canonic (pathIn (now (reference .entry))) (drop start (now (message .entry)))) ⌝ }
 {
@@ -193,7 +193,12 @@ pub fn decode_path_within(
 }
 
 // A suffix that does not fit after its prefix: refused as a plain path is, else since the whole passes the limits.
-fn decode_outside(message: &[u8], start: usize, canonic: bool, out: &mut [u8; 641]) -> Decoded
+fn decode_outside(
+    message: &[u8],
+    start: usize,
+    canonic: bool,
+    out: &mut [u8; path::lent::SIZE],
+) -> Decoded
     ensures { λ r. ⌜ Gives (pathFrom []) r (pathIn (now (out .exit))) (checked (λ p. false) (readPath canonic) (drop start (now (message .entry)))) ⌝ }
 {
     let answer = path_codec::decode(message, start, canonic, out);
@@ -210,7 +215,7 @@ pub fn decode_path_extends_path(
     start: usize,
     canonic: bool,
     extends: &[u8],
-    out: &mut [u8; 641],
+    out: &mut [u8; path::lent::SIZE],
 ) -> Decoded
     ensures { λ r. ⌜ Gives (pathFrom []) r (pathIn (now (out .exit))) (readExtendsBy sized canonic (pathIn (now (extends .entry))) (drop start (now (message .entry)))) ⌝ }
 {

@@ -9,6 +9,7 @@ use Rattle.codec.proofs.Bounded.{give-bounded, someBytes-bounded, then-bounded,
 use Rattle.compact_u64.specs.Number.{standaloneBytes, readStandalone}
 use Rattle.compact_u64.proofs.Relations.{StandaloneAs}
 use Rattle.compact_u64.proofs.Standalone.{standalone-reads, standalone-relaxes, standalone-bounded}
+use Rattle.path.specs.Limits.{maxComponentLength}
 use Rattle.path_suffix.specs.Suffix.{sizedBytes, componentBytes, readSized, readLast, readComponents}
 use Rattle.path_suffix.proofs.Relations.{SizedAs, LastAs, ComponentsAs}
 
@@ -16,42 +17,42 @@ use Rattle.path_suffix.proofs.Relations.{SizedAs, LastAs, ComponentsAs}
 pub sized-reads : Reads (readSized true) SizedAs
 unfolding readSized
 sized-reads = reads-as _ _ _
-    (then-reads (readStandalone true) StandaloneAs _ _ standalone-reads (λ len e x. guard-reads (leb len 300) _ _ (λ ok. someBytes-reads len)))
+    (then-reads (readStandalone true) StandaloneAs _ _ standalone-reads (λ len e x. guard-reads (leb len maxComponentLength) _ _ (λ ok. someBytes-reads len)))
     (λ c e j.
     let s = j .second .1 in
-    record { ok = record { short = omega (arith, s .0, leb-true (j .value) 300 (j .second .0)); bytes = s .1 }; bytes = cc })
+    record { ok = record { short = omega (arith, s .0, leb-true (j .value) maxComponentLength (j .second .0)); bytes = s .1 }; bytes = cc })
     (λ c e s. record {
       value = length c;
       front = standaloneBytes (length c);
       rear = c;
       whole = s .bytes;
       first = record { small = omega (arith, s .ok .short); bytes = refl };
-      second = (le-leb (length c) 300 (s .ok .short), (refl, s .ok .bytes, refl));
+      second = (le-leb (length c) maxComponentLength (s .ok .short), (refl, s .ok .bytes, refl));
     })
 
 pub sized-relaxes : Relaxes (readSized true) (readSized false)
 unfolding readSized
-sized-relaxes = then-relaxes (readStandalone true) (readStandalone false) _ _ standalone-relaxes (λ len. relaxes-self (guard (leb len 300) (someBytes len)))
+sized-relaxes = then-relaxes (readStandalone true) (readStandalone false) _ _ standalone-relaxes (λ len. relaxes-self (guard (leb len maxComponentLength) (someBytes len)))
 
 pub sized-bounded : (canonic : Bool) → Bounded (readSized canonic)
 unfolding readSized
-sized-bounded canonic = then-bounded (readStandalone canonic) _ (standalone-bounded canonic) (λ len. guard-bounded (leb len 300) _ (someBytes-bounded len))
+sized-bounded canonic = then-bounded (readStandalone canonic) _ (standalone-bounded canonic) (λ len. guard-bounded (leb len maxComponentLength) _ (someBytes-bounded len))
 
 last-reads : (used total : ℕ) → Reads (readLast used total) (LastAs used total)
 unfolding readLast
 last-reads used total = reads-as _ _ _
-    (guard-reads (leb used total) _ _ (λ ok. guard-reads (leb (total - used) 300) _ _ (λ ok. someBytes-reads (total - used))))
+    (guard-reads (leb used total) _ _ (λ ok. guard-reads (leb (total - used) maxComponentLength) _ _ (λ ok. someBytes-reads (total - used))))
     (λ c e j.
     let s = j .1 .1 in
-    record { ok = record { short = omega (arith, s .0, leb-true (total - used) 300 (j .1 .0)); bytes = s .1 }; sum = omega (arith, s .0, leb-true used total (j .0)); bytes = s .2 })
+    record { ok = record { short = omega (arith, s .0, leb-true (total - used) maxComponentLength (j .1 .0)); bytes = s .1 }; sum = omega (arith, s .0, leb-true used total (j .0)); bytes = s .2 })
     (λ c e s.
     let short = s .ok .short in
     let sum = s .sum in
-    (le-leb used total (omega arith), (le-leb (total - used) 300 (omega arith), (omega arith, s .ok .bytes, s .bytes))))
+    (le-leb used total (omega arith), (le-leb (total - used) maxComponentLength (omega arith), (omega arith, s .ok .bytes, s .bytes))))
 
 last-bounded : (used total : ℕ) → Bounded (readLast used total)
 unfolding readLast
-last-bounded used total = guard-bounded (leb used total) _ (guard-bounded (leb (total - used) 300) _ (someBytes-bounded (total - used)))
+last-bounded used total = guard-bounded (leb used total) _ (guard-bounded (leb (total - used) maxComponentLength) _ (someBytes-bounded (total - used)))
 
 -- ---- so many components
 pub bytes-cons : (c : List ℕ) (cs : List (List ℕ)) (n : ℕ) → length cs ≡ suc n → componentBytes (c ∷ cs) ≡ sizedBytes c ++ componentBytes cs

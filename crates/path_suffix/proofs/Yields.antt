@@ -4,7 +4,7 @@ use Rattle.codec.specs.Reader.{give}
 use Rattle.codec.specs.Reads.{Yields}
 use Rattle.codec.proofs.Yields.{yields-as, give-yields, someBytes-yields, then-yields, guard-yields, mapped-yields}
 use Rattle.compact_u64.specs.Number.{readStandalone}
-use Rattle.path.specs.Limits.{totalOf, Component}
+use Rattle.path.specs.Limits.{maxComponentLength, totalOf, Component}
 use Rattle.path_suffix.specs.Suffix.{readSizes, readSized, readLast, readComponents, readSuffix}
 use Rattle.path_suffix.proofs.Relations.{ComponentsOk, SuffixOk}
 
@@ -12,16 +12,16 @@ sized-yields : (canonic : Bool) → Yields (readSized canonic) Component
 unfolding readSized
 sized-yields canonic =
     then-yields (readStandalone canonic) _ (λ len. Unit {0}) Component (record { holds = λ s a n h e. tt }) (λ len x.
-    guard-yields (leb len 300) _ Component (λ ok.
-    yields-as _ _ Component (someBytes-yields len) (λ c y. record { short = omega (arith, y .0, leb-true len 300 ok); bytes = y .1 })))
+    guard-yields (leb len maxComponentLength) _ Component (λ ok.
+    yields-as _ _ Component (someBytes-yields len) (λ c y. record { short = omega (arith, y .0, leb-true len maxComponentLength ok); bytes = y .1 })))
 
 last-yields : (used total : ℕ) → Yields (readLast used total) (λ c. Component c × (used + length c ≡ total))
 unfolding readLast
 last-yields used total =
     guard-yields (leb used total) _ _ (λ below.
-    guard-yields (leb (total - used) 300) _ _ (λ ok.
+    guard-yields (leb (total - used) maxComponentLength) _ _ (λ ok.
     yields-as _ _ _ (someBytes-yields (total - used)) (λ c y.
-    (record { short = omega (arith, y .0, leb-true (total - used) 300 ok); bytes = y .1 }, omega (arith, y .0, leb-true used total below)))))
+    (record { short = omega (arith, y .0, leb-true (total - used) maxComponentLength ok); bytes = y .1 }, omega (arith, y .0, leb-true used total below)))))
 
 pub components-yields : (canonic : Bool) (n used total : ℕ) → Yields (readComponents canonic n used total) (ComponentsOk n used total)
 unfolding readComponents

@@ -1,3 +1,4 @@
 pub mod Header
+pub mod Lengths
 pub mod Suffix
 pub mod inside

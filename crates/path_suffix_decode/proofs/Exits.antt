@@ -6,6 +6,7 @@ use Rattle.codec.specs.declared.Decoded.the-variants as decoded
 use Rattle.codec.proofs.Answers.{gives-refused, gives-accepted}
 use Rattle.compact_u64.specs.Number.{readNumber, readStandalone}
 use Rattle.compact_u64.proofs.Standalone.{standalone-bounded}
+use Rattle.path.specs.Limits.{maxComponentLength}
 use Rattle.path_suffix.specs.Header.{headerLength, totalWidth, countWidth, unpackTags}
 use Rattle.path_suffix.specs.Suffix.{Sizes, sizesFrom, readSizes, readSized}
 use Rattle.path_suffix.proofs.Header.{sizes-bounded}
@@ -53,9 +54,9 @@ module _ (canonic : Bool) (m : List ℕ) (at : ℕ) where
   sized-number k e = rw e
 
   module _ (n u : ℕ) (e : readStandalone canonic (drop at m) ≡ accepted n u) where
-    pub sized-long : 300 < n → readSized canonic (drop at m) ≡ refused 2
+    pub sized-long : maxComponentLength < n → readSized canonic (drop at m) ≡ refused 2
     unfolding readSized
-    sized-long h = rw (e, lt-leb n 300 h)
+    sized-long h = rw (e, lt-leb n maxComponentLength h)
 
     module _ (here : at ≤ length m) where
       pub length-inside : at + u ≤ length m
@@ -64,17 +65,17 @@ module _ (canonic : Bool) (m : List ℕ) (at : ℕ) where
       rest : length (drop u (drop at m)) ≡ length m - (at + u)
       rest = rw (drop-drop u at m) (length-drop (at + u) m)
 
-      pub sized-short : n ≤ 300 → length m - (at + u) < n → readSized canonic (drop at m) ≡ refused 1
+      pub sized-short : n ≤ maxComponentLength → length m - (at + u) < n → readSized canonic (drop at m) ≡ refused 1
       unfolding readSized
-      sized-short h l = rw (e, le-leb n 300 h, lt-leb n (length (drop u (drop at m))) (rw rest l))
+      sized-short h l = rw (e, le-leb n maxComponentLength h, lt-leb n (length (drop u (drop at m))) (rw rest l))
 
-      pub sized-there : n ≤ 300 → n ≤ length m - (at + u) → ReadsSized canonic m at (record { answer = decoded.Consumed (u + n); begin = at + u; end = at + u + n })
+      pub sized-there : n ≤ maxComponentLength → n ≤ length m - (at + u) → ReadsSized canonic m at (record { answer = decoded.Consumed (u + n); begin = at + u; end = at + u + n })
       unfolding readSized
       sized-there h l =
           let bytes : at + u + n - (at + u) ≡ n = omega arith in
           let inside = length-inside in
           record {
-            answer = gives-accepted (rw (e, le-leb n 300 h, le-leb n (length (drop u (drop at m))) (rw rest l), drop-drop u at m, bytes));
+            answer = gives-accepted (rw (e, le-leb n maxComponentLength h, le-leb n (length (drop u (drop at m))) (rw rest l), drop-drop u at m, bytes));
             ordered = omega arith;
             inside = omega arith;
             short = omega arith;

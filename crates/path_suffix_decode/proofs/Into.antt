@@ -5,7 +5,7 @@ use Rattle.codec.specs.Reader.{shift, named}
 use Rattle.codec.specs.declared.Decoded.the-variants as decoded
 use Rattle.path.specs.declared.PathBuilder.{PathBuilder}
 use Rattle.path.specs.declared.Growth.{Growth}
-use Rattle.path.specs.Limits.{totalOf}
+use Rattle.path.specs.Limits.{maxComponentLength, maxComponentCount, maxPathLength, totalOf}
 use Rattle.path.specs.Record.{componentsOf, pathFrom}
 use Rattle.path.specs.Flat.{pathFlat, pathIn}
 use Rattle.path.specs.Builder.{built, builtFrom, Appends}
@@ -57,7 +57,7 @@ pub record Held (canonic : Bool) (m : List ℕ) (count total : ℕ) (first : Lis
   pub more : 1 ≤ left
   pub counts : length done + left ≡ count
   pub sums : totalOf done ≡ used
-  pub small : used + 300 * left ≤ 300 * count
+  pub small : used + maxComponentLength * left ≤ maxComponentLength * count
   pub inside : at ≤ length m
   pub kept : used ≤ total → built b s ≡ builtFrom (first ++ done)
   pub still : readComponents canonic count 0 total m ≡ later canonic left used total done at m
@@ -76,8 +76,8 @@ held-first {canonic} {m} {count} {total} {b} {s} h r = record {
 
 -- room for all of them
 pub record Room (first : List (List ℕ)) (count total : ℕ) : Type 0 where
-  pub few : length first + count ≤ 20
-  pub fits : totalOf first + total ≤ 600
+  pub few : length first + count ≤ maxComponentCount
+  pub fits : totalOf first + total ≤ maxPathLength
 
 pub ready-room : {b : PathBuilder} {s : List ℕ} {count total : ℕ} → Ready b s count total → Room (componentsOf (pathIn s)) count total
 ready-room {b} {s} {count} {total} r =
@@ -122,10 +122,10 @@ module _ {canonic : Bool} {m : List ℕ} {count total : ℕ} {first : List (List
   module _ (room : Room first count total) where
     -- ---- after the loop: the last component
     module _ (l : left ≤ 1) (within : used ≤ total) where
-      end-few : length (first ++ h .done) + 1 ≤ 20
+      end-few : length (first ++ h .done) + 1 ≤ maxComponentCount
       end-few = omega (arith, length-append first (h .done), h .counts, h .more, room .few)
 
-      end-fits : totalOf (first ++ h .done) + (total - used) ≤ 600
+      end-fits : totalOf (first ++ h .done) + (total - used) ≤ maxPathLength
       end-fits = omega (arith, total-append first (h .done), h .sums, room .fits)
 
       end-components : componentsOf (pathIn s) ≡ first ++ h .done

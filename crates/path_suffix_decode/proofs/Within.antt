@@ -10,7 +10,7 @@ use Rattle.path.specs.Record.{Path, componentsOf, pathFrom, sized}
 use Rattle.path.specs.declared.Appended.{Appended}
 use Rattle.path.specs.declared.Appended.the-variants as appended
 use Rattle.path.specs.declared.PathBuilder.{PathBuilder}
-use Rattle.path.specs.Limits.{totalOf, limits}
+use Rattle.path.specs.Limits.{maxComponentLength, maxComponentCount, maxPathLength, totalOf, limits}
 use Rattle.path.specs.Flat.{pathFlat, pathIn}
 use Rattle.path.specs.Builder.{built, builtFrom, appendedVerdict, ifAllowed}
 use Rattle.path.proofs.Limits.{limits-of, limits-total, limits-count, total-append}
@@ -28,18 +28,18 @@ module _ (cs : List (List ℕ)) (used total at : ℕ) (m : List ℕ) where
   last-over h = rw (lt-leb used total h)
 
   module _ (h : used ≤ total) where
-    pub last-long : 300 < total - used → lastInto cs used total at m ≡ refused 2
+    pub last-long : maxComponentLength < total - used → lastInto cs used total at m ≡ refused 2
     unfolding lastInto readLast
-    last-long l = rw (le-leb used total h, lt-leb (total - used) 300 l)
+    last-long l = rw (le-leb used total h, lt-leb (total - used) maxComponentLength l)
 
-    module _ (short : total - used ≤ 300) where
+    module _ (short : total - used ≤ maxComponentLength) where
       pub last-short : length m - at < total - used → lastInto cs used total at m ≡ refused 1
       unfolding lastInto readLast
-      last-short f = rw (le-leb used total h, le-leb (total - used) 300 short, lt-leb (total - used) (length (drop at m)) (rw length-drop f))
+      last-short f = rw (le-leb used total h, le-leb (total - used) maxComponentLength short, lt-leb (total - used) (length (drop at m)) (rw length-drop f))
 
       pub last-there : total - used ≤ length m - at → lastInto cs used total at m ≡ accepted (pathFlat (pathFrom (cs ++ (take (total - used) (drop at m) ∷ [])))) (at + (total - used))
       unfolding lastInto readLast
-      last-there f = rw (le-leb used total h, le-leb (total - used) 300 short, le-leb (total - used) (length (drop at m)) (rw length-drop f))
+      last-there f = rw (le-leb used total h, le-leb (total - used) maxComponentLength short, le-leb (total - used) (length (drop at m)) (rw length-drop f))
 
 -- ---- none
 module _ (canonic : Bool) (total : ℕ) (m : List ℕ) where
@@ -55,16 +55,16 @@ module _ (canonic : Bool) (total : ℕ) (m : List ℕ) where
 
 -- ---- the limits
 module _ (canonic : Bool) (b : PathBuilder) (cs : List (List ℕ)) (total count : ℕ) (m : List ℕ) where
-  pub within-long : 600 < b .total + total → readWithin canonic b cs total count m ≡ refused 2
+  pub within-long : maxPathLength < b .total + total → readWithin canonic b cs total count m ≡ refused 2
   unfolding readWithin
-  within-long h = rw (lt-leb (b .total + total) 600 h)
+  within-long h = rw (lt-leb (b .total + total) maxPathLength h)
 
-  module _ (fits : b .total + total ≤ 600) where
-    pub within-many : 20 < b .count + count → readWithin canonic b cs total count m ≡ refused 2
+  module _ (fits : b .total + total ≤ maxPathLength) where
+    pub within-many : maxComponentCount < b .count + count → readWithin canonic b cs total count m ≡ refused 2
     unfolding readWithin
-    within-many h = rw (le-leb (b .total + total) 600 fits, lt-leb (b .count + count) 20 h)
+    within-many h = rw (le-leb (b .total + total) maxPathLength fits, lt-leb (b .count + count) maxComponentCount h)
 
-    pub within-in : b .count + count ≤ 20 → readWithin canonic b cs total count m ≡ readInto canonic cs count total m
+    pub within-in : b .count + count ≤ maxComponentCount → readWithin canonic b cs total count m ≡ readInto canonic cs count total m
     unfolding readWithin
     within-in few = rw (limits-of (b .total + total) (b .count + count) fits few)
 
@@ -100,8 +100,8 @@ module _ (canonic : Bool) {b : PathBuilder} {s : List ℕ} (r : Ready b s 0 0) (
           let n : j ≡ k = cc in
           let same : left ≡ pathFlat (pathFrom (there ++ ds)) = cc in
           let y = components-yields canonic count 0 total .holds m ds j small f in
-          let fits : totalOf (there ++ ds) ≤ 600 = omega (arith, total-append there ds, y .sum, limits-total (totalOf there + total) (length there + count) within) in
-          let few : length (there ++ ds) ≤ 20 = omega (arith, length-append there ds, y .count, limits-count (totalOf there + total) (length there + count) within) in
+          let fits : totalOf (there ++ ds) ≤ maxPathLength = omega (arith, total-append there ds, y .sum, limits-total (totalOf there + total) (length there + count) within) in
+          let few : length (there ++ ds) ≤ maxComponentCount = omega (arith, length-append there ds, y .count, limits-count (totalOf there + total) (length there + count) within) in
           rw (n, same, flat-in (there ++ ds) few fits)
       parts within (refused j) f h = let z : _≡_ {A = ℕ} 0 1 = cc in absurd (omega arith)
 
@@ -111,7 +111,7 @@ module _ (canonic : Bool) {b : PathBuilder} {s : List ℕ} (r : Ready b s 0 0) (
       go false within h = let z : _≡_ {A = ℕ} 0 1 = cc in absurd (omega arith)
 
 -- a builder of components, as the reader takes it
-pub ready-from : {b : PathBuilder} {s : List ℕ} (cs : List (List ℕ)) → length cs ≤ 20 → totalOf cs ≤ 600 → built b s ≡ builtFrom cs → Ready b s 0 0
+pub ready-from : {b : PathBuilder} {s : List ℕ} (cs : List (List ℕ)) → length cs ≤ maxComponentCount → totalOf cs ≤ maxPathLength → built b s ≡ builtFrom cs → Ready b s 0 0
 ready-from {b} {s} cs few fits is = record {
   made = is ∙ ap builtFrom (sym (built-components cs is few fits));
   few = omega (arith, built-count cs is);

@@ -61,7 +61,7 @@ fn decode_last(
     used: usize,
     total: usize,
     builder: PathBuilder,
-    out: &mut [u8; 641],
+    out: &mut [u8; path::lent::SIZE],
 ) -> Decoded
     requires { ⌜ (at ≤ length (now message)) × (used ≤ total → Ready builder (now out) 1 (total - used)) ⌝ }
     ensures { λ r. ⌜ answerOf r (now (out .exit)) ≡ lastInto (componentsOf (pathIn (now (out .entry)))) used total at (now (message .entry)) ⌝ }
@@ -88,7 +88,7 @@ fn decode_some(
     count: usize,
     total: usize,
     first: PathBuilder,
-    out: &mut [u8; 641],
+    out: &mut [u8; path::lent::SIZE],
 ) -> Decoded
     requires { ⌜ (1 ≤ count) × Ready first (now out) count total ⌝ }
     ensures { λ r. ⌜ answerOf r (now (out .exit)) ≡ readInto canonic (componentsOf (pathIn (now (out .entry)))) count total (now (message .entry)) ⌝ }
@@ -121,7 +121,7 @@ fn decode_all(
     count: usize,
     total: usize,
     builder: PathBuilder,
-    out: &mut [u8; 641],
+    out: &mut [u8; path::lent::SIZE],
 ) -> Decoded
     requires { ⌜ Ready builder (now out) count total ⌝ }
     ensures { λ r. ⌜ answerOf r (now (out .exit)) ≡ readInto canonic (componentsOf (pathIn (now (out .entry)))) count total (now (message .entry)) ⌝ }
@@ -142,7 +142,7 @@ fn decode_within(
     total: u64,
     count: u64,
     builder: PathBuilder,
-    out: &mut [u8; 641],
+    out: &mut [u8; path::lent::SIZE],
 ) -> Decoded
     requires { ⌜ Ready builder (now out) 0 0 ⌝ }
     ensures { λ r. ⌜ answerOf r (now (out .exit)) ≡ readWithin canonic builder (componentsOf (pathIn (now (out .entry)))) total count (now (message .entry)) ⌝ }
@@ -170,7 +170,7 @@ pub(crate) fn decode_more(
     total: u64,
     count: u64,
     builder: PathBuilder,
-    out: &mut [u8; 641],
+    out: &mut [u8; path::lent::SIZE],
 ) -> Decoded
     requires { ⌜ Ready builder (now out) 0 0 ⌝ }
     ensures { λ r. ⌜ Gives (pathFrom []) r (pathIn (now (out .exit))) (readMore canonic (componentsOf (pathIn (now (out .entry)))) total count (now (message .entry))) ⌝ }

@@ -72,7 +72,7 @@ pub fn decode_components(
     canonic: bool,
     total: u64,
     count: u64,
-    out: &mut [u8; 641],
+    out: &mut [u8; path::lent::SIZE],
 ) -> Decoded
     ensures { λ r. ⌜ Gives (pathFrom []) r (pathIn (now (out .exit))) (readMore canonic [] total count (now (message .entry))) ⌝ }
 {
@@ -89,7 +89,7 @@ pub fn decode_after(
     count: u64,
     prefix: &[u8],
     k: usize,
-    out: &mut [u8; 641],
+    out: &mut [u8; path::lent::SIZE],
 ) -> Decoded
     ensures { λ r. ⌜ Gives (pathFrom []) r (pathIn (now (out .exit))) (readAfter canonic (pathIn (now (prefix .entry))) k total count (now (message .entry))) ⌝ }
 {

@@ -6,16 +6,17 @@ use Rattle.path.specs.Limits.{totalOf}
 use Rattle.path.specs.Flat.{pathIn, lent}
 use Rattle.path.proofs.Components.{Formed, bytesAt, bytes-at-long, count-is, rest-count, rest-small, component}
 use Rattle.path.proofs.Records.{lent-known, span-rest}
+use Rattle.path_suffix.specs.Lengths.{maxSuffixLength}
 use Rattle.path_suffix.specs.Suffix.{sizesFrom, sizesOf, sizedBytes, componentBytes, suffixBytes}
 use Rattle.path_suffix.proofs.Suffix.{suffix-short}
 use Rattle.path_suffix.proofs.Components.{bytes-cons}
 use Rattle.path_suffix.proofs.Writing.{suffix-parts}
 
 module _ (p : Path) (f : Formed p) where
-  pub all-short : (k : ℕ) → length (suffixBytes (drop k (componentsOf p))) ≤ 1000
+  pub all-short : (k : ℕ) → length (suffixBytes (drop k (componentsOf p))) ≤ maxSuffixLength
   all-short k = omega (arith, suffix-short (drop k (componentsOf p)), rest-count p f k, rest-small p f k, f .well .count)
 
-  pub some-short : (k : ℕ) → length (componentBytes (drop k (componentsOf p))) ≤ 900
+  pub some-short : (k : ℕ) → length (componentBytes (drop k (componentsOf p))) ≤ maxSuffixLength
   some-short k = omega (arith, suffix-short (drop k (componentsOf p)), suffix-parts (drop k (componentsOf p)), rest-count p f k, rest-small p f k, f .well .count)
 
   pub none-left : (k : ℕ) → p .count ≤ k → componentBytes (drop k (componentsOf p)) ≡ []

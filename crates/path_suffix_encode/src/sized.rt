@@ -7,6 +7,7 @@ ghost use Rattle.codec.specs.Format.{over, lengthAnswer, WritesInto};
 ghost use Rattle.path.specs.Record.{componentsOf, sized};
 ghost use Rattle.path.specs.inside.Sizes.{Leads};
 ghost use Rattle.path.specs.Flat.{pathIn};
+ghost use Rattle.path_suffix.specs.Lengths.{maxSuffixLength};
 ghost use Rattle.path_suffix.specs.Suffix.{componentBytes, suffixBytes, suffixBy};
 use crate::suffix_header;
 use codec::Encoded;
@@ -14,7 +15,7 @@ use codec::Encoded;
 // How many bytes the components from the k-th on are written as.
 fn components_len(path: &[u8], k: usize) -> usize
     requires { ⌜ Leads (pathIn (now path)) k ⌝ }
-    ensures { λ r. ⌜ (r ≡ length (componentBytes (drop k (componentsOf (pathIn (now (path .entry))))))) × (r ≤ 1000) ⌝ }
+    ensures { λ r. ⌜ (r ≡ length (componentBytes (drop k (componentsOf (pathIn (now (path .entry))))))) × (r ≤ maxSuffixLength) ⌝ }
 {
     let n = path::lent::count(path);
     if n == k {
@@ -56,7 +57,7 @@ fn put_components(buffer: &mut [u8], path: &[u8], k: usize)
 // How many bytes the suffix from the k-th component on takes.
 fn len_of(path: &[u8], k: usize) -> usize
     requires { ⌜ Leads (pathIn (now path)) k ⌝ }
-    ensures { λ r. ⌜ (r ≡ length (suffixBytes (drop k (componentsOf (pathIn (now (path .entry))))))) × (r ≤ 1000) ⌝ }
+    ensures { λ r. ⌜ (r ≡ length (suffixBytes (drop k (componentsOf (pathIn (now (path .entry))))))) × (r ≤ maxSuffixLength) ⌝ }
 {
     let n = path::lent::count(path);
     let total = path::lent::span(path, k, n) as u64;

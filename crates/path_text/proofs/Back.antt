@@ -11,7 +11,7 @@ use Rattle.path.specs.Limits.{Component, PathOk}
 use Rattle.path.proofs.Limits.{ok-path}
 use Rattle.path.proofs.Record.{apart-path, well-formed}
 use Rattle.path.proofs.Components.{parts-formed, count-is, total-small}
-use Rattle.path_text.specs.PathText.{tailText, componentsText, pathText, componentsTextOf, pathTextOf, readField, allHex, readTexts, readComponentsText, readPathText}
+use Rattle.path_text.specs.PathText.{maxPathText, tailText, componentsText, pathText, componentsTextOf, pathTextOf, readField, allHex, readTexts, readComponentsText, readPathText}
 use Rattle.path_text.specs.Laws.{PathTextLaws}
 use Rattle.path_text.proofs.Reading.{field-ok}
 use Rattle.path_text.proofs.Printing as printing
@@ -77,19 +77,19 @@ record-back p t e =
     let a = apart-path p t (well-formed p e) in
     rw e (path-back (componentsOf p) (a .ok) ∙ ap readField (a .made))
 
-components-few : (p : Path) → length (componentsTextOf p) ≤ 1219
+components-few : (p : Path) → length (componentsTextOf p) ≤ maxPathText
 unfolding componentsTextOf
 components-few p = by-cases (wellFormed p) refl
   where
-    by-cases : (b : Bool) → wellFormed p ≡ b → length (cond b (componentsText (componentsOf p)) []) ≤ 1219
+    by-cases : (b : Bool) → wellFormed p ≡ b → length (cond b (componentsText (componentsOf p)) []) ≤ maxPathText
     by-cases true e = let f = parts-formed e in printing.components-few (componentsOf p) (omega (arith, count-is p f, f .well .count)) (total-small p f)
     by-cases false e = omega arith
 
-path-few : (p : Path) → length (pathTextOf p) ≤ 1219
+path-few : (p : Path) → length (pathTextOf p) ≤ maxPathText
 unfolding pathTextOf
 path-few p = by-cases (wellFormed p) refl
   where
-    by-cases : (b : Bool) → wellFormed p ≡ b → length (cond b (pathText (componentsOf p)) []) ≤ 1219
+    by-cases : (b : Bool) → wellFormed p ≡ b → length (cond b (pathText (componentsOf p)) []) ≤ maxPathText
     by-cases true e = let f = parts-formed e in printing.path-few (componentsOf p) (omega (arith, count-is p f, f .well .count)) (total-small p f)
     by-cases false e = omega arith
 

@@ -1,8 +1,8 @@
 -- Worked lines: the smallest texts, and the limits on both sides.
-use Rattle.codec.proofs.Prelude.{_≡_, refl, [], _∷_, replicate}
+use Rattle.codec.proofs.Prelude.{_≡_, refl, [], _∷_, _+_, _-_, _*_, replicate}
 use Rattle.text.specs.Parts.{parts}
 use Rattle.text.specs.Hex.{isHex, unhex, hexText, hexValue}
-use Rattle.path.specs.Limits.{pathOk}
+use Rattle.path.specs.Limits.{maxComponentLength, maxComponentCount, pathOk}
 use Rattle.path.specs.Record.{pathFrom}
 use Rattle.path_text.specs.PathText.{tailText, componentsText, pathText, readField, refusedField, fieldOf, readTexts, readComponentsText, readPathText}
 
@@ -15,10 +15,10 @@ record Cases : Type 0 where
   odd : readPathText (54 ∷ []) ≡ refusedField
   dash-more : readPathText (45 ∷ 47 ∷ []) ≡ refusedField
   dash-components : readComponentsText (45 ∷ []) ≡ refusedField
-  long : readPathText (replicate 602 48) ≡ refusedField
-  most : readPathText (replicate 600 48) ≡ readField (pathFrom (replicate 300 0 ∷ []))
-  many : readPathText (replicate 20 47) ≡ refusedField
-  many-most : readPathText (replicate 19 47) ≡ readField (pathFrom (replicate 20 []))
+  long : readPathText (replicate (2 * (maxComponentLength + 1)) 48) ≡ refusedField
+  most : readPathText (replicate (2 * maxComponentLength) 48) ≡ readField (pathFrom (replicate maxComponentLength 0 ∷ []))
+  many : readPathText (replicate maxComponentCount 47) ≡ refusedField
+  many-most : readPathText (replicate (maxComponentCount - 1) 47) ≡ readField (pathFrom (replicate maxComponentCount []))
   print : pathText ((97 ∷ []) ∷ [] ∷ (111 ∷ []) ∷ []) ≡ 54 ∷ 49 ∷ 47 ∷ 47 ∷ 54 ∷ 102 ∷ []
   print-one : pathText ([] ∷ []) ≡ []
   print-none : pathText [] ≡ 45 ∷ []

@@ -7,11 +7,11 @@ use Rattle.text.proofs.Written.{Wrote}
 use Rattle.text.proofs.HexSteps.{hexText-long}
 use Rattle.text.proofs.Buffer.{overAt-none, wrote-first, wrote-next, wrote-long, wrote-rest}
 use Rattle.path.specs.Record.{Path, componentsOf, wellFormed}
-use Rattle.path.specs.Limits.{totalOf}
+use Rattle.path.specs.Limits.{maxComponentCount, maxPathLength, totalOf}
 use Rattle.path.proofs.Components.{Formed, parts-formed, bytesAt, count-is, component}
 use Rattle.path.specs.Flat.{pathIn, lent}
 use Rattle.path.proofs.Records.{lent-known}
-use Rattle.path_text.specs.PathText.{tailText, componentsText, pathText, componentsTextOf, pathTextOf}
+use Rattle.path_text.specs.PathText.{maxPathText, maxTailText, tailText, componentsText, pathText, componentsTextOf, pathTextOf}
 
 -- ---- how long
 tail-long : (cs : List (List ℕ)) → length (tailText cs) ≡ length cs + 2 * totalOf cs
@@ -19,7 +19,7 @@ unfolding tailText
 tail-long [] = refl
 tail-long (c ∷ cs) = rw length-append (omega (arith, hexText-long c, tail-long cs))
 
-pub tail-few : (cs : List (List ℕ)) → length cs ≤ 20 → totalOf cs ≤ 600 → length (tailText cs) ≤ 1220
+pub tail-few : (cs : List (List ℕ)) → length cs ≤ maxComponentCount → totalOf cs ≤ maxPathLength → length (tailText cs) ≤ maxTailText
 tail-few cs n t = omega (arith, tail-long cs)
 
 -- the text of components is that with a `/` before each, without the first
@@ -28,12 +28,12 @@ unfolding tailText componentsText
 after-first [] = refl
 after-first (c ∷ cs) = refl
 
-pub components-few : (cs : List (List ℕ)) → length cs ≤ 20 → totalOf cs ≤ 600 → length (componentsText cs) ≤ 1219
+pub components-few : (cs : List (List ℕ)) → length cs ≤ maxComponentCount → totalOf cs ≤ maxPathLength → length (componentsText cs) ≤ maxPathText
 unfolding componentsText
 components-few [] n t = omega arith
 components-few (c ∷ cs) n t = rw length-append (omega (arith, hexText-long c, tail-long cs))
 
-pub path-few : (cs : List (List ℕ)) → length cs ≤ 20 → totalOf cs ≤ 600 → length (pathText cs) ≤ 1219
+pub path-few : (cs : List (List ℕ)) → length cs ≤ maxComponentCount → totalOf cs ≤ maxPathLength → length (pathText cs) ≤ maxPathText
 unfolding pathText
 path-few [] n t = omega arith
 path-few (c ∷ cs) n t = components-few (c ∷ cs) n t

@@ -7,7 +7,7 @@ use Rattle.path.specs.declared.PathBuilder.{PathBuilder}
 use Rattle.path.specs.declared.Appended.{Appended}
 use Rattle.path.specs.declared.Appended.the-variants as appended
 use Rattle.path.specs.declared.Growth.{Growth}
-use Rattle.path.specs.Limits.{totalOf, limits, allShort, pathOk}
+use Rattle.path.specs.Limits.{maxComponentLength, totalOf, limits, allShort, pathOk}
 use Rattle.path.specs.Record.{pathFrom}
 use Rattle.path.specs.Builder.{built, builtFrom, fitsAfter, appendedVerdict, Appends}
 use Rattle.codec.proofs.Tests.{and-left, and-right}
@@ -20,13 +20,13 @@ use Rattle.path_text.specs.PathText.{readField, refusedField, allHex, fi
 use Rattle.path_text.specs.inside.PathText.{AppendsText}
 
 -- ---- the limits, one component more
-short-snoc : (cs : List (List ℕ)) (c : List ℕ) → allShort cs ≡ true → length c ≤ 300 → allShort (cs ++ (c ∷ [])) ≡ true
-short-snoc [] c e h = rw (le-leb (length c) 300 h)
-short-snoc (x ∷ cs) c e h = rw (and-left (leb (length x) 300) _ e) (short-snoc cs c (and-right (leb (length x) 300) _ e) h)
+short-snoc : (cs : List (List ℕ)) (c : List ℕ) → allShort cs ≡ true → length c ≤ maxComponentLength → allShort (cs ++ (c ∷ [])) ≡ true
+short-snoc [] c e h = rw (le-leb (length c) maxComponentLength h)
+short-snoc (x ∷ cs) c e h = rw (and-left (leb (length x) maxComponentLength) _ e) (short-snoc cs c (and-right (leb (length x) maxComponentLength) _ e) h)
 
-short-at : (cs : List (List ℕ)) (c : List ℕ) (r : List (List ℕ)) → allShort (cs ++ (c ∷ r)) ≡ true → length c ≤ 300
-short-at [] c r e = leb-true (length c) 300 (and-left _ _ e)
-short-at (x ∷ cs) c r e = short-at cs c r (and-right (leb (length x) 300) _ e)
+short-at : (cs : List (List ℕ)) (c : List ℕ) (r : List (List ℕ)) → allShort (cs ++ (c ∷ r)) ≡ true → length c ≤ maxComponentLength
+short-at [] c r e = leb-true (length c) maxComponentLength (and-left _ _ e)
+short-at (x ∷ cs) c r e = short-at cs c r (and-right (leb (length x) maxComponentLength) _ e)
 
 module _ (cs : List (List ℕ)) (c : List ℕ) where
   pub ok-next : pathOk cs ≡ true → Fitting (totalOf cs) (length cs) (length c) → pathOk (cs ++ (c ∷ [])) ≡ true
@@ -107,12 +107,12 @@ pub record Took (cs : List (List ℕ)) (t : List ℕ) (g : Growth) (left : List 
   pub made : built (g .builder) left ≡ builtFrom (cs ++ (unhex t ∷ []))
 
 -- no hex, or too long
-pub push-refused : (b : PathBuilder) (t s : List ℕ) → cond (isHex t) (ltb 300 (length (unhex t))) true ≡ true → AppendsText b t s (record { answer = appended.Outside; builder = b }) s
+pub push-refused : (b : PathBuilder) (t s : List ℕ) → cond (isHex t) (ltb maxComponentLength (length (unhex t))) true ≡ true → AppendsText b t s (record { answer = appended.Outside; builder = b }) s
 unfolding fitsAfter
 push-refused b t s h = rw (refused-value-so (isHex t) h) (record { answer = refl; is = refl })
   where
-    refused-value-so : (d : Bool) → cond d (ltb 300 (length (unhex t))) true ≡ true → (d && fitsAfter (b .total) (b .count) (length (unhex t))) ≡ false
-    refused-value-so true h = rw (lt-leb (length (unhex t)) 300 (ltb-true 300 (length (unhex t)) h))
+    refused-value-so : (d : Bool) → cond d (ltb maxComponentLength (length (unhex t))) true ≡ true → (d && fitsAfter (b .total) (b .count) (length (unhex t))) ≡ false
+    refused-value-so true h = rw (lt-leb (length (unhex t)) maxComponentLength (ltb-true maxComponentLength (length (unhex t)) h))
     refused-value-so false h = refl
 
 not-grown : (x : Appended) → OneOf (1 ∷ 2 ∷ []) (tagOf Rattle.path.proofs.Appended.the-type x) → appendedVerdict x ≡ allowed → ⊥

@@ -2,14 +2,14 @@
 use mathlib.Core.Path.{_≡_}
 use mathlib.Core.List.{List, [], _∷_, _++_, map}
 use mathlib.Core.Bool.{Bool, true, false, cond}
-use Prim.Native.Nat.{ℕ}
+use Prim.Native.Nat.{ℕ, _+_, _-_, _*_}
 use Rattle.codec.specs.Answers.{Said, said, unsaid}
 use Rattle.codec.specs.Bytes.{sameBytes}
 use Rattle.text.specs.Parts.{parts}
 use Rattle.text.specs.Hex.{isHex, unhex, hexText}
 use Rattle.path.specs.Record.{Path, componentsOf, pathFrom, wellFormed}
 use Rattle.path.specs.declared.Path.{Path as HeldPath}
-use Rattle.path.specs.Limits.{pathOk}
+use Rattle.path.specs.Limits.{maxComponentCount, maxPathLength, pathOk}
 use Rattle.path.specs.Flat.{pathFlat}
 use Rattle.path_text.specs.declared.Found.{Found}
 use Rattle.path_text.specs.declared.Found.the-variants as found
@@ -17,6 +17,13 @@ use Rattle.path_text.specs.declared.PathField.{PathField}
 use Rattle.text.specs.Ascii.{ascii}
 
 -- ---- printing
+
+-- how long the text of a path is at most, with a `/` before each component and without the first
+abbrev pub maxTailText : ℕ
+maxTailText = 2 * maxPathLength + maxComponentCount
+
+abbrev pub maxPathText : ℕ
+maxPathText = maxTailText - 1
 
 -- each component after a `/`
 unfoldable pub tailText : List (List ℕ) → List ℕ

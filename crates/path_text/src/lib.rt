@@ -7,13 +7,16 @@ ghost use Rattle.codec.specs.Format.{over};
 ghost use Rattle.text.specs.Buffer.{putAt, placeAfter};
 ghost use Rattle.path.specs.Record.{componentsOf, wellFormed};
 ghost use Rattle.path.specs.Flat.{pathIn};
-ghost use Rattle.path_text.specs.PathText.{tailText, componentsTextOf, pathTextOf, refusedField, Finds, readComponentsText, readPathText};
+ghost use Rattle.path_text.specs.PathText.{maxTailText, tailText, componentsTextOf, pathTextOf, refusedField, Finds, readComponentsText, readPathText};
 ghost use Rattle.path_text.specs.inside.PathText.{AppendsText};
 use path::Appended;
 use path::Growth;
 use path::Path;
 use path::PathBuilder;
 use text::Hex;
+
+// How long the text of a path is at most, with a `/` before each component.
+const MAX_TAIL: usize = 2 * Path::MAX_PATH_LENGTH + Path::MAX_COMPONENT_COUNT;
 
 // Whether a field is a path's text.
 pub enum Found {
@@ -38,7 +41,7 @@ fn refuse() -> PathField
 }
 
 // One component more, from its text; what is no hex does not fit.
-fn push_text(builder: PathBuilder, t: &[u8], out: &mut [u8; 641]) -> Growth
+fn push_text(builder: PathBuilder, t: &[u8], out: &mut [u8; path::lent::SIZE]) -> Growth
     ensures { λ r. ⌜ AppendsText builder (now (t .entry)) (now (out .entry)) r (now (out .exit)) ⌝ }
 {
     let mut bytes = [0u8; Path::MAX_COMPONENT_LENGTH];
@@ -94,8 +97,8 @@ pub fn read_path(s: &[u8]) -> PathField
 
 // Each component after a `/`, at the start of a buffer that has room for any; answers how many bytes that is.
 fn fill(path: &[u8], out: &mut [u8]) -> usize
-    requires { ⌜ (wellFormed (pathIn (now path)) ≡ true) × (1220 ≤ length (now out)) ⌝ }
-    ensures { λ r. ⌜ (r ≡ length (tailText (componentsOf (pathIn (now (path .entry)))))) × (now (out .exit) ≡ over (tailText (componentsOf (pathIn (now (path .entry))))) (now (out .entry))) × (r ≤ 1220) ⌝ }
+    requires { ⌜ (wellFormed (pathIn (now path)) ≡ true) × (maxTailText ≤ length (now out)) ⌝ }
+    ensures { λ r. ⌜ (r ≡ length (tailText (componentsOf (pathIn (now (path .entry)))))) × (now (out .exit) ≡ over (tailText (componentsOf (pathIn (now (path .entry))))) (now (out .entry))) × (r ≤ maxTailText) ⌝ }
 {
     let n = path::lent::count(path);
     let bytes = path::lent::bytes(path);
@@ -119,7 +122,7 @@ pub fn put_components(out: &mut [u8], at: usize, path: &[u8]) -> usize
     if !path::lent::well_formed(path) {
         return at;
     }
-    let mut texts = [0u8; 1220];
+    let mut texts = [0u8; MAX_TAIL];
     let n = fill(path, &mut texts);
     if n == 0 {
         return at;

@@ -1,11 +1,12 @@
 -- What the writers' definitions say at each step of the code.
-use Rattle.codec.proofs.Prelude.{_≡_, refl, sym, ap, _∙_, List, [], _∷_, _++_, append-assoc, append-nil, Bool, true, false, cond, _&&_, none, some, ℕ, _+_, _-_, _≤_, arith, putMid, length, take, drop, set, length-append, length-drop}
+use Rattle.codec.proofs.Prelude.{_≡_, refl, sym, ap, _∙_, List, [], _∷_, _++_, append-assoc, append-nil, Bool, true, false, cond, _&&_, none, some, ℕ, _+_, _*_, _-_, _≤_, arith, putMid, length, take, drop, set, length-append, length-drop}
 use Rattle.codec.specs.Format.{allowed, refusedValue, over, putBuffer}
 use Rattle.codec.proofs.Lending.{put-over, over-then, to-end, put-end}
 use Rattle.codec.proofs.Tests.{and-left, and-right}
 use Rattle.path.specs.Record.{componentsOf, sized}
 use Rattle.codec.specs.Answers.{said, unsaid}
 use Rattle.path.proofs.Verdicts.{said-known, unsaid-known}
+use Rattle.path_suffix.specs.Lengths.{maxAgainstLength}
 use Rattle.path_relative.specs.Records.{sharedBy}
 use Rattle.range_3d.specs.Record.{PathRange, Range3d, subspacesOf, pathsOf, headOf, wellFormedRange3d}
 use Rattle.range_3d.specs.inside.Sizes.{sizedRange3d}
@@ -60,7 +61,7 @@ pub record Measures (r v : Range3d) (m : MeasuredPaths) : Type 0 where
   pub allows : againstRange r .check v ≡ allowed
   pub shares : Shares (v .paths) m
   pub long : m .len ≡ length (bothBytes (v .paths) m)
-  pub short : m .len ≤ 1800
+  pub short : m .len ≤ 2 * maxAgainstLength
   pub bytes : measuredRange (headOf r) m .encode v ≡ againstRange r .encode v
 
 module _ (r v : Range3d) where

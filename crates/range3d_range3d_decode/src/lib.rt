@@ -43,8 +43,8 @@ fn decode_rest<'a>(
     reference: Range3dHead,
     reference_start: &'a [u8],
     reference_end: &'a [u8],
-    start: &mut [u8; 641],
-    end: &mut [u8; 641],
+    start: &mut [u8; path::lent::SIZE],
+    end: &mut [u8; path::lent::SIZE],
 ) -> DecodedTimes
     ensures { λ r. ⌜ Gives (emptyPaths (header .«path_end_open»), noTimes) (r .answer) (pathsWith (pathIn (now (start .exit))) (header .«path_end_open») (pathIn (now (end .exit))), r .times) (readPathsTimes (pathsWith (pathIn (now («reference_start» .entry))) (reference .«end_open») (pathIn (now («reference_end» .entry)))) (reference .times) header times (now (message .entry))) ⌝ }
 {
@@ -89,8 +89,8 @@ fn decode_parts<'a>(
     reference: Range3dHead,
     reference_start: &'a [u8],
     reference_end: &'a [u8],
-    start: &mut [u8; 641],
-    end: &mut [u8; 641],
+    start: &mut [u8; path::lent::SIZE],
+    end: &mut [u8; path::lent::SIZE],
 ) -> DecodedRange3dHead
     requires { ⌜ (headerLength + length (now message) < 2 ^ 64) × (sizedRange3d (rangeWith reference (pathIn (now «reference_start»)) (pathIn (now «reference_end»))) ≡ true) × (now start ≡ replicate pathSize 0) × (now end ≡ replicate pathSize 0) ⌝ }
     ensures { λ r. ⌜ ReadsRange r (now (start .exit)) (now (end .exit)) (shift headerLength (mapped rangeFrom (readParts (rangeOf (rangeWith reference (pathIn (now («reference_start» .entry))) (pathIn (now («reference_end» .entry))))) header times) (now (message .entry)))) ⌝ }
@@ -140,8 +140,8 @@ pub fn relative_decode<'a>(
     reference: Range3dHead,
     reference_start: &'a [u8],
     reference_end: &'a [u8],
-    start: &mut [u8; 641],
-    end: &mut [u8; 641],
+    start: &mut [u8; path::lent::SIZE],
+    end: &mut [u8; path::lent::SIZE],
 ) -> DecodedRange3dHead
     ensures { λ r. ⌜ ReadsRange r (now (start .exit)) (now (end .exit)) (readAgainstRange (rangeWith reference (pathIn (now («reference_start» .entry))) (pathIn (now («reference_end» .entry)))) (drop from (now (message .entry)))) ⌝ }
 {

@@ -1,9 +1,10 @@
 // Writing the header bytes and what follows them, paths lent as their records.
 ghost use mathlib.Core.Path.{_≡_};
-ghost use Prim.Native.Nat.{_≤_};
+ghost use Prim.Native.Nat.{_*_, _≤_};
 ghost use lib.ListN.{length};
 ghost use Rattle.codec.specs.Format.{over, WritesInto};
 ghost use Rattle.path.specs.Flat.{pathIn};
+ghost use Rattle.path_suffix.specs.Lengths.{maxAgainstLength};
 ghost use Rattle.range_3d.specs.Record.{rangeWith};
 ghost use Rattle.range_paths.specs.Records.{pathsWith};
 ghost use Rattle.range_paths.specs.inside.Writing.{bothBytes, Shares};
@@ -67,7 +68,7 @@ pub(crate) fn put_range<'a>(
     reference: Range3dHead,
     paths: MeasuredPaths,
 ) -> Encoded
-    requires { ⌜ Shares (rangeWith range (pathIn (now start)) (pathIn (now end)) .paths) paths × (paths .len ≡ length (bothBytes (rangeWith range (pathIn (now start)) (pathIn (now end)) .paths) paths)) × (paths .len ≤ 1800) ⌝ }
+    requires { ⌜ Shares (rangeWith range (pathIn (now start)) (pathIn (now end)) .paths) paths × (paths .len ≡ length (bothBytes (rangeWith range (pathIn (now start)) (pathIn (now end)) .paths) paths)) × (paths .len ≤ 2 * maxAgainstLength) ⌝ }
     ensures { λ r. ⌜ WritesInto (measuredRange reference paths) (rangeWith range (pathIn (now (start .entry))) (pathIn (now (end .entry)))) r (now (buffer .entry)) (now (buffer .exit)) ⌝ }
 {
     let s = HEADER_LENGTH

@@ -1,5 +1,5 @@
 -- What the writers' definitions say at each step of the code.
-use Rattle.codec.proofs.Prelude.{_≡_, refl, sym, ap, _∙_, List, [], _++_, append-nil, Bool, true, false, true≢false, cond, _&&_, none, some, ℕ, _+_, _≤_, _<_, arith, le-leb, lt-leb, length, drop, length-append}
+use Rattle.codec.proofs.Prelude.{_≡_, refl, sym, ap, _∙_, List, [], _++_, append-nil, Bool, true, false, true≢false, cond, _&&_, none, some, ℕ, _+_, _*_, _≤_, _<_, arith, le-leb, lt-leb, length, drop, length-append}
 use Rattle.codec.specs.Format.{allowed}
 use Rattle.codec.proofs.Tests.{and-left, and-right}
 use Rattle.compact_u64.specs.Number.{standaloneBytes}
@@ -11,6 +11,7 @@ use Rattle.path.specs.Answers.{saidIf}
 use Rattle.path.proofs.Components.{sized-formed, count-is, rest-count, rest-small}
 use Rattle.path.proofs.Prefix.{shares}
 use Rattle.path.proofs.Verdicts.{said-known, unsaid-known}
+use Rattle.path_suffix.specs.Lengths.{maxAgainstLength}
 use Rattle.path_suffix.specs.Suffix.{suffixBy}
 use Rattle.path_suffix.proofs.Suffix.{suffix-short}
 use Rattle.path_relative.specs.Records.{sharedBy}
@@ -90,7 +91,7 @@ module _ (r : PathRange) (p : Path) where
           (rw (o, start-known .1, end-known .1, lt-leb b a h, end-known .1))
 
 -- ---- the bytes after what is shared
-pub shared-short : (p : Path) (k : ℕ) → sized p ≡ true → length (sharedBy sized k .encode p) ≤ 900
+pub shared-short : (p : Path) (k : ℕ) → sized p ≡ true → length (sharedBy sized k .encode p) ≤ maxAgainstLength
 shared-short p k w =
     let f = sized-formed w in
     omega (arith, length-append (standaloneBytes k) (suffixBy sized k .encode p), standalone-short k, suffix-short (drop k (componentsOf p)), rest-count p f k, rest-small p f k, f .well .count)
@@ -200,7 +201,7 @@ module _ (r v : PathRange) (m : MeasuredPaths) (e : said m ≡ measureIn r v) wh
   pub told-long : m .len ≡ length (bothBytes v m)
   told-long = sym (ap length told-bytes ∙ ap (λ (x : MeasuredPaths). x .len) told-is)
 
-  pub told-short : m .len ≤ 1800
+  pub told-short : m .len ≤ 2 * maxAgainstLength
   told-short =
       omega (
         arith,
@@ -211,6 +212,6 @@ module _ (r v : PathRange) (m : MeasuredPaths) (e : said m ≡ measureIn r v) wh
         go (v .«end_open»),
       )
     where
-      go : (o : Bool) → length (cond o [] (sharedBy sized (m .end .shared) .encode (v .end))) ≤ 900
+      go : (o : Bool) → length (cond o [] (sharedBy sized (m .end .shared) .encode (v .end))) ≤ maxAgainstLength
       go true = omega arith
       go false = shared-short (v .end) (m .end .shared) end-fits

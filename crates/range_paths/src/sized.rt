@@ -5,6 +5,7 @@ ghost use lib.ListN.{length};
 ghost use Rattle.codec.specs.Format.{allowed};
 ghost use Rattle.path.specs.Record.{sized};
 ghost use Rattle.path.specs.Flat.{pathIn};
+ghost use Rattle.path_suffix.specs.Lengths.{maxAgainstLength};
 ghost use Rattle.path_relative.specs.Records.{sharedBy};
 ghost use Rattle.range_paths.specs.Records.{pathsWith, measuredAnswer, measureIn};
 ghost use Rattle.range_paths.specs.inside.Writing.{nearAnswer, nearIn};
@@ -52,7 +53,7 @@ fn nearest<'a>(path: &'a [u8], start: &'a [u8], end_open: bool, end: &'a [u8]) -
 // How many bytes a path takes of which `k` components are shared.
 fn path_len(path: &[u8], k: usize) -> usize
     requires { ⌜ sharedBy sized k .check (pathIn (now path)) ≡ allowed ⌝ }
-    ensures { λ r. ⌜ (r ≡ length (sharedBy sized k .encode (pathIn (now (path .entry))))) × (r ≤ 900) ⌝ }
+    ensures { λ r. ⌜ (r ≡ length (sharedBy sized k .encode (pathIn (now (path .entry))))) × (r ≤ maxAgainstLength) ⌝ }
 {
     let whole = path_relative_encode::sized::shared_len(path, k);
     let Encoded::Length(n) = whole else {

@@ -16,7 +16,7 @@ fn decode_path(
     reference_start: &[u8],
     reference_end_open: bool,
     reference_end: &[u8],
-    out: &mut [u8; 641],
+    out: &mut [u8; path::lent::SIZE],
 ) -> Decoded
     ensures { λ r. ⌜ Gives (pathFrom []) r (pathIn (now (out .exit))) (readSideIn (pathsWith (pathIn (now («reference_start» .entry))) «reference_end_open» (pathIn (now («reference_end» .entry)))) «from_start» (now (message .entry))) ⌝ }
 {
@@ -44,8 +44,8 @@ pub fn relative_decode<'a>(
     reference_start: &'a [u8],
     reference_end_open: bool,
     reference_end: &'a [u8],
-    start: &mut [u8; 641],
-    end: &mut [u8; 641],
+    start: &mut [u8; path::lent::SIZE],
+    end: &mut [u8; path::lent::SIZE],
 ) -> Decoded
     ensures { λ r. ⌜ Gives (emptyPaths «end_open») r (pathsWith (pathIn (now (start .exit))) «end_open» (pathIn (now (end .exit)))) (readPathsBy sizedPaths «end_open» sides (pathsWith (pathIn (now («reference_start» .entry))) «reference_end_open» (pathIn (now («reference_end» .entry)))) (now (message .entry))) ⌝ }
 {

@@ -1,5 +1,6 @@
 use Rattle.codec.proofs.Prelude.{sym, _∙_, _≤_, append-nil, arith, now, length, drop-of-length-le, take-all, needs}
 use Rattle.codec.proofs.Lending.{put-over}
+use Rattle.path.specs.Flat.{pathSize}
 use Rattle.path.proofs.Loads.{path-stores}
 use Rattle.calls.proofs.copy_path.Statement.{statement}
 use Rattle.calls.proofs.copy_path.Tie as tie
@@ -12,7 +13,7 @@ returns c =
     let l = now (s .args .flat) in
     let past : length l ≤ length p = omega (arith, s .pre) in
     let none = drop-of-length-le l past in
-    let stored = path-stores p (omega (arith, s .pre)) (λ i. omega (arith, known .shared-slice-known .given i)) ∙ take-all 641 p (omega (arith, s .pre)) in
+    let stored = path-stores p (omega (arith, s .pre)) (λ i. omega (arith, known .shared-slice-known .given i)) ∙ take-all pathSize p (omega (arith, s .pre)) in
     c .before .before .put-bytes .ensures .1 ∙ put-over p l (omega (arith, s .pre)) ∙ rw none (append-nil p) ∙ sym stored
 
 pub copy-path-spec : {M : Type 1} → statement M

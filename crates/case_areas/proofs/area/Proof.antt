@@ -2,6 +2,7 @@ use Rattle.codec.proofs.Prelude.{_≡_, sym, List, Bool, not, false, ℕ, now, 
 use Rattle.path.specs.Flat.{pathIn}
 use Rattle.grouping.specs.Record.{Area, areaWith}
 use Rattle.area_area.specs.Records.{againstArea, readAgainstArea}
+use Rattle.case_text.specs.Limits.{maxBytes}
 use Rattle.case_text.specs.declared.Asked.{Asked}
 use Rattle.case_text.specs.Texts.{readText}
 use Rattle.case_text.specs.Fields.{field, Says, opOf}
@@ -14,7 +15,7 @@ use Rattle.case_areas.proofs.area.Statement.{statement}
 use Rattle.case_areas.proofs.area.Tie as tie
 
 -- the reference was read, and what the line asks for
-left : (line : List ℕ) {ok : Bool} {a : Area} → Says (areaField 2 line) ok a → not ok ≡ false → {buffer : List ℕ} {x : Asked} → Asks (asking 8192 6 10 (opOf (field 1 line)) line) buffer x
+left : (line : List ℕ) {ok : Bool} {a : Area} → Says (areaField 2 line) ok a → not ok ≡ false → {buffer : List ℕ} {x : Asked} → Asks (asking maxBytes 6 10 (opOf (field 1 line)) line) buffer x
     → Left (λ canonic start message. readText areaText (readAgainstArea canonic a (drop start message))) areaField (againstArea a) 6 line buffer x (areaLine line)
 left line {a = a} s e asks =
     left-against s e (λ a. againstLine a (opOf (field 1 line)) line)

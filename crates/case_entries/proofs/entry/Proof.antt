@@ -4,6 +4,7 @@ use Rattle.grouping.specs.Record.{Area}
 use Rattle.entry.specs.Record.{entryWith}
 use Rattle.entry_area.specs.Records.{againstNamespaceArea, readAgainstNamespaceArea}
 use Rattle.text.specs.Ids.{readIdText}
+use Rattle.case_text.specs.Limits.{maxBytes}
 use Rattle.case_text.specs.declared.Asked.{Asked}
 use Rattle.case_text.specs.Texts.{readText}
 use Rattle.case_text.specs.Fields.{field, Says, idField, opOf}
@@ -28,7 +29,7 @@ namespace r = let p : tie.After-part = search in let s : tie.Start = search in f
 
 -- namespace and area were read, and what the line asks for
 left : (line : List ℕ) {ok ok' : Bool} {n : List ℕ} {a : Area} → Says (idField 2 line) ok n → not ok ≡ false → Says (areaField 3 line) ok' a → not ok' ≡ false
-    → {buffer : List ℕ} {x : Asked} → Asks (asking 8192 7 13 (opOf (field 1 line)) line) buffer x
+    → {buffer : List ℕ} {x : Asked} → Asks (asking maxBytes 7 13 (opOf (field 1 line)) line) buffer x
     → Left (λ canonic start message. readText entryText (readAgainstNamespaceArea canonic n a (drop start message))) entryField (againstNamespaceArea n a) 7 line buffer x (entryLine line)
 left line {n = n} {a} s e s' e' asks =
     left-against s e (onNamespace line)

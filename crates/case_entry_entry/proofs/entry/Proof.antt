@@ -2,6 +2,7 @@ use Rattle.codec.proofs.Prelude.{_≡_, sym, List, Bool, not, false, cond, ℕ,
 use Rattle.path.specs.Flat.{pathIn}
 use Rattle.entry.specs.Record.{Entry, entryWith}
 use Rattle.entry_entry.specs.Records.{againstEntry, readAgainstEntry}
+use Rattle.case_text.specs.Limits.{maxBytes}
 use Rattle.case_text.specs.declared.Asked.{Asked}
 use Rattle.case_text.specs.Texts.{six, readText}
 use Rattle.case_text.specs.Fields.{field, Says, opOf}
@@ -16,7 +17,7 @@ use Rattle.case_entry_entry.proofs.entry.Statement.{statement}
 use Rattle.case_entry_entry.proofs.entry.Tie as tie
 
 -- the reference was read, and what the line asks for
-left : (line : List ℕ) {ok : Bool} {a : Entry} → Says (entryField 2 line) ok a → not ok ≡ false → {buffer : List ℕ} {x : Asked} → Asks (asking 8192 8 14 (opOf (field 1 line)) line) buffer x
+left : (line : List ℕ) {ok : Bool} {a : Entry} → Says (entryField 2 line) ok a → not ok ≡ false → {buffer : List ℕ} {x : Asked} → Asks (asking maxBytes 8 14 (opOf (field 1 line)) line) buffer x
     → Left (λ canonic start message. cond canonic six (readText entryText (readAgainstEntry a (drop start message)))) entryField (againstEntry a) 8 line buffer x (entryEntryLine line)
 left line {a = a} s e asks =
     left-against s e (λ a. againstLine a (opOf (field 1 line)) line)

@@ -4,6 +4,7 @@ use Rattle.text.proofs.HexSteps.{hexText-long}
 use Rattle.path.specs.Flat.{pathIn}
 use Rattle.entry.specs.Record.{entryWith}
 use Rattle.entry.proofs.Typed.{namespace-long, subspace-long, digest-long}
+use Rattle.case_text.specs.Limits.{maxBytes}
 use Rattle.case_text.specs.Texts.{afterTab}
 use Rattle.text.specs.Decimal.{decimalText}
 use Rattle.text.proofs.DecimalPrinted.{decimal-few}
@@ -30,7 +31,7 @@ returns c =
     let f = start .args .fields in
     let a = entryWith f (pathIn (now (start .args .path))) in
     let b = start .args .buffer in
-    let g : length (now b) ≡ 8192 = after-print-names .print-names .ensures .1 in
+    let g : length (now b) ≡ maxBytes = after-print-names .print-names .ensures .1 in
     let x = namesText a in
     let d = decimalText (a .timestamp) in
     let z = decimalText (a .«payload_length») in

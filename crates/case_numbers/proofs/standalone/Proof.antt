@@ -1,6 +1,7 @@
 use Rattle.codec.proofs.Prelude.{sym, List, ℕ, now, drop, length-take-le, needs}
 use Rattle.compact_u64.specs.Number.{readStandalone, standalone}
 use Rattle.text.specs.Decimal.{decimalText}
+use Rattle.case_text.specs.Limits.{maxBytes}
 use Rattle.case_text.specs.declared.Asked.{Asked}
 use Rattle.case_text.specs.Texts.{readText}
 use Rattle.case_text.specs.Fields.{field, decimalField, opOf}
@@ -13,7 +14,7 @@ use Rattle.case_numbers.proofs.standalone.Statement.{statement}
 use Rattle.case_numbers.proofs.standalone.Tie as tie
 
 -- what the line asks for was read
-left : (line : List ℕ) {buffer : List ℕ} {x : Asked} → Asks (asking 8192 2 3 (opOf (field 1 line)) line) buffer x
+left : (line : List ℕ) {buffer : List ℕ} {x : Asked} → Asks (asking maxBytes 2 3 (opOf (field 1 line)) line) buffer x
     → Left (λ canonic start message. readText decimalText (readStandalone canonic (drop start message))) decimalField standalone 2 line buffer x (standaloneLine line)
 left line asks = record-left decimalField decimalText standalone 2 3 line (decimal-falls 2 line) asks readStandalone
 

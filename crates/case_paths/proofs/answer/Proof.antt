@@ -2,6 +2,7 @@ use Rattle.codec.proofs.Prelude.{sym, List, ℕ, _+_, now, drop, length-take-le
 use Rattle.path.specs.Record.{Path}
 use Rattle.path.specs.Flat.{pathIn}
 use Rattle.path_text.specs.PathText.{pathTextOf}
+use Rattle.case_text.specs.Limits.{maxBytes}
 use Rattle.case_text.specs.declared.Asked.{Asked}
 use Rattle.case_text.specs.Texts.{readText}
 use Rattle.case_text.specs.Fields.{field, pathField, opOf}
@@ -15,7 +16,7 @@ use Rattle.case_paths.proofs.answer.Statement.{statement}
 use Rattle.case_paths.proofs.answer.Tie as tie
 
 -- what the line asks for was read
-left : (e : Encoding) (r : Path) (i : ℕ) (line : List ℕ) {buffer : List ℕ} {x : Asked} → Asks (asking 8192 i (i + 1) (opOf (field 1 line)) line) buffer x
+left : (e : Encoding) (r : Path) (i : ℕ) (line : List ℕ) {buffer : List ℕ} {x : Asked} → Asks (asking maxBytes i (i + 1) (opOf (field 1 line)) line) buffer x
     → Left (λ canonic start message. readText pathTextOf (encodingReader e r canonic (drop start message))) pathField (encodingFormat e r) i line buffer x (encodingLine e r i line)
 left e r i line asks = record-left pathField pathTextOf (encodingFormat e r) i (i + 1) line (path-falls i line) asks (encodingReader e r)
 

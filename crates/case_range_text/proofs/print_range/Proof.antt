@@ -6,6 +6,7 @@ use Rattle.path_text.proofs.Back.{path-text-laws}
 use Rattle.area_text.specs.AreaText.{endText}
 use Rattle.area_text.proofs.Short.{end-few}
 use Rattle.path.specs.Flat.{pathIn}
+use Rattle.case_text.specs.Limits.{maxBytes}
 use Rattle.case_text.specs.Texts.{afterTab}
 use Rattle.case_text.proofs.Puts.{puts-tab}
 use Rattle.case_range_text.proofs.Printed.{path-end-few}
@@ -25,7 +26,7 @@ returns c =
     let start : tie.Start = search in
     let a = start .args .range in
     let b = start .args .buffer in
-    let g : length (now b) ≡ 8192 = after-print-subspaces .print-subspaces .ensures .1 in
+    let g : length (now b) ≡ maxBytes = after-print-subspaces .print-subspaces .ensures .1 in
     let x = subspacesText (a .subspaces) in
     let p = pathTextOf (pathIn (now (start .args .start))) in
     let q = pathEndText (a .«end_open») (pathIn (now (start .args .end))) in

@@ -1,6 +1,7 @@
 use Rattle.codec.proofs.Prelude.{_≡_, sym, List, Bool, not, false, cond, ℕ, now, drop, length-take-le, needs}
 use Rattle.range_3d.specs.Record.{Range3d}
 use Rattle.range3d_range3d.specs.Records.{againstRange, readAgainstRange}
+use Rattle.case_text.specs.Limits.{maxBytes}
 use Rattle.case_text.specs.declared.Asked.{Asked}
 use Rattle.case_text.specs.Texts.{six, readText}
 use Rattle.case_text.specs.Fields.{field, Says, opOf}
@@ -19,7 +20,7 @@ abbrev lenient : tie.After-relative-decode → tie.Else2
 lenient d = d .before .before .before .before .before .before .before .before .before .before
 
 -- the reference was read, and what the line asks for
-left : (line : List ℕ) {ok : Bool} {a : Range3d} → Says (rangeField 2 line) ok a → not ok ≡ false → {buffer : List ℕ} {x : Asked} → Asks (asking 8192 8 14 (opOf (field 1 line)) line) buffer x
+left : (line : List ℕ) {ok : Bool} {a : Range3d} → Says (rangeField 2 line) ok a → not ok ≡ false → {buffer : List ℕ} {x : Asked} → Asks (asking maxBytes 8 14 (opOf (field 1 line)) line) buffer x
     → Left (λ canonic start message. cond canonic six (readText rangeText (readAgainstRange a (drop start message)))) rangeField (againstRange a) 8 line buffer x (rangeLine line)
 left line {a = a} s e asks =
     left-against s e (λ a. againstLine a (opOf (field 1 line)) line)

@@ -2,6 +2,7 @@
 use Rattle.codec.proofs.Prelude.{_-_, sym, false≢true, arith, length, length-take-le, needs}
 use Rattle.lines.proofs.Draining.{Drained, none-drained, drained-all, drained-next}
 use Rattle.line_program.specs.Programs.{answerTo}
+use Rattle.case_text.specs.Limits.{maxAnswer}
 use Rattle.line_program.proofs.drain.Statement.{statement}
 use Rattle.line_program.proofs.drain.Tie as tie
 
@@ -16,7 +17,7 @@ returns c =
     let a : tie.After-answer-lines Inv-loop μ-loop = search in
     let l : tie.At-loop Inv-loop μ-loop = search in
     let start : tie.Start Inv-loop μ-loop = search in
-    (λ k. drained-all (answerTo (start .args .program)) 16640 (l .loop .inv) (a .answer-lines .ensures .0 .0) (omega arith) (c .if1 .taken), l .loop .inv .inside)
+    (λ k. drained-all (answerTo (start .args .program)) maxAnswer (l .loop .inv) (a .answer-lines .ensures .0 .0) (omega arith) (c .if1 .taken), l .loop .inv .inside)
 
 returns-2 : tie.Need-returns-2 Inv-loop μ-loop
 returns-2 c =
@@ -28,7 +29,7 @@ loop-again c =
     let a : tie.After-answer-lines Inv-loop μ-loop = search in
     let l : tie.At-loop Inv-loop μ-loop = search in
     let start : tie.Start Inv-loop μ-loop = search in
-    drained-next (answerTo (start .args .program)) 16640 (l .loop .inv) (a .answer-lines .ensures .0 .0) _ (a .answer-lines .ensures .1 .1 .0) (a .answer-lines .kept .1 .1 .0)
+    drained-next (answerTo (start .args .program)) maxAnswer (l .loop .inv) (a .answer-lines .ensures .0 .0) _ (a .answer-lines .ensures .1 .1 .0) (a .answer-lines .kept .1 .1 .0)
 
 pub drain-spec : {M : Type 1} → statement M
 drain-spec =

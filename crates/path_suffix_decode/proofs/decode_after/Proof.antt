@@ -1,7 +1,7 @@
 use Rattle.codec.proofs.Prelude.{_≡_, refl, sym, ap, _∙_, List, [], ℕ, _≤_, now, arith, leb, leb-true, length, take, needs}
 use Rattle.codec.proofs.Answers.{gives-refused}
 use Rattle.path.specs.Record.{Path, componentsOf, sized}
-use Rattle.path.specs.Limits.{totalOf}
+use Rattle.path.specs.Limits.{maxComponentCount, maxPathLength, totalOf}
 use Rattle.path.specs.Flat.{pathIn}
 use Rattle.path.specs.Builder.{built, builtFrom, appendedVerdict}
 use Rattle.path.proofs.Components.{Formed, sized-formed, prefix-count, start-small}
@@ -30,10 +30,10 @@ here c = sized-formed (grown c .formed-is)
 there : (c : tie.After-enum-told) → start1 c .args .k ≤ prefix c .count
 there c = leb-true _ _ (grown c .inside-is)
 
-few : (c : tie.After-enum-told) → length (parts c) ≤ 20
+few : (c : tie.After-enum-told) → length (parts c) ≤ maxComponentCount
 few c = omega (arith, prefix-count _ (here c) _ (there c), there c, here c .well .count)
 
-fits : (c : tie.After-enum-told) → totalOf (parts c) ≤ 600
+fits : (c : tie.After-enum-told) → totalOf (parts c) ≤ maxPathLength
 fits c = start-small _ (here c) (start1 c .args .k)
 
 returns : tie.Need-returns

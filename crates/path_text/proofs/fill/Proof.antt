@@ -8,7 +8,7 @@ use Rattle.path.specs.Record.{Path, componentsOf, startAt, lengthAt}
 use Rattle.path.specs.Flat.{pathIn}
 use Rattle.path.proofs.Components.{Formed, parts-formed, bytesAt, count-is, total-small, next-start, ends, part-bytes}
 use Rattle.path.proofs.Records.{lent-known}
-use Rattle.path_text.specs.PathText.{tailText}
+use Rattle.path_text.specs.PathText.{maxTailText, tailText}
 use Rattle.path_text.proofs.Printing.{tail-few, turn-place, turn-long, turn-over, tail-next, tail-end}
 use Rattle.path_text.proofs.fill.Statement.{statement}
 use Rattle.path_text.proofs.fill.Tie as tie
@@ -41,7 +41,7 @@ stand c =
     let s : tie.Start Inv-loop μ-loop = search in
     c .bytes .ensures ∙ lent-known _ (here s) [] (λ p. p .bytes)
 
-text-few : (s : tie.Start Inv-loop μ-loop) → length (tailText (componentsOf (path s))) ≤ 1220
+text-few : (s : tie.Start Inv-loop μ-loop) → length (tailText (componentsOf (path s))) ≤ maxTailText
 text-few s =
     let p = path s in
     let f = here s in

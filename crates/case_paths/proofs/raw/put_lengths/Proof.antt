@@ -1,5 +1,6 @@
 -- The invariant: the first i lengths stand at the start, two bytes each.
 use Rattle.codec.proofs.Prelude.{_≡_, refl, _*_, _-_, _≤_, arith, now, take, getD, take-all, needs}
+use Rattle.path.specs.Limits.{maxComponentCount}
 use Rattle.path.specs.Flat.{shorts}
 use Rattle.path.specs.Puts.{Puts}
 use Rattle.path.proofs.Puts.{puts-number, puts-long, puts-tail, puts-as, room-after}
@@ -8,10 +9,10 @@ use Rattle.case_paths.proofs.raw.put_lengths.Statement.{statement}
 use Rattle.case_paths.proofs.raw.put_lengths.Tie as tie
 
 abbrev Inv-loop : tie.InvT-loop
-Inv-loop flat₀ lengths at₀ i₀ flat at i = (i ≤ 20) × (at ≡ 2 * i) × Puts at (shorts (take i lengths)) flat₀ flat
+Inv-loop flat₀ lengths at₀ i₀ flat at i = (i ≤ maxComponentCount) × (at ≡ 2 * i) × Puts at (shorts (take i lengths)) flat₀ flat
 
 abbrev μ-loop : tie.MeasureT-loop
-μ-loop flat₀ lengths at₀ i₀ flat at i = 20 - i
+μ-loop flat₀ lengths at₀ i₀ flat at i = maxComponentCount - i
 
 loop-holds : tie.Need-loop-holds Inv-loop μ-loop
 loop-holds c = (omega arith, refl, record { long = refl; is = refl })
@@ -51,9 +52,9 @@ returns c =
     let s : tie.Start Inv-loop μ-loop = search in
     let l = c .before .loop in
     let ls = now (s .args .lengths) in
-    let i : l .i ≡ 20 = omega arith in
-    let at : l .at ≡ 40 = omega arith in
-    let all : take 20 ls ≡ ls = take-all 20 ls (omega (arith, s .pre .1)) in
+    let i : l .i ≡ maxComponentCount = omega arith in
+    let at : l .at ≡ (2 * maxComponentCount) = omega arith in
+    let all : take maxComponentCount ls ≡ ls = take-all maxComponentCount ls (omega (arith, s .pre .1)) in
     rw (i, at, all) at (l .inv .2)
 
 pub put-lengths-spec : {M : Type 1} → statement M

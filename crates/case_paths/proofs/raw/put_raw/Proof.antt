@@ -1,4 +1,5 @@
 use Rattle.codec.proofs.Prelude.{arith, now, length-set, needs}
+use Rattle.path.specs.Limits.{maxComponentCount, maxPathLength}
 use Rattle.path.proofs.Puts.{puts-put, puts-first, puts-long, puts-tail, room-after}
 use Rattle.case_paths.proofs.RawSteps.{raw-record}
 use Rattle.case_paths.proofs.raw.put_raw.Statement.{statement}
@@ -13,7 +14,7 @@ part-put-lengths-start c = simp length-set (omega arith)
 put-lengths-requires : tie.Need-put-lengths-requires
 put-lengths-requires c κs =
     let s : tie.Start = search in
-    (room-after (puts-first (now (s .args .flat)) (s .args .count) (omega (arith, s .pre))) 40 (omega (arith, s .pre)), s .pre .2)
+    (room-after (puts-first (now (s .args .flat)) (s .args .count) (omega (arith, s .pre))) (2 * maxComponentCount) (omega (arith, s .pre)), s .pre .2)
 
 sub-put-bytes : tie.Need-sub-put-bytes
 sub-put-bytes c =
@@ -32,7 +33,7 @@ returns c =
     let s : tie.Start = search in
     let first = puts-first (now (s .args .flat)) (s .args .count) (omega (arith, s .pre)) in
     let second = puts-tail first (put-lengths .put-lengths .ensures) in
-    let all = puts-tail second (puts-put 600 (s .pre .1) (room-after second 600 (omega (arith, s .pre .0))) (put-bytes .put-bytes .ensures .1)) in
+    let all = puts-tail second (puts-put maxPathLength (s .pre .1) (room-after second maxPathLength (omega (arith, s .pre .0))) (put-bytes .put-bytes .ensures .1)) in
     raw-record _ _ _ all (s .pre .0) (s .pre .1) (s .pre .2) (s .pre .3) (s .pre .4)
 
 same-length : tie.Need-same-length
@@ -42,7 +43,7 @@ same-length c =
     let s : tie.Start = search in
     let first = puts-first (now (s .args .flat)) (s .args .count) (omega (arith, s .pre)) in
     let second = puts-tail first (put-lengths .put-lengths .ensures) in
-    let all = puts-tail second (puts-put 600 (s .pre .1) (room-after second 600 (omega (arith, s .pre .0))) (put-bytes .put-bytes .ensures .1)) in
+    let all = puts-tail second (puts-put maxPathLength (s .pre .1) (room-after second maxPathLength (omega (arith, s .pre .0))) (put-bytes .put-bytes .ensures .1)) in
     puts-long all (omega (arith, s .pre .0))
 
 pub put-raw-spec : {M : Type 1} → statement M

@@ -1,14 +1,15 @@
 -- The invariant: the first i numbers of the field are in their form and stand in `lengths`, and the field has 20.
 use Rattle.codec.proofs.Prelude.{_-_, _≤_, refl, _∙_, sym, now, arith, needs}
+use Rattle.path.specs.Limits.{maxComponentCount}
 use Rattle.case_paths.proofs.RawSteps.{LengthsRead, lengths-few, lengths-refused, lengths-next, lengths-all, number-said}
 use Rattle.case_paths.proofs.raw.read_lengths.Statement.{statement}
 use Rattle.case_paths.proofs.raw.read_lengths.Tie as tie
 
 abbrev Inv-loop : tie.InvT-loop
-Inv-loop field lengths₀ i₀ lengths i = (i ≤ 20) × LengthsRead field lengths i
+Inv-loop field lengths₀ i₀ lengths i = (i ≤ maxComponentCount) × LengthsRead field lengths i
 
 abbrev μ-loop : tie.MeasureT-loop
-μ-loop field lengths₀ i₀ lengths i = 20 - i
+μ-loop field lengths₀ i₀ lengths i = maxComponentCount - i
 
 returns : tie.Need-returns Inv-loop μ-loop
 returns c =

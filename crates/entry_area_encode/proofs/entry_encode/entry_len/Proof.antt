@@ -3,6 +3,7 @@ use Rattle.codec.specs.Answers.{wrote, outcomeOf}
 use Rattle.codec.proofs.Lending.{length-wrote, length-not-refused-writing, no-length}
 use Rattle.path.specs.Record.{Path, sized}
 use Rattle.path.specs.Flat.{pathIn}
+use Rattle.path_suffix.specs.Lengths.{maxAgainstLength}
 use Rattle.path_relative.specs.Records.{sharedBy}
 use Rattle.grouping.specs.Record.{subspaceOf}
 use Rattle.entry.proofs.Typed.{subspace-long}
@@ -22,7 +23,7 @@ known-told-start c = c .before .before .before .before .before
 
 -- the length of the path, and that it is small
 path-is : (c : tie.After-known-told) → let s = known-told-start c in let bs = sharedBy sized (s .args .k) .encode (path s) in
-    (c .before .shared .given .0 .0 ≡ length bs) × (length bs ≤ 1009)
+    (c .before .shared .given .0 .0 ≡ length bs) × (length bs ≤ maxAgainstLength)
 path-is c =
     let w : tie.After-shared-len = search in
     let s : tie.Start = search in

@@ -1,4 +1,5 @@
 use Rattle.codec.proofs.Prelude.{sym, ap, _∙_, List, ℕ, _++_, append-assoc, arith, now, take-all, needs}
+use Rattle.path.specs.Flat.{pathSize}
 use Rattle.flat.specs.Times.{timesFlat}
 use Rattle.flat.specs.AreaRecord.{subspaceFlat, areaFlat}
 use Rattle.path.proofs.Loads.{path-stores}
@@ -15,7 +16,7 @@ returns c =
     let s : tie.Start = search in
     let p = now (s .args .path) in
     let h = s .args .head in
-    let stored = path-stores p (omega (arith, s .pre)) (λ i. omega (arith, known .shared-slice-known .given i)) ∙ take-all 641 p (omega (arith, s .pre)) in
+    let stored = path-stores p (omega (arith, s .pre)) (λ i. omega (arith, known .shared-slice-known .given i)) ∙ take-all pathSize p (omega (arith, s .pre)) in
     let whole = puts-tail (puts-tail (after-put-subspace .put-subspace .ensures) (after-put-path .put-path .ensures)) (c .before .before .put-times .ensures) in
     puts-as whole (append-assoc (subspaceFlat (h .subspace)) p (timesFlat (h .times)) ∙ ap (λ (l : List ℕ). subspaceFlat (h .subspace) ++ (l ++ timesFlat (h .times))) (sym stored))
 

@@ -1,4 +1,5 @@
 use Rattle.codec.proofs.Prelude.{sym, ap, _∙_, List, ℕ, _++_, append-assoc, arith, now, take-all, needs}
+use Rattle.path.specs.Flat.{pathSize}
 use Rattle.flat.specs.EntryRecord.{idsFlat, endFlat, entryFlat}
 use Rattle.path.proofs.Loads.{path-stores}
 use Rattle.path.proofs.Puts.{puts-tail, puts-as}
@@ -14,7 +15,7 @@ returns c =
     let s : tie.Start = search in
     let p = now (s .args .path) in
     let f = s .args .fields in
-    let stored = path-stores p (omega (arith, s .pre)) (λ i. omega (arith, known .shared-slice-known .given i)) ∙ take-all 641 p (omega (arith, s .pre)) in
+    let stored = path-stores p (omega (arith, s .pre)) (λ i. omega (arith, known .shared-slice-known .given i)) ∙ take-all pathSize p (omega (arith, s .pre)) in
     puts-as (rw append-assoc at (puts-tail (puts-tail (after-put-ids .put-ids .ensures) (after-put-path .put-path .ensures)) (c .before .before .put-end .ensures)))
     (ap (λ (l : List ℕ). idsFlat f ++ (l ++ endFlat f)) (sym stored))
 

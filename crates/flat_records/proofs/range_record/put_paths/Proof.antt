@@ -1,6 +1,6 @@
 use Rattle.codec.proofs.Prelude.{_≡_, sym, _∙_, List, [], _∷_, _++_, append-assoc, ℕ, arith, now, length, length-set, take-all, needs}
 use Rattle.codec.specs.Answers.{AllBytes}
-use Rattle.path.specs.Flat.{pathFlat, pathIn}
+use Rattle.path.specs.Flat.{pathSize, pathFlat, pathIn}
 use Rattle.path.proofs.Loads.{path-stores}
 use Rattle.path.proofs.Puts.{puts-long, puts-tail, puts-byte, puts-as, room-after}
 use Rattle.flat_records.proofs.range_record.put_paths.Statement.{statement}
@@ -16,11 +16,11 @@ put-path-requires-2 : tie.Need-put-path-requires-2
 put-path-requires-2 c κs =
     let after-put-path : tie.After-put-path = search in
     let s : tie.Start = search in
-    (room-after (puts-byte (after-put-path .put-path .ensures) (c .before .bit .result) (omega (arith, s .pre))) 641 (s .pre .0), s .pre .2)
+    (room-after (puts-byte (after-put-path .put-path .ensures) (c .before .bit .result) (omega (arith, s .pre))) pathSize (s .pre .0), s .pre .2)
 
 -- a record is the path in it, as it is stored
-stored : (p : List ℕ) → length p ≡ 641 → AllBytes p → p ≡ pathFlat (pathIn p)
-stored p long b = sym (path-stores p (omega arith) b ∙ take-all 641 p (omega arith))
+stored : (p : List ℕ) → length p ≡ pathSize → AllBytes p → p ≡ pathFlat (pathIn p)
+stored p long b = sym (path-stores p (omega arith) b ∙ take-all pathSize p (omega arith))
 
 returns : tie.Need-returns
 returns c =

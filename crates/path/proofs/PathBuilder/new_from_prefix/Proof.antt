@@ -1,5 +1,5 @@
 use Rattle.codec.proofs.Prelude.{_≡_, refl, sym, ap, _∙_, [], true, _+_, _≤_, now, arith, le-leb, lt-leb, length, take, not-true, not-false, needs}
-use Rattle.path.specs.Limits.{totalOf}
+use Rattle.path.specs.Limits.{maxComponentCount, maxPathLength, totalOf}
 use Rattle.path.specs.Record.{sized, componentsOf, startAt}
 use Rattle.path.specs.Flat.{pathIn}
 use Rattle.path.specs.Builder.{built, builderOf, builtFrom, recordMore}
@@ -59,8 +59,8 @@ returns-3 c =
     let s : tie.Start = search in
     let cs = take (s .args .k) (componentsOf (pathIn (now (s .args .path)))) in
     let count = prefix-count _ (here e) _ (there (a .before)) in
-    let few : 0 + length cs ≤ 20 = omega (arith, count, there (a .before), here e .well .count) in
-    let small : 0 + totalOf cs ≤ 600 = omega (arith, start-small _ (here e) (s .args .k)) in
+    let few : 0 + length cs ≤ maxComponentCount = omega (arith, count, there (a .before), here e .well .count) in
+    let small : 0 + totalOf cs ≤ maxPathLength = omega (arith, start-small _ (here e) (s .args .k)) in
     let bytes = c .put-prefix .ensures ∙ ap (recordMore 0 0 cs) (cleared (e .before) .clear .ensures ∙ flat-empty) ∙ more-of [] cs few small in
     rw (fits e, le-leb _ _ (there (a .before))) (record { answer = refl; is = λ i. built (builderOf (total a i) (sym count i)) (bytes i) })
 

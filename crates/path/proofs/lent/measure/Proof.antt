@@ -1,5 +1,6 @@
 -- The invariant: the lengths from i on that are left, with the total so far, make the sum, and `short` says whether those before are short.
 use Rattle.codec.proofs.Prelude.{_≡_, sym, _∙_, _+_, _-_, _*_, _≤_, _&&_, and-true, and-false, ⊎-elim, sub-zero, now, arith, lt-leb, le-leb, take, drop}
+use Rattle.path.specs.Limits.{maxComponentLength}
 use Rattle.path.specs.Record.{sumOf, allAtMost}
 use Rattle.path.specs.Flat.{pathIn}
 use Rattle.path.proofs.Records.{span-next, short-next, short-end}
@@ -11,7 +12,7 @@ Inv-loop path n total₀ short₀ i₀ total short i =
     (i ≤ n)
     × (total ≤ 65535 * i)
     × (total + sumOf (take (n - i) (drop i (pathIn path .lengths))) ≡ sumOf (take n (pathIn path .lengths)))
-    × (allAtMost 300 (take n (pathIn path .lengths)) ≡ (allAtMost 300 (drop i (take n (pathIn path .lengths))) && short))
+    × (allAtMost maxComponentLength (take n (pathIn path .lengths)) ≡ (allAtMost maxComponentLength (drop i (take n (pathIn path .lengths))) && short))
 
 abbrev μ-loop : tie.MeasureT-loop
 μ-loop path n total₀ short₀ i₀ total short i = n - i

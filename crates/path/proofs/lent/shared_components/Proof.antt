@@ -1,7 +1,8 @@
 -- The invariant: outside, the first k components are the same and end at `at`; inside, so are the first i bytes of the next.
 use Rattle.codec.proofs.Prelude.{_+_, _≤_, _-_, _≡_, refl, sym, _∙_, ap, ℕ, List, arith, now, length, take, drop, needs}
+use Rattle.path.specs.Limits.{maxPathLength}
 use Rattle.path.specs.Record.{Path, lengthAt}
-use Rattle.path.specs.Flat.{pathIn}
+use Rattle.path.specs.Flat.{pathSize, pathIn}
 use Rattle.path.proofs.Components.{sized-formed}
 use Rattle.path.proofs.Records.{whole-in, lent-is}
 use Rattle.path.proofs.Compare.{agree-next, Together, together, together-next, left-ends, right-ends, left-inside, lengths-differ, bytes-differ}
@@ -29,10 +30,10 @@ abbrev μ-components : tie.MeasureT-components
 μ-components path other n m bytes other-bytes k₀ at₀ k at = n - k
 
 -- both records are whole
-left-whole : (c : tie.Start Inv-loop μ-loop Inv-components μ-components) → 641 ≤ length (now (c .args .path))
+left-whole : (c : tie.Start Inv-loop μ-loop Inv-components μ-components) → pathSize ≤ length (now (c .args .path))
 left-whole c = whole-in (now (c .args .path)) (sized-formed (c .pre .0))
 
-right-whole : (c : tie.Start Inv-loop μ-loop Inv-components μ-components) → 641 ≤ length (now (c .args .other))
+right-whole : (c : tie.Start Inv-loop μ-loop Inv-components μ-components) → pathSize ≤ length (now (c .args .other))
 right-whole c = whole-in (now (c .args .other)) (sized-formed (c .pre .1))
 
 bytes-in-requires : tie.Need-bytes-in-requires Inv-loop μ-loop Inv-components μ-components
@@ -60,7 +61,7 @@ components-holds c =
     }
 
 -- the component that is compared lies within the bytes
-inside : (c : tie.After-length-in Inv-loop μ-loop Inv-components μ-components) → c .before .before .before .components .at + c .length-in .result ≤ 600
+inside : (c : tie.After-length-in Inv-loop μ-loop Inv-components μ-components) → c .before .before .before .components .at + c .length-in .result ≤ maxPathLength
 unfolding lengthAt
 inside c =
     let w = c .before .before .before .components .inv in

@@ -1,4 +1,5 @@
 use Rattle.codec.proofs.Prelude.{_≡_, sym, _∙_, now, arith, lt-leb, le-leb, sub-zero, needs}
+use Rattle.path.specs.Limits.{maxComponentCount}
 use Rattle.path.specs.Record.{sumOf, used}
 use Rattle.path.specs.Flat.{pathIn}
 use Rattle.path.proofs.Records.{short-not-sized, sized-by}
@@ -25,7 +26,7 @@ returns-3 c =
     let after-wide : tie.After-wide = search in
     let s : tie.Start = search in
     let total : c .sum .result ≡ sumOf (used (pathIn (now (s .args .path)))) = c .sum .ensures ∙ rw (sub-zero (after-wide .wide .result), after-wide .wide .ensures .0) in
-    let few = le-leb (pathIn (now (s .args .path)) .count) 20 (omega (arith, after-wide .wide .ensures .0)) in
+    let few = le-leb (pathIn (now (s .args .path)) .count) maxComponentCount (omega (arith, after-wide .wide .ensures .0)) in
     sym (sized-by (now (s .args .path)) (omega arith) ∙ rw (few, total))
 
 pub sized-spec : {M : Type 1} → statement M

@@ -1,4 +1,5 @@
 use Rattle.codec.proofs.Prelude.{_≡_, sym, _∙_, _&&_, and-false, now, arith, not-true, not-false, leb, lt-leb, le-leb, drop, needs}
+use Rattle.path.specs.Limits.{maxComponentCount, maxPathLength}
 use Rattle.path.specs.Record.{allAtMost, wellFormed}
 use Rattle.path.specs.Flat.{pathIn}
 use Rattle.path.proofs.Records.{short-not-sized, unsized-malformed, well-by, zero-lengths, zero-bytes}
@@ -26,13 +27,13 @@ measure-requires c κs = (omega arith, omega arith)
 
 -- what is left of the definition after the count
 left : (c : tie.After-measure) → let p = pathIn (now (c .before .before .before .before .before .before .args .path)) in
-    wellFormed p ≡ (c .measure .result .short && (leb (c .measure .result .total) 600 && (allAtMost 0 (drop (c .before .before .wide .result) (p .lengths)) && allAtMost 0 (drop (c .measure .result .total) (p .bytes)))))
+    wellFormed p ≡ (c .measure .result .short && (leb (c .measure .result .total) maxPathLength && (allAtMost 0 (drop (c .before .before .wide .result) (p .lengths)) && allAtMost 0 (drop (c .measure .result .total) (p .bytes)))))
 left c =
     let wide : tie.After-wide = search in
     let s : tie.Start = search in
     let p = pathIn (now (s .args .path)) in
     well-by (now (s .args .path)) (omega arith)
-    ∙ rw (le-leb (p .count) 20 (omega (arith, count-is wide)), c .measure .ensures .1, c .measure .ensures .0, count-is wide)
+    ∙ rw (le-leb (p .count) maxComponentCount (omega (arith, count-is wide)), c .measure .ensures .1, c .measure .ensures .0, count-is wide)
 
 returns-3 : tie.Need-returns-3
 returns-3 c =
@@ -42,7 +43,7 @@ returns-3 c =
 returns-4 : tie.Need-returns-4
 returns-4 c =
     let measured : tie.After-measure = search in
-    sym (left measured ∙ rw (lt-leb (measured .measure .result .total) 600 (c .if4 .taken)) (and-false (measured .measure .result .short)))
+    sym (left measured ∙ rw (lt-leb (measured .measure .result .total) maxPathLength (c .if4 .taken)) (and-false (measured .measure .result .short)))
 
 -- past the tests of the sizes
 zeros : (c : tie.Else4) → let m = c .before .before .before .before in let p = pathIn (now (m .before .before .before .before .before .before .args .path)) in
@@ -50,7 +51,7 @@ zeros : (c : tie.Else4) → let m = c .before .before .before .before in let p =
 zeros c =
     let measured : tie.After-measure = search in
     let else3 : tie.Else3 = search in
-    left measured ∙ rw (not-false (measured .measure .result .short) (else3 .if3 .left), le-leb (measured .measure .result .total) 600 (c .if4 .left))
+    left measured ∙ rw (not-false (measured .measure .result .short) (else3 .if3 .left), le-leb (measured .measure .result .total) maxPathLength (c .if4 .left))
 
 -- the unused lengths
 rest : (c : tie.After-all-zero) → let wide = c .before .before .before .before .before .before .before .before in

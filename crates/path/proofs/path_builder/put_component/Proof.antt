@@ -1,5 +1,6 @@
 use Rattle.codec.proofs.Prelude.{_≡_, refl, sym, ap, _∙_, [], _∷_, _+_, _-_, _≤_, append-nil, putMid, now, arith, length, needs}
-use Rattle.path.specs.Limits.{totalOf}
+use Rattle.path.specs.Flat.{bytesStart}
+use Rattle.path.specs.Limits.{maxComponentCount, maxPathLength, totalOf}
 use Rattle.path.specs.Record.{joined}
 use Rattle.path.specs.Builder.{overFrom}
 use Rattle.path.proofs.Builder.{Fitting, fitting}
@@ -10,10 +11,10 @@ use Rattle.path.proofs.path_builder.put_component.Tie as tie
 room : (c : tie.Start) → Fitting (c .args .total) (c .args .count) (length (now (c .args .component)))
 room c = fitting _ _ _ (c .pre .1)
 
-fits : (c : tie.Start) → c .args .total + totalOf (now (c .args .component) ∷ []) ≤ 600
+fits : (c : tie.Start) → c .args .total + totalOf (now (c .args .component) ∷ []) ≤ maxPathLength
 fits c = omega (arith, room c .fits)
 
-few : (c : tie.Start) → c .args .count + 1 ≤ 20
+few : (c : tie.Start) → c .args .count + 1 ≤ maxComponentCount
 few c = omega (arith, room c .few)
 
 -- earlier places
@@ -47,7 +48,7 @@ add-length-at c =
 
 -- the bytes are put
 first : (c : tie.After-put-bytes) → let a = start c .args in
-    putMid (41 + a .total) (length (now (a .out)) - (41 + a .total)) (now (a .out)) (c .put-bytes .last .0) ≡ overFrom (41 + a .total) (joined (now (a .component) ∷ [])) (now (a .out))
+    putMid (bytesStart + a .total) (length (now (a .out)) - (bytesStart + a .total)) (now (a .out)) (c .put-bytes .last .0) ≡ overFrom (bytesStart + a .total) (joined (now (a .component) ∷ [])) (now (a .out))
 first c =
     let s = start c in
     recorded-first _ _ _ (now (s .args .component) ∷ []) (s .pre .0) (fits s) (few s) _ _ (sym (append-nil _)) (c .put-bytes .ensures .1)

@@ -1,8 +1,8 @@
 use Rattle.codec.proofs.Prelude.{_≡_, sym, ap, _∙_, List, ℕ, _+_, _≤_, now, arith, length, take, needs}
 use Rattle.codec.specs.Answers.{AllBytes}
-use Rattle.path.specs.Limits.{totalOf}
+use Rattle.path.specs.Limits.{maxComponentCount, maxPathLength, totalOf}
 use Rattle.path.specs.Record.{componentsOf}
-use Rattle.path.specs.Flat.{pathIn}
+use Rattle.path.specs.Flat.{pathSize, pathIn}
 use Rattle.path.proofs.Components.{Formed, sized-formed, prefix-count, start-small}
 use Rattle.path.proofs.Records.{whole-in}
 use Rattle.path.proofs.Growing.{recorded-first, recorded, more-long, prefix-bytes, prefix-lengths}
@@ -18,20 +18,20 @@ parts c = take (c .args .k) (componentsOf (pathIn (now (c .args .path))))
 count : (c : tie.Start) → length (parts c) ≡ c .args .k
 count c = prefix-count _ (here c) _ (c .pre .1 .there)
 
-fits : (c : tie.Start) → 0 + totalOf (parts c) ≤ 600
+fits : (c : tie.Start) → 0 + totalOf (parts c) ≤ maxPathLength
 fits c = omega (arith, start-small _ (here c) (c .args .k))
 
-few : (c : tie.Start) → 0 + length (parts c) ≤ 20
+few : (c : tie.Start) → 0 + length (parts c) ≤ maxComponentCount
 few c = omega (arith, count c, c .pre .1 .there, here c .well .count)
 
 -- what ends within the record
-small : (c : tie.Start) → c .args .total ≤ 600
+small : (c : tie.Start) → c .args .total ≤ maxPathLength
 small c = omega (arith, fits c, c .pre .2)
 
-short : (c : tie.Start) → c .args .k ≤ 20
+short : (c : tie.Start) → c .args .k ≤ maxComponentCount
 short c = omega (arith, count c, few c)
 
-whole : (c : tie.Start) → 641 ≤ length (now (c .args .path))
+whole : (c : tie.Start) → pathSize ≤ length (now (c .args .path))
 whole c = whole-in _ (here c)
 
 add-end : tie.Need-add-end

@@ -5,7 +5,7 @@ use Rattle.codec.specs.declared.Decoded.{Decoded}
 use Rattle.codec.proofs.Answers.{no-value, gives-refused, later-accepted, later-refused}
 use Rattle.codec.proofs.Lending.{to-end}
 use Rattle.path.specs.Record.{Path, componentsOf, pathFrom, sized}
-use Rattle.path.specs.Limits.{totalOf}
+use Rattle.path.specs.Limits.{maxComponentCount, maxPathLength, totalOf}
 use Rattle.path.specs.Flat.{pathIn}
 use Rattle.path.proofs.Components.{Formed, sized-formed, whole, total-small}
 use Rattle.path.proofs.Records.{lent-known, span-start}
@@ -68,7 +68,7 @@ counted c =
     let else1 : tie.Else1 = search in
     c .count .ensures ∙ lent-known _ (here else1) 0 (λ p. p .count)
 
-few : (c : tie.After-count) → c .count .result ≤ 20
+few : (c : tie.After-count) → c .count .result ≤ maxComponentCount
 few c =
     let else1 : tie.Else1 = search in
     omega (arith, counted c, here else1 .well .count)
@@ -79,7 +79,7 @@ total-sum c =
     let else1 : tie.Else1 = search in
     c .span .ensures ∙ span-start _ (here else1) (c .before .count .result) (omega (arith, counted (c .before))) ∙ all-total _ (fits else1) _ (counted (c .before))
 
-total-few : (c : tie.After-span) → c .span .result ≤ 600
+total-few : (c : tie.After-span) → c .span .result ≤ maxPathLength
 total-few c =
     let else1 : tie.Else1 = search in
     omega (arith, total-sum c, total-small _ (here else1))
@@ -97,7 +97,7 @@ bytes c i =
     let known : tie.After-shared-slice-known = search in
     omega (arith, known .shared-slice-known .given i)
 
-total-fits : (c : tie.Else2) → totalOf (componentsOf (prefix (span-start1 (c .before)))) + told-sizes (span-told (c .before)) .total ≤ 600
+total-fits : (c : tie.Else2) → totalOf (componentsOf (prefix (span-start1 (c .before)))) + told-sizes (span-told (c .before)) .total ≤ maxPathLength
 total-fits c = omega (arith, c .if2 .left, total-few (c .before), total-sum (c .before))
 
 -- the path that was read

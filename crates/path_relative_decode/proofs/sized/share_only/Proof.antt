@@ -1,4 +1,5 @@
 use Rattle.codec.proofs.Prelude.{_≡_, sym, ap, _∙_, [], not, _+_, _≤_, _<_, arith, now, length, needs}
+use Rattle.path.specs.Limits.{maxPathLength}
 use Rattle.path.specs.Record.{Path, lengthAt, startAt}
 use Rattle.path.specs.Flat.{pathIn}
 use Rattle.path.proofs.Components.{Formed, sized-formed, ends}
@@ -55,7 +56,7 @@ begins c =
     let s : tie.Start = search in
     c .span .ensures ∙ span-start _ (left s) (s .args .k) (s .pre .left .there)
 
-inside : (c : tie.After-span) → c .span .result + c .before .before .before .component-len .result ≤ 600
+inside : (c : tie.After-span) → c .span .result + c .before .before .before .component-len .result ≤ maxPathLength
 inside c =
     let len : tie.After-component-len = search in
     let else2 : tie.Else2 = search in
@@ -73,12 +74,12 @@ right-bytes c =
     let s : tie.Start = search in
     c .bytes2 .ensures ∙ lent-known _ (right s) [] (λ p. p .bytes)
 
-left-room : (c : tie.After-bytes) → length (now (c .bytes .result)) ≡ 600
+left-room : (c : tie.After-bytes) → length (now (c .bytes .result)) ≡ maxPathLength
 left-room c =
     let s : tie.Start = search in
     ap length (left-bytes c) ∙ left s .bytes
 
-right-room : (c : tie.After-bytes2) → length (now (c .bytes2 .result)) ≡ 600
+right-room : (c : tie.After-bytes2) → length (now (c .bytes2 .result)) ≡ maxPathLength
 right-room c =
     let s : tie.Start = search in
     ap length (right-bytes c) ∙ right s .bytes

@@ -1,4 +1,5 @@
 use Rattle.codec.proofs.Prelude.{_+_, _≤_, sym, _∙_, arith, needs}
+use Rattle.path.specs.Limits.{maxComponentCount, maxPathLength}
 use Rattle.path_suffix_decode.proofs.Within.{within-long, within-many, within-in}
 use Rattle.path_suffix_decode.proofs.components.decode_within.Statement.{statement}
 use Rattle.path_suffix_decode.proofs.components.decode_within.Tie as tie
@@ -11,10 +12,10 @@ abbrev start2 : tie.Else2 → tie.Start
 start2 c = start1 (c .before .before)
 
 -- past each test
-fits : (c : tie.Else1) → start1 c .args .builder .total + start1 c .args .total ≤ 600
+fits : (c : tie.Else1) → start1 c .args .builder .total + start1 c .args .total ≤ maxPathLength
 fits c = omega (arith, c .if1 .left, start1 c .pre .fits)
 
-few : (c : tie.Else2) → start2 c .args .builder .count + start2 c .args .count ≤ 20
+few : (c : tie.Else2) → start2 c .args .builder .count + start2 c .args .count ≤ maxComponentCount
 few c = omega (arith, c .if2 .left, start2 c .pre .few)
 
 returns : tie.Need-returns

@@ -1,5 +1,6 @@
 -- The invariant: t is what the components from the k-th on and before the i-th take, each after its length.
 use Rattle.codec.proofs.Prelude.{_≡_, _∙_, sym, refl, ap, ℕ, _+_, _-_, _≤_, _<_, now, arith, length, drop, needs}
+use Rattle.path.specs.Limits.{maxComponentCount}
 use Rattle.path.specs.Record.{componentsOf, lengthAt}
 use Rattle.path.specs.Flat.{pathIn}
 use Rattle.path.proofs.Components.{Formed, sized-formed}
@@ -45,7 +46,7 @@ at-count c = c .before .before
 abbrev at-start : tie.At-loop Inv-loop μ-loop → tie.Start Inv-loop μ-loop
 at-start c = at-count c .before .before
 
-few : (c : tie.At-loop Inv-loop μ-loop) → at-count c .count .result ≤ 20
+few : (c : tie.At-loop Inv-loop μ-loop) → at-count c .count .result ≤ maxComponentCount
 few c = omega (arith, c .loop .inv .0, here (at-start c) .well .count)
 
 -- a component before the last, and the last

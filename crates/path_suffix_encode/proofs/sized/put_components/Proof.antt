@@ -2,6 +2,7 @@
 use Rattle.codec.proofs.Prelude.{_≡_, refl, sym, ap, _∙_, List, ℕ, _+_, _-_, _≤_, _<_, _++_, now, arith, length, take, drop, length-drop, length-append, needs}
 use Rattle.codec.specs.Format.{over}
 use Rattle.codec.proofs.Lending.{to-end, put-end, put-end-long, over-turn}
+use Rattle.path.specs.Limits.{maxComponentCount, maxPathLength}
 use Rattle.path.specs.Record.{Path, componentsOf, lengthAt, startAt}
 use Rattle.path.specs.Flat.{pathIn}
 use Rattle.path.proofs.Components.{Formed, sized-formed, bytesAt, bytes-at-long, next-start, ends}
@@ -71,14 +72,14 @@ at-start c = c .before .before .before .before .before .before .before
 fits : (c : tie.At-loop Inv-loop μ-loop) → c .loop .at + length (left (now (at-start c .args .path)) (c .loop .i)) ≤ length (c .loop .buffer)
 fits c = omega (arith, c .loop .inv .room, c .loop .inv .long, at-start c .pre .1)
 
-few : (c : tie.At-loop Inv-loop μ-loop) → c .loop .i < 20
+few : (c : tie.At-loop Inv-loop μ-loop) → c .loop .i < maxComponentCount
 few c = omega (arith, c .loop .inv .count, c .loop .inv .more, here (at-start c) .well .count)
 
 -- the next component, where it stands
 here-more : (c : tie.At-loop Inv-loop μ-loop) → c .loop .i < pathIn (now (at-start c .args .path)) .count
 here-more c = omega (arith, c .loop .inv .count, c .loop .inv .more)
 
-len-ends : (c : tie.At-loop Inv-loop μ-loop) → c .loop .from + lengthAt (pathIn (now (at-start c .args .path))) (c .loop .i) ≤ 600
+len-ends : (c : tie.At-loop Inv-loop μ-loop) → c .loop .from + lengthAt (pathIn (now (at-start c .args .path))) (c .loop .i) ≤ maxPathLength
 len-ends c = omega (arith, ends _ (here (at-start c)) (c .loop .i) (here-more c), c .loop .inv .start)
 
 add-loop : tie.Need-add-loop Inv-loop μ-loop
@@ -95,7 +96,7 @@ part : (c : tie.At-loop Inv-loop μ-loop) (n : ℕ) → n ≡ lengthAt (pathIn (
     → take (c .loop .from + n - c .loop .from) (drop (c .loop .from) (now (c .before .before .bytes .result))) ≡ bytesAt (pathIn (now (at-start c .args .path))) (c .loop .i)
 part c n e = part-of _ _ _ n _ (c .loop .inv .source) (c .loop .inv .start) e
 
-bytes-long : (c : tie.At-loop Inv-loop μ-loop) → length (now (c .before .before .bytes .result)) ≡ 600
+bytes-long : (c : tie.At-loop Inv-loop μ-loop) → length (now (c .before .before .bytes .result)) ≡ maxPathLength
 bytes-long c = ap length (c .loop .inv .source) ∙ here (at-start c) .bytes
 
 add-to : tie.Need-add-to Inv-loop μ-loop

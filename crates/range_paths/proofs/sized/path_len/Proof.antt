@@ -4,6 +4,7 @@ use Rattle.codec.proofs.Lawful.{verdict-allowed}
 use Rattle.codec.proofs.Lending.{length-wrote, length-not-refused-writing, no-length}
 use Rattle.path.specs.Record.{Path, sized}
 use Rattle.path.specs.Flat.{pathIn}
+use Rattle.path_suffix.specs.Lengths.{maxAgainstLength}
 use Rattle.path_relative.specs.Records.{sharedBy}
 use Rattle.range_paths.proofs.Writing.{shared-short}
 use Rattle.range_paths.proofs.sized.path_len.Statement.{statement}
@@ -12,7 +13,7 @@ use Rattle.range_paths.proofs.sized.path_len.Tie as tie
 abbrev path : tie.Start → Path
 path c = pathIn (now (c .args .path))
 
-short : (c : tie.Start) → length (sharedBy sized (c .args .k) .encode (path c)) ≤ 900
+short : (c : tie.Start) → length (sharedBy sized (c .args .k) .encode (path c)) ≤ maxAgainstLength
 short c = shared-short (path c) (c .args .k) (verdict-allowed _ _ (c .pre) .0)
 
 returns : tie.Need-returns
