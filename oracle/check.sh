@@ -1,6 +1,6 @@
 #!/bin/sh
-# check.sh [FIRST_SEED LAST_SEED COUNT]: builds, runs the cases in cases/, then compares oracle and
-# model on generated cases of every kind.
+# check.sh [FIRST_SEED LAST_SEED COUNT]: builds, runs the cases in cases/, then compares the oracle with
+# its model and with tools/model.py on generated cases of every kind.
 cd "$(dirname "$0")" || exit 1
 export CARGO_TARGET_DIR="$PWD/../target/oracle"
 cargo build --release --offline -q || exit 1
@@ -14,13 +14,19 @@ done
 for seed in $(seq "${1:-1}" "${2:-2}"); do
     "$bin/gen" "$seed" "${3:-300000}" > "$tmp/cases"
     "$bin/oracle" --check < "$tmp/cases" > "$tmp/rust" 2> "$tmp/err"
-    "$bin/model" < "$tmp/cases" | paste "$tmp/cases" - > "$tmp/model"
     panics=$(grep -c '^panic' "$tmp/rust")
     ourfault=$(grep -c 'ourfault' "$tmp/rust")
-    # The length of an extension whose reference is no prefix: docs/DIFFERENCES.md.
-    differ=$(paste "$tmp/cases" "$tmp/rust" | diff - "$tmp/model" | grep '^>' | grep -vc '^> path_extends	n	.*	no	3$')
     reports=$(grep -vc '^writing panics, length does not: path_extends' "$tmp/err")
-    echo "seed $seed: differences $differ, reader panics $panics, ourfault $ourfault, reports $reports"
-    [ "$differ$panics$ourfault$reports" = 0000 ] || bad=1
+    echo "seed $seed: reader panics $panics, ourfault $ourfault, reports $reports"
+    [ "$panics$ourfault$reports" = 000 ] || bad=1
+    for model in "$bin/model" ../tools/model.py; do
+        "$model" < "$tmp/cases" | paste "$tmp/cases" - > "$tmp/model"
+        paste "$tmp/cases" "$tmp/rust" | diff - "$tmp/model" | grep '^>' > "$tmp/differences"
+        # The length of an extension whose reference is no prefix: docs/DIFFERENCES.md.
+        differ=$(grep -vc '^> path_extends	n	.*	no	3$' "$tmp/differences")
+        listed=$(grep -c '^> path_extends	n	.*	no	3$' "$tmp/differences")
+        echo "seed $seed: $(wc -l < "$tmp/model") lines, ${model##*/}: differences $differ, listed $listed"
+        [ "$differ" = 0 ] || bad=1
+    done
 done
 exit $bad

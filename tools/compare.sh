@@ -1,8 +1,10 @@
 #!/bin/sh
-# compare.sh N SEED [KIND]: compares target/bin/case_lines with the oracle on N generated case lines,
-# of KIND, or spread evenly over the kinds that case_lines answers.
+# compare.sh [--model] N SEED [KIND]: compares target/bin/case_lines with the oracle, or with tools/model.py,
+# on N generated case lines, of KIND, or spread evenly over the kinds that case_lines answers.
 # Exit status 1 if there is a difference that docs/DIFFERENCES.md does not list.
 set -eu
+theirs=oracle
+[ "${1-}" != --model ] || { theirs=model.py; shift; }
 [ $# -ge 2 ] || { sed -n '2,4s/^# //p' "$0"; exit 2; }
 n=$1
 seed=$2
@@ -19,14 +21,21 @@ mkdir -p $tmp
 : > $tmp/counts
 : > $tmp/differences
 
+answer_theirs() {
+    case $theirs in
+        oracle) $bin/oracle ;;
+        *) python3 tools/$theirs ;;
+    esac
+}
+
 # Reads the three files side by side, prints counts and appends differences.
 compare() {
-    awk -v cases=$tmp/cases -v theirs=$tmp/oracle -v ours=$tmp/case_lines -v differences=$tmp/differences '
+    awk -v cases=$tmp/cases -v theirs=$tmp/$theirs -v ours=$tmp/case_lines -v name=$theirs -v differences=$tmp/differences '
     # The slash also keeps awk from comparing digits as numbers.
     function is_prefix(p, q) { return p == "-" || index(q "/", p "/") == 1 }
     function next_of(file, answer) { return (getline answer < file) > 0 ? answer : "(no line)" }
     function differ(line, a, b) {
-        print line "\n    oracle      " a "\n    case_lines  " b >> differences
+        print line "\n    " substr(name "          ", 1, 10) "  " a "\n    case_lines  " b >> differences
     }
     BEGIN {
         while ((getline line < cases) > 0) {
@@ -56,7 +65,7 @@ for kind in $kinds; do
     while [ $left -gt 0 ]; do
         lines=$((left < chunk ? left : chunk))
         $bin/gen $chunk_seed $lines $kind > $tmp/cases
-        $bin/oracle < $tmp/cases > $tmp/oracle
+        answer_theirs < $tmp/cases > $tmp/$theirs
         target/bin/case_lines < $tmp/cases > $tmp/case_lines || { echo "case_lines: exit status $?"; bad=1; }
         compare
         left=$((left - lines))
@@ -65,7 +74,7 @@ for kind in $kinds; do
 done
 
 awk -F '\t' '{ sum[$1 FS $2 FS $3] += $4 } END { for (k in sum) print k FS sum[k] }' $tmp/counts | sort
-differing=$(grep -c '^    oracle' $tmp/differences || true)
+differing=$(grep -c '^    case_lines' $tmp/differences || true)
 echo "differences not listed: $differing"
 [ "$differing" = 0 ] && exit $bad
 head -n 60 $tmp/differences

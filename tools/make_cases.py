@@ -1,6 +1,6 @@
 #!/usr/bin/env python3
-"""Makes crates/case_lines/stdin and stdout (docs/CASES.md) from the oracle. Takes no arguments."""
-import re
+"""make_cases.py [--model]: makes crates/case_lines/stdin and stdout (docs/CASES.md). The answers are the oracle's; its model and model.py
+must agree. With --model they are model.py's alone, for an edition of the format that the Rust has not; the Rust then only generates lines."""
 import sys
 from pathlib import Path
 
@@ -9,32 +9,31 @@ import area_lists
 import case_lists
 import entry_entry_lists
 import entry_lists
+import model
+import path_lists
 import range_lists
-from case_lists import KINDS, TOP, tabbed, text, write
+from case_lists import write
+from model import KINDS, TAG_WIDTHS, tabbed
 from oracle import build, run
 
 ROOT = Path(__file__).resolve().parent.parent
+MODEL_ALONE = sys.argv[1:] == ["--model"]
 
 
 def fixed(name):
-    files = [ROOT / "oracle" / "cases" / f"{name}.{part}" for part in ["cases", "expected"]]
-    return list(zip(*(f.read_text().splitlines() for f in files)))
+    return (ROOT / "oracle" / "cases" / f"{name}.cases").read_text().splitlines()
 
 
 def examples():
     """The worked examples, and what strict reading accepts of them written."""
     lines = []
-    for line, answer in fixed("examples"):
+    for line in fixed("examples"):
         kind, op, *fields = line.split("\t")
         lines.append(line)
-        if op == "s" and answer.startswith("ok"):
-            _, length, *value = answer.split("\t")
+        answer, length, *value = model.answer(line).split("\t")
+        if op == "s" and answer == "ok":
             lines += write(kind, fields[:-2], tabbed(*value), int(length))
     return lines
-
-
-def edge():
-    return [line for line, _ in fixed("edge")]
 
 
 def generated(per_outcome=9, longest=400):
@@ -51,46 +50,32 @@ def generated(per_outcome=9, longest=400):
     return lines
 
 
-def decimal(s):
-    return int(s) if re.fullmatch("0|[1-9][0-9]*", s) and int(s) <= TOP else None
+def question(line):
+    """What the Rust is asked: of a path record that is well formed, the path's length."""
+    kind, *fields = line.split("\t")
+    if kind != "raw" or not model.answer(line).startswith("ok"):
+        return line
+    return tabbed("path", "n", model.PATH[1](model.raw_path(*fields)))
 
 
-def raw_question(line):
-    """The line that has the answer of a `raw` line; None for 5."""
-    fields = line.split("\t")
-    if len(fields) != 4 or not re.fullmatch("([0-9a-f]{2}){0,600}", fields[3]):
-        return ""
-    count = decimal(fields[1])
-    lengths = [decimal(n) for n in fields[2].split(",")]
-    data = bytes.fromhex(fields[3]).ljust(600, b"\0")
-    if count is None or None in lengths or len(lengths) != 20:
-        return ""
-    used = lengths[:count]
-    total = sum(used)
-    if count > 20 or max(used, default=0) > 300 or total > 600 or any(lengths[count:]) or any(data[total:]):
-        return None
-    return tabbed("path", "n", text([data[sum(used[:i]):sum(used[:i + 1])].hex() for i in range(count)]))
-
-
-def is_prefix(p, q):
-    return p == "-" or f"{q}/".startswith(f"{p}/")
+def agree(line, rust, second, told):
+    """Whether oracle and model agree with model.py."""
+    if rust == second == "skip":
+        return told in [tabbed("no", 5), tabbed("no", 6)]
+    # The one listed difference (docs/DIFFERENCES.md).
+    listed = line.startswith(tabbed("path_extends", "n", "")) and told == tabbed("no", 3)
+    return second == told and (rust == told or listed)
 
 
 def answers(lines):
-    """The oracle's answers; the model must agree."""
-    asked = [raw_question(line) if line.startswith("raw\t") else line for line in lines]
-    asked = [line if line is None or line.split("\t")[0] in KINDS else "" for line in asked]
-    rust, model = (run(program, [line or "" for line in asked]) for program in ["oracle", "model"])
-    result = []
-    for line, r, m in zip(asked, rust, model, strict=True):
-        fields = (line or "").split("\t")
-        # The one listed difference (docs/DIFFERENCES.md).
-        if len(fields) == 4 and fields[:2] == ["path_extends", "n"] and m == "no\t3" and not is_prefix(*fields[2:]):
-            r = m
-        if r != m:
-            sys.exit(f"oracle and model differ: {line}\n{r}\n{m}")
-        result.append("no\t5" if line is None else r)
-    return result
+    told = [model.answer(line) for line in lines]
+    if MODEL_ALONE:
+        return told
+    questions = [question(line) for line in lines]
+    for line, *three in zip(questions, run("oracle", questions), run("model", questions), told, strict=True):
+        if not agree(line, *three):
+            sys.exit(tabbed("oracle, model and model.py differ:", line) + "".join(f"\n{answer}" for answer in three))
+    return told
 
 
 def main():
@@ -100,14 +85,10 @@ def main():
         sys.exit("a malformed line is answered")
     lines = [
         *examples(),
-        *edge(),
-        *[line for w in [2, 3, 4, 8] for line in case_lists.numbers("number", w)],
+        *fixed("edge"),
+        *[line for w in TAG_WIDTHS for line in case_lists.numbers("number", w)],
         *case_lists.numbers("standalone", 8),
-        *case_lists.limits(),
-        *case_lists.overruns(),
-        *case_lists.forms(),
-        *case_lists.writing(),
-        *case_lists.raw_lines(),
+        *path_lists.paths(),
         *area_lists.areas(),
         *entry_lists.entries(),
         *entry_entry_lists.entries(),

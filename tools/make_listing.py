@@ -1,17 +1,18 @@
 #!/usr/bin/env python3
-"""Makes crates/area_listing/stdin and stdout (docs/LISTING.md) from the oracle. Takes no arguments."""
-import re
+"""make_listing.py [--model]: makes crates/area_listing/stdin and stdout (docs/LISTING.md). The answers are the oracle's; model.py must
+agree. With --model they are model.py's alone, for an edition of the format that the Rust has not."""
 import sys
 from pathlib import Path
 
 sys.dont_write_bytecode = True
 import area_lists
-from area_lists import ID, OTHER
-from case_lists import TOP, a, tabbed
+from area_lists import ID, OTHER, OWN, message
+from case_lists import FULL, MCC, MCL, a, text
+from model import LISTING_LINE_LIMIT, TOP, listing, tabbed
 from oracle import build, run
 
 ROOT = Path(__file__).resolve().parent.parent
-EXAMPLE = [tabbed("s", "*", "", 0, "*", "600000"), tabbed("l", "*", "", 100, 200, "00320000"), tabbed("s", "*", "", 100, 200, "00320000")]
+EXAMPLE = [tabbed("s", "*", "", 0, "*", OWN), *[tabbed(mode, "*", "", 100, 200, message(50, 0)) for mode in "ls"]]
 
 
 def listed(line):
@@ -30,12 +31,13 @@ def readings():
 
 def paths():
     """Components at their limits, from both sides; a dash is no path."""
-    texts = ["61", "/", "61/", "/61", "61/62", a(300), a(301), f"{a(300)}/{a(300)}", f"{a(300)}/{a(300)}/61", "/" * 19, "/" * 20, "-", "6", "6g", "6A", "61//62"]
-    return [tabbed(mode, "*", path, 0, "*", "600000") for path in texts for mode in "sl"]
+    full = text([a(len(c) // 2) for c in FULL])
+    texts = ["61", "/", "61/", "/61", "61/62", a(MCL), a(MCL + 1), full, f"{full}/61", "/" * (MCC - 1), "/" * MCC, "-", "6", "6g", "6A", "61//62"]
+    return [tabbed(mode, "*", path, 0, "*", OWN) for path in texts for mode in "sl"]
 
 
 def malformed():
-    good = ["s", "*", "61", 5, "*", "600000"]
+    good = ["s", "*", "61", 5, "*", OWN]
     bad = {
         0: ["", "S", "sl", "w", "n", " s"],
         1: ["", "-", "**", ID[:-1], ID[:-2], ID + "00", ID.upper()],
@@ -49,45 +51,42 @@ def malformed():
 
 
 def lengths():
-    """Lines of 4,096 bytes and more, each followed by a short one."""
-    start = tabbed("l", "*", "", 0, "*", "600000")
+    """Lines of the most bytes and more, each followed by a short one."""
+    start = tabbed("l", "*", "", 0, "*", OWN)
     lines = []
-    for n in [4095, 4096, 4097, 4098, 9000, 70000]:
-        lines += [start + "0" * (n - len(start)), tabbed("s", OTHER, "61", n, TOP, "600000")]
+    for n in [LISTING_LINE_LIMIT - 1, LISTING_LINE_LIMIT, LISTING_LINE_LIMIT + 1, LISTING_LINE_LIMIT + 2, 9000, 70000]:
+        lines += [start + "0" * (n - len(start)), tabbed("s", OTHER, "61", n, TOP, OWN)]
     return lines
 
 
 def numbers():
-    return [tabbed(mode, ID, "", start, end, message) for mode in "sl" for start, end in [(0, TOP), (TOP, "*"), (TOP, TOP), (1, 0)]
-            for message in ["", "60", "6000", "600000", "20000000", "30000000", "000000", "2f00ffffffffffffffff00"]]
+    return [tabbed(mode, ID, "", start, end, text) for mode in "sl" for start, end in [(0, TOP), (TOP, "*"), (TOP, TOP), (1, 0)]
+            for text in ["", OWN[:2], OWN[:4], OWN, message(0, 0, start_added=1), message(0, 0, start_added=1, end_added=1), message(0, 0)[:-2],
+                         "2f00ffffffffffffffff00"]]
 
 
-def answer(line, got):
-    """The oracle's answer in the listing's form; 6 where the line has no question."""
-    if got is None or not got.startswith("ok"):
-        return got or "no\t6"
-    fields = got.split("\t")
-    return tabbed(*["" if i == 3 and f == "-" else f for i, f in enumerate(fields)])
-
-
-def question(line):
-    fields = line.split("\t")
-    if len(line) > 4096 or len(fields) != 6 or fields[0] not in ["s", "l"] or fields[2] == "-":
-        return None
-    mode, subspace, path, start, end, message = fields
-    return tabbed("area_area", mode, subspace, path or "-", start, end, 0, message)
+def answers(lines):
+    told = [listing(line) for line in lines]
+    if sys.argv[1:] == ["--model"]:
+        return told
+    build()
+    # The case lines that a listing asks.
+    questions = []
+    for line in lines:
+        listing(line, lambda question: questions.append(question) or "")
+    got = dict(zip(questions, run("oracle", questions), strict=True))
+    for line, answer in zip(lines, told):
+        if listing(line, got.get) != answer:
+            sys.exit(f"oracle and model.py differ: {line}\n{listing(line, got.get)}\n{answer}")
+    return told
 
 
 def main():
-    build()
     lines = list(dict.fromkeys([*EXAMPLE, *paths(), *numbers(), *readings(), *malformed()])) + lengths()
-    asked = [question(line) for line in lines]
-    got = iter(run("oracle", [q for q in asked if q is not None]))
-    answers = [answer(line, None if q is None else next(got)) for line, q in zip(lines, asked)]
     crate = ROOT / "crates" / "area_listing"
     # The last line has no newline.
     (crate / "stdin").write_bytes("\n".join(lines).encode())
-    (crate / "stdout").write_bytes("".join(line + "\n" for line in answers).encode())
+    (crate / "stdout").write_bytes("".join(line + "\n" for line in answers(lines)).encode())
     print(f"{len(lines)} lines")
 
 

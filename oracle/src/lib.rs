@@ -7,10 +7,17 @@ pub mod text;
 
 pub use ids::{Id, Refusal};
 
-pub type Path = willow_data_model::Path<300, 20, 600>;
-pub type Area = willow_data_model::grouping::Area<300, 20, 600, Id>;
-pub type Entry = willow_data_model::Entry<300, 20, 600, Id, Id, Id>;
-pub type Range3d = willow_data_model::grouping::Range3d<300, 20, 600, Id>;
+/// The most bytes of a component.
+pub const MCL: usize = 300;
+/// The most components of a path.
+pub const MCC: usize = 20;
+/// The most bytes of a path.
+pub const MPL: usize = 600;
+
+pub type Path = willow_data_model::Path<MCL, MCC, MPL>;
+pub type Area = willow_data_model::grouping::Area<MCL, MCC, MPL, Id>;
+pub type Entry = willow_data_model::Entry<MCL, MCC, MPL, Id, Id, Id>;
+pub type Range3d = willow_data_model::grouping::Range3d<MCL, MCC, MPL, Id>;
 
 /// Panics of the originals are answers here, not messages.
 pub fn silence_panics() {

@@ -2,7 +2,7 @@
 use linked::numbers::Number;
 use linked::pairs::Pair;
 use oracle::kinds::*;
-use oracle::{Area, Entry, Id, Path, Range3d};
+use oracle::{Area, Entry, Id, Path, Range3d, MCC, MCL, MPL};
 use willow_data_model::grouping::{AreaSubspace, Range, RangeEnd};
 
 pub struct Input<'a>(pub &'a [u8]);
@@ -29,10 +29,10 @@ impl Input<'_> {
         let shape = self.byte();
         let (count, unit) = match shape >> 6 {
             0 | 1 => (shape % 4, 1),
-            2 => (shape % 21, 1),
-            _ => (shape % 4, 100),
+            2 => (shape % (MCC as u8 + 1), 1),
+            _ => (shape % 4, MCL / 3),
         };
-        let mut left = 600;
+        let mut left = MPL;
         let mut comps = vec![];
         for _ in 0..count {
             let length = (usize::from(self.byte() % 4) * unit).min(left);

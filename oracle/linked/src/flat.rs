@@ -17,8 +17,11 @@ impl Record for u64 {
     const UNTOUCHED: u64 = u64::from_ne_bytes([FILL; 8]);
 }
 impl Record for raw::Path {
-    const UNTOUCHED: raw::Path =
-        raw::Path { count: FILL, lengths: [[FILL; 2]; 20], bytes: [FILL; 600] };
+    const UNTOUCHED: raw::Path = raw::Path {
+        count: FILL,
+        lengths: [[FILL; 2]; raw::MAX_COMPONENT_COUNT],
+        bytes: [FILL; raw::MAX_PATH_LENGTH],
+    };
 }
 const TIMES: raw::TimeRange = raw::TimeRange { start: [FILL; 8], end_open: FILL, end: [FILL; 8] };
 impl Record for raw::Area {

@@ -4,6 +4,7 @@ use crate::flat::{Record, FILL};
 use crate::pairs::Pair;
 use jakepuro::raw;
 use oracle::random::Rng;
+use oracle::{MCC, MCL, MPL};
 use std::fmt::Debug;
 
 /// A well-formed record that can be made ill-formed.
@@ -29,16 +30,19 @@ impl Spoil for raw::Path {
         let count = usize::from(self.count);
         let total: usize = self.lengths.iter().map(|l| usize::from(u16::from_be_bytes(*l))).sum();
         match g.below(6) {
-            0 => self.count = 21 + g.below(235) as u8,
-            1 if total < 600 => self.bytes[total + g.below(600 - total)] = not_zero(g),
-            2 if count < 20 => self.lengths[count + g.below(20 - count)][g.below(2)] = not_zero(g),
-            3 if count > 0 => set_length(self, g.below(count), 301 + g.below(65535 - 300)),
-            4 if total < 600 => self.bytes[599] = not_zero(g),
+            0 => self.count = (MCC + 1 + g.below(255 - MCC)) as u8,
+            1 if total < MPL => self.bytes[total + g.below(MPL - total)] = not_zero(g),
+            2 if count < MCC => {
+                self.lengths[count + g.below(MCC - count)][g.below(2)] = not_zero(g)
+            }
+            3 if count > 0 => set_length(self, g.below(count), MCL + 1 + g.below(65535 - MCL)),
+            4 if total < MPL => self.bytes[MPL - 1] = not_zero(g),
             _ => {
                 // Each length within its limit, their sum not.
-                self.count = 3 + g.below(18) as u8;
+                const THIRD: usize = MPL / 3;
+                self.count = 3 + g.below(MCC - 2) as u8;
                 for i in 0..self.count.into() {
-                    set_length(self, i, if i < 3 { 201 + g.below(100) } else { 0 });
+                    set_length(self, i, if i < 3 { THIRD + 1 + g.below(MCL - THIRD) } else { 0 });
                 }
             }
         }
@@ -84,7 +88,7 @@ impl Spoil for raw::Range3d {
             3 => {
                 // Well formed but for the mark beside it.
                 self.path_end_open = 1;
-                self.path_end = raw::Path { count: 1 + g.below(20) as u8, ..raw::Path::ZERO };
+                self.path_end = raw::Path { count: 1 + g.below(MCC) as u8, ..raw::Path::ZERO };
             }
             4 => return self.path_start.spoil(g),
             _ => return self.path_end.spoil(g),
@@ -152,7 +156,7 @@ fn read<P: Pair>(strict: bool, r: &P::FlatRef, lent: &mut Lent<P>) -> Agreed {
 /// Widths that no tag has: 5. Tags that do not fit their width: 2, as docs/FORMAT.md says.
 pub fn tags_and_widths(g: &mut Rng, message: &[u8], start: usize, mut count: impl FnMut(Agreed)) {
     let width = g.byte();
-    let has_tags = matches!(width, 2 | 3 | 4 | 8);
+    let has_tags = (2..=8).contains(&width);
     let tag = g.byte();
     if has_tags && u16::from(tag) < 1 << width {
         return;

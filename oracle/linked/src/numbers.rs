@@ -14,6 +14,9 @@ impl<const W: u8> Pair for Number<W> {
         2 => "number_2",
         3 => "number_3",
         4 => "number_4",
+        5 => "number_5",
+        6 => "number_6",
+        7 => "number_7",
         _ => "number_8",
     };
     const KIND: &'static str = "number";

@@ -45,7 +45,7 @@ fn of_kind<K: Random>(g: &mut Rng, out: &mut Vec<u8>) {
 }
 
 fn of_number(g: &mut Rng, out: &mut Vec<u8>) {
-    let w = g.pick(&[2u64, 3, 4, 8]);
+    let w = g.pick(&[2u64, 3, 4, 5, 6, 7, 8]);
     let v = values::number_value(g);
     let op = g.pick(b"sslllwwn");
     out.extend_from_slice(b"number\t");

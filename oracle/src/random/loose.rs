@@ -2,7 +2,7 @@
 use super::paths::*;
 use super::values::*;
 use super::Rng;
-use crate::{Area, Entry, Id, Path, Range3d};
+use crate::{Area, Entry, Id, Path, Range3d, MCC, MCL, MPL};
 use willow_data_model::grouping::{AreaSubspace, Range, RangeEnd};
 
 /// How far the loose writer strays, in percent, at each choice.
@@ -41,10 +41,16 @@ impl Loose<'_> {
         match self.g.below(60) {
             0 => total = total.wrapping_add(self.g.below(3) as u64),
             1 => total = total.saturating_sub(1 + self.g.below(3) as u64),
-            2 => total = self.g.pick(&[0, 11, 12, 299, 300, 301, 599, 600, 601, u64::MAX]),
+            2 => {
+                let bounds = [0, 11, 12, MCL - 1, MCL, MCL + 1, MPL - 1, MPL, MPL + 1, usize::MAX];
+                total = self.g.pick(&bounds) as u64
+            }
             3 => count = count.wrapping_add(1),
             4 => count = count.saturating_sub(1),
-            5 => count = self.g.pick(&[0, 1, 11, 12, 19, 20, 21, 255, 256, u64::MAX]),
+            5 => {
+                let bounds = [0, 1, 11, 12, MCC - 1, MCC, MCC + 1, 255, 256, usize::MAX];
+                count = self.g.pick(&bounds) as u64
+            }
             _ => {}
         }
         let (lt, lb) = self.number(total, 4);
@@ -54,7 +60,7 @@ impl Loose<'_> {
             if i + 1 < c.len() || self.g.chance(1) {
                 let mut n = x.len() as u64;
                 if self.g.chance(1) {
-                    n = self.g.pick(&[0, 1, 299, 300, 301, 600, u64::MAX]);
+                    n = self.g.pick(&[0, 1, MCL - 1, MCL, MCL + 1, MPL, usize::MAX]) as u64;
                 }
                 out.extend(self.standalone(n));
             }
@@ -66,11 +72,11 @@ impl Loose<'_> {
     fn big_comps(&mut self) -> Comps {
         let g = &mut *self.g;
         match g.below(5) {
-            0 => vec![vec![0x61; 300]; 1 + g.below(4)],
-            1 => vec![vec![0x61; g.below(2)]; 18 + g.below(6)],
-            2 => (0..1 + g.below(6)).map(|_| vec![0x62; g.below(302)]).collect(),
-            3 => vec![vec![0x61; 250 + g.below(53)]; 1 + g.below(4)],
-            _ => vec![vec![0x61; 601 / (1 + g.below(20))]; 1 + g.below(22)],
+            0 => vec![vec![0x61; MCL]; 1 + g.below(4)],
+            1 => vec![vec![0x61; g.below(2)]; MCC - 2 + g.below(6)],
+            2 => (0..1 + g.below(6)).map(|_| vec![0x62; g.below(MCL + 2)]).collect(),
+            3 => vec![vec![0x61; MCL - 50 + g.below(53)]; 1 + g.below(4)],
+            _ => vec![vec![0x61; (MPL + 1) / (1 + g.below(MCC))]; 1 + g.below(MCC + 2)],
         }
     }
     pub fn path(&mut self, p: &Path) -> Vec<u8> {
@@ -90,7 +96,7 @@ impl Loose<'_> {
         match self.g.below(50) {
             0 => claimed += 1,
             1 => claimed = r.component_count() as u64 + self.g.below(2) as u64,
-            2 => claimed = self.g.pick(&[20, 21, 251, 252, 255, 256, u64::MAX]),
+            2 => claimed = self.g.pick(&[MCC, MCC + 1, 251, 252, 255, 256, usize::MAX]) as u64,
             _ => {}
         }
         let mut out = self.standalone(claimed);

@@ -1,11 +1,12 @@
 //! Random paths, and paths that stand in some relation to a given one.
 use super::Rng;
-use crate::Path;
+use crate::{Path, MCC, MCL, MPL};
 
 pub type Comps = Vec<Vec<u8>>;
+const LESS: usize = MCL - 1;
 const LENGTHS: [usize; 22] = [
-    5, 7, 10, 11, 12, 13, 14, 15, 16, 100, 200, 250, 251, 252, 253, 254, 255, 256, 257, 299, 300,
-    300,
+    5, 7, 10, 11, 12, 13, 14, 15, 16, 100, 200, 250, 251, 252, 253, 254, 255, 256, 257, LESS, MCL,
+    MCL,
 ];
 pub fn small_comp(g: &mut Rng) -> Vec<u8> {
     match g.below(12) {
@@ -25,10 +26,10 @@ pub fn long_comp(g: &mut Rng) -> Vec<u8> {
 }
 /// Cuts until the limits hold.
 pub fn within(mut c: Comps) -> Comps {
-    c.truncate(20);
-    let mut left = 600;
+    c.truncate(MCC);
+    let mut left = MPL;
     for x in c.iter_mut() {
-        x.truncate(300.min(left));
+        x.truncate(MCL.min(left));
         left -= x.len();
     }
     c
@@ -37,9 +38,9 @@ pub fn comps_of_total(g: &mut Rng, total: usize, count: usize) -> Comps {
     let mut left = total;
     let mut c = Comps::new();
     for i in 0..count {
-        let rest = (count - i - 1) * 300;
-        let least = left.saturating_sub(rest).min(300);
-        let most = left.min(300);
+        let rest = (count - i - 1) * MCL;
+        let least = left.saturating_sub(rest).min(MCL);
+        let most = left.min(MCL);
         let n = if i + 1 == count {
             most
         } else if g.chance(50) {
@@ -57,16 +58,16 @@ pub fn any_comps(g: &mut Rng) -> Comps {
         0..=6 => vec![],
         7..=26 => (0..1 + g.below(4)).map(|_| small_comp(g)).collect(),
         27 | 28 => {
-            let n = 8 + g.below(13);
+            let n = MCC - 12 + g.below(13);
             vec![vec![]; n]
         }
-        29 => (0..20).map(|_| small_comp(g)).collect(),
+        29 => (0..MCC).map(|_| small_comp(g)).collect(),
         30 => {
-            let n = g.pick(&[2, 3, 5, 19, 20]);
-            comps_of_total(g, 600, n)
+            let n = g.pick(&[2, 3, 5, MCC - 1, MCC]);
+            comps_of_total(g, MPL, n)
         }
         31 => {
-            let (t, n) = (580 + g.below(21), 2 + g.below(19));
+            let (t, n) = (MPL - 20 + g.below(21), 2 + g.below(MCC - 1));
             comps_of_total(g, t, n)
         }
         32 | 33 => {
@@ -75,7 +76,7 @@ pub fn any_comps(g: &mut Rng) -> Comps {
             comps_of_total(g, t, n)
         }
         34 => vec![long_comp(g)],
-        35 => vec![vec![0x61; 300], vec![0x62; 300]],
+        35 => vec![vec![0x61; MCL], vec![0x62; MCL]],
         36 => (0..10 + g.below(4)).map(|_| vec![0x61; g.below(2)]).collect(),
         _ => {
             let mut c: Comps = (0..1 + g.below(3)).map(|_| small_comp(g)).collect();

@@ -11,7 +11,7 @@ const USAGE: &str =
     --short BYTES    all messages of up to so many bytes as well
     --references N   against so many references (12)
     --tail BYTES     each followed by so many bytes (0)
-    --kind KIND      as in docs/CASES.md, or number_2, number_3, number_4, number_8";
+    --kind KIND      as in docs/CASES.md, or number_2 to number_8";
 
 struct Compare {
     seed: u64,

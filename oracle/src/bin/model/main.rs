@@ -75,7 +75,7 @@ fn kind<R, V>(
 }
 fn number(op: &[u8], f: &mut Fields, out: &mut Vec<u8>) -> Option<()> {
     let w = f.number()?;
-    if ![2, 3, 4, 8].contains(&w) {
+    if !(2..=8).contains(&w) {
         return None;
     }
     match op {

@@ -1,7 +1,7 @@
 //! Reading: fields and checks in the order of docs/FORMAT.md; the first that fails gives 1 or 2.
 use crate::values::*;
 use crate::write::written;
-use oracle::{Area, Entry, Id, Range3d};
+use oracle::{Area, Entry, Id, Range3d, MCC, MCL, MPL};
 use willow_data_model::grouping::{AreaSubspace, Range, RangeEnd};
 
 pub struct Msg<'a> {
@@ -51,11 +51,11 @@ impl Msg<'_> {
         for i in 0..count {
             let n = if i + 1 < count {
                 let n = self.standalone()?;
-                need(n <= 300, 2)?;
+                need(n <= MCL as u64, 2)?;
                 n as i64
             } else {
                 need(left >= 0, 2)?;
-                need(left <= 300, 2)?;
+                need(left <= MCL as i64, 2)?;
                 left
             };
             left -= n;
@@ -65,7 +65,7 @@ impl Msg<'_> {
     }
     pub fn path(&mut self) -> Res<Comps> {
         let (t, n) = self.total_and_count()?;
-        need(t <= 600 && n <= 20, 2)?;
+        need(t <= MPL as u64 && n <= MCC as u64, 2)?;
         self.components(t, n)
     }
     pub fn path_path(&mut self, r: &Comps) -> Res<Comps> {
@@ -74,7 +74,8 @@ impl Msg<'_> {
         need(shared <= r.len() as u64, 2)?;
         let shared = shared as usize;
         let mut c = r[..shared].to_vec();
-        need(t as u128 + total(&c) as u128 <= 600 && n as u128 + shared as u128 <= 20, 2)?;
+        need(t as u128 + total(&c) as u128 <= MPL as u128, 2)?;
+        need(n as u128 + shared as u128 <= MCC as u128, 2)?;
         c.extend(self.components(t, n)?);
         if self.strict && shared < r.len() && shared < c.len() {
             need(r[shared] != c[shared], 2)?;
@@ -84,7 +85,7 @@ impl Msg<'_> {
     pub fn path_extends(&mut self, r: &Comps) -> Res<Comps> {
         let suffix = self.path()?;
         let c = [r.clone(), suffix].concat();
-        need(total(&c) <= 600 && c.len() <= 20, 2)?;
+        need(total(&c) <= MPL && c.len() <= MCC, 2)?;
         Ok(c)
     }
     /// A time inside the reference with the smaller difference.

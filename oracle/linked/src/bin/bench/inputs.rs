@@ -2,7 +2,7 @@
 use linked::numbers::Number;
 use linked::pairs::Pair;
 use oracle::kinds::*;
-use oracle::{Area, Entry, Id, Path, Range3d};
+use oracle::{Area, Entry, Id, Path, Range3d, MCC, MPL};
 use willow_data_model::grouping::{AreaSubspace, Range, RangeEnd};
 
 /// How many variants are taken in turn.
@@ -12,7 +12,7 @@ pub const VARIANTS: usize = 16;
 pub enum Size {
     /// Two components of a few bytes.
     Short,
-    /// 20 components, 600 bytes.
+    /// As many components and bytes as there may be.
     Limit,
 }
 impl Size {
@@ -20,7 +20,7 @@ impl Size {
     fn of_path(self) -> (usize, usize) {
         match self {
             Size::Short => (2, 4),
-            Size::Limit => (20, 30),
+            Size::Limit => (MCC, MPL / MCC),
         }
     }
 }
