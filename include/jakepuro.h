@@ -8,7 +8,7 @@
  *   JAKEPURO_THEIR_FAULT   reading: the bytes are no encoding against this reference
  *   JAKEPURO_OUTSIDE       writing, length: the value does not lie inside the reference
  *   JAKEPURO_NO_ROOM       writing: the encoding is longer than the lent buffer
- *   JAKEPURO_MALFORMED     a record handed in is not well formed, or a tag's width is none of 2, 3, 4 and 8
+ *   JAKEPURO_MALFORMED     a record handed in is not well formed, or a tag's width is not 2 to 8
  *
  * What is left behind:
  *   a refused write changes no byte of the buffer, an accepted one only the first *written bytes;
@@ -161,7 +161,7 @@ static inline bool jakepuro_path_append(jakepuro_path *path, const uint8_t *comp
 
 /* ---- Compact numbers */
 
-/* The bytes after a tag of width bits (2, 3, 4 or 8), and in *tag the tag; beside a refusal *tag is unchanged. */
+/* The bytes after a tag of width bits (2 to 8), and in *tag the tag; beside a refusal *tag is unchanged. */
 uint8_t jakepuro_number_encode(uint8_t *buffer, size_t buffer_len, uint8_t width, uint64_t value, uint8_t *tag, size_t *written);
 uint8_t jakepuro_number_len_of_encoding(uint8_t width, uint64_t value, size_t *length);
 /* Beside a refusal *value is unchanged. */

@@ -134,7 +134,9 @@ class Reader:
         return self.take(ID_LENGTH)
 
     def head(self, layout):
-        return Head(layout, **unpack(layout, self.take(1)[0]))
+        head = Head(layout, **unpack(layout, self.take(1)[0]))
+        need(not head.get("spare"), 2)
+        return head
 
     def compact(self, width, tag):
         rest = self.take(bytes_after(tag, width))
@@ -203,7 +205,7 @@ class Reader:
 
     def entry_area(self, namespace, subspace, prefix, *times):
         head = self.head(ENTRY_AREA)
-        need(not head.get("spare") and head["id_written"] == (subspace is None), 2)
+        need(head["id_written"] == (subspace is None), 2)
         subspace = self.id() if subspace is None else subspace
         path = self.path_path(prefix)
         need(is_prefix(prefix, path), 2)

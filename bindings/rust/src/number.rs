@@ -15,6 +15,12 @@ pub enum TagWidth {
     Three = 3,
     /// 4 bits.
     Four = 4,
+    /// 5 bits.
+    Five = 5,
+    /// 6 bits.
+    Six = 6,
+    /// 7 bits.
+    Seven = 7,
     /// 8 bits.
     Eight = 8,
 }

@@ -72,8 +72,10 @@ fn a_record_that_is_not_well_formed_is_5() {
     let bad = raw::Area { any: 2, ..raw::Area::ZERO };
     assert_eq!(raw::area_area_encode(&mut buffer, &raw::Area::ZERO, &bad, &mut count), 5);
     let mut tag = 9;
-    assert_eq!(raw::number_encode(&mut buffer, 5, 1, &mut tag, &mut count), 5);
-    assert_eq!(tag, 9);
+    for width in [0, 1, 9, u8::MAX] {
+        assert_eq!(raw::number_encode(&mut buffer, width, 1, &mut tag, &mut count), 5);
+        assert_eq!(tag, 9);
+    }
 }
 
 #[test]

@@ -54,9 +54,41 @@ fn how_they_are_shown() {
     assert_eq!(shown, "Area { subspace: Any, path: Path[], times: Range { start: 0, end: Open } }");
 }
 
+const WIDTHS: [TagWidth; 7] = [
+    TagWidth::Two,
+    TagWidth::Three,
+    TagWidth::Four,
+    TagWidth::Five,
+    TagWidth::Six,
+    TagWidth::Seven,
+    TagWidth::Eight,
+];
+
 #[test]
 fn tags_fit_their_width() {
-    assert_eq!(Tag::new(TagWidth::Two, 4), None);
-    assert_eq!(Tag::new(TagWidth::Two, 3).map(|t| t.data()), Some(3));
-    assert_eq!(Tag::new(TagWidth::Eight, 255).map(|t| t.width()), Some(TagWidth::Eight));
+    for width in WIDTHS {
+        let last = u8::MAX >> (8 - width as u8);
+        assert_eq!(Tag::new(width, last).map(|t| (t.width(), t.data())), Some((width, last)));
+        assert_eq!(last.checked_add(1).and_then(|data| Tag::new(width, data)), None);
+    }
+}
+
+#[test]
+fn numbers_of_every_width() {
+    let mut buffer = [0; 8];
+    for width in WIDTHS {
+        // The four last tags say how many bytes follow; a value below them is its own tag.
+        let sized = (1 << width as u64) - 4;
+        let wide = [(sized, 0, 1), (1 << 8, 1, 2), (1 << 16, 2, 4), (u64::MAX, 3, 8)];
+        for (value, above, bytes) in wide {
+            let (tag, written) = CompactU64(value).tagged_encode(&mut buffer, width).unwrap();
+            assert_eq!((u64::from(tag.data()), written), (sized + above, bytes));
+            let read = CompactU64::relative_decode_canonic(&buffer[..written], 0, &tag);
+            assert_eq!(read, Ok((CompactU64(value), written)));
+        }
+        if 0 < sized {
+            let (tag, written) = CompactU64(sized - 1).tagged_encode(&mut buffer, width).unwrap();
+            assert_eq!((u64::from(tag.data()), written), (sized - 1, 0));
+        }
+    }
 }

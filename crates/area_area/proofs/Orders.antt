@@ -1,4 +1,4 @@
--- Orders of checks that the laws cannot see, since they tell 1 from 2: computed from the definition. No width is told by its number.
+-- Orders of checks that the laws cannot see, since they tell 1 from 2: computed from the definition, by the names of widths.
 use Rattle.codec.proofs.Prelude.{_≡_, refl, [], _∷_, Bool, true, false, ℕ, replicate}
 use Rattle.codec.specs.Answers.{refused}
 use Rattle.codec.specs.Bytes.{zeroId}

@@ -1,6 +1,6 @@
 -- docs/FORMAT.md, "Areas": the header byte of an area against an area.
 use mathlib.Core.Bool.{Bool, _&&_, _||_, not}
-use Prim.Native.Nat.{ℕ, _+_, _-_}
+use Prim.Native.Nat.{ℕ, _+_}
 use lib.Dec.{eqb}
 use Rattle.codec.specs.Header.{bitsAt, flag, placed, bit}
 use Rattle.area_times.specs.declared.AreaHeader.{AreaHeader}
@@ -16,24 +16,24 @@ startTagWidth = 2
 abbrev pub endTagWidth : ℕ
 endTagWidth = 2
 
--- where each part stands, the last first: each before the one below it
-abbrev pub endTagAt : ℕ
-endTagAt = 8 - endTagWidth
-
-abbrev pub startTagAt : ℕ
-startTagAt = endTagAt - startTagWidth
-
-abbrev pub endAddedAt : ℕ
-endAddedAt = startTagAt - 1
-
-abbrev pub startAddedAt : ℕ
-startAddedAt = endAddedAt - 1
+-- where each part stands, told by the widths of the parts before it
+abbrev pub idWrittenAt : ℕ
+idWrittenAt = 0
 
 abbrev pub endOpenAt : ℕ
-endOpenAt = startAddedAt - 1
+endOpenAt = 1
 
-abbrev pub idWrittenAt : ℕ
-idWrittenAt = endOpenAt - 1
+abbrev pub startAddedAt : ℕ
+startAddedAt = 2
+
+abbrev pub endAddedAt : ℕ
+endAddedAt = 3
+
+abbrev pub startTagAt : ℕ
+startTagAt = 4
+
+abbrev pub endTagAt : ℕ
+endTagAt = 4 + startTagWidth
 
 abbrev pub unpackHeader : ℕ → AreaHeader
 unpackHeader b = record {

@@ -13,18 +13,18 @@ pub(crate) const START_TAG_WIDTH: TagWidth = TagWidth::Two;
 
 pub(crate) const END_TAG_WIDTH: TagWidth = TagWidth::Two;
 
-// What one of each part adds to the byte, the last part first: each stands above the one before it.
+// What one of each part adds to the byte, told by the widths of the parts below it; the flags that come first, from the highest bit down.
+const ID_WRITTEN: u8 = 128;
+
+const END_OPEN: u8 = 64;
+
+const START_ADDED: u8 = 32;
+
+const END_ADDED: u8 = 16;
+
+const START_TAG: u8 = 1 << END_TAG_WIDTH as u8;
+
 const END_TAG: u8 = 1;
-
-const START_TAG: u8 = END_TAG << END_TAG_WIDTH as u8;
-
-const END_ADDED: u8 = START_TAG << START_TAG_WIDTH as u8;
-
-const START_ADDED: u8 = END_ADDED << 1;
-
-const END_OPEN: u8 = START_ADDED << 1;
-
-const ID_WRITTEN: u8 = END_OPEN << 1;
 
 // How many tags there are.
 const START_TAGS: u8 = 1 << START_TAG_WIDTH as u8;

@@ -1,4 +1,4 @@
--- Orders of checks that the laws cannot see, since they tell 1 from 2: computed from the definition, on the bytes that it gives. No width is told by its number.
+-- Orders of checks that the laws cannot see, since they tell 1 from 2: computed from the definition, by the names of widths.
 use Rattle.codec.proofs.Prelude.{_≡_, refl, [], _∷_, _++_, Bool, true, false, ℕ}
 use Rattle.codec.specs.Answers.{refused}
 use Rattle.codec.specs.Bytes.{zeroId}

@@ -1,5 +1,5 @@
 -- docs/FORMAT.md, "Entries": the header byte of an entry in an area.
-use Prim.Native.Nat.{ℕ, _+_, _-_}
+use Prim.Native.Nat.{ℕ, _+_}
 use Rattle.codec.specs.Header.{bitsAt, flag, placed, bit}
 use Rattle.entry_area_end.specs.declared.EntryAreaHeader.{EntryAreaHeader}
 
@@ -17,21 +17,21 @@ lengthTagWidth = 2
 abbrev pub spareWidth : ℕ
 spareWidth = 2
 
--- where each part stands, the last first: each before the one below it
-abbrev pub spareAt : ℕ
-spareAt = 8 - spareWidth
-
-abbrev pub lengthTagAt : ℕ
-lengthTagAt = spareAt - lengthTagWidth
-
-abbrev pub timeTagAt : ℕ
-timeTagAt = lengthTagAt - timeTagWidth
+-- where each part stands, told by the widths of the parts before it
+abbrev pub idWrittenAt : ℕ
+idWrittenAt = 0
 
 abbrev pub timeAddedAt : ℕ
-timeAddedAt = timeTagAt - 1
+timeAddedAt = 1
 
-abbrev pub idWrittenAt : ℕ
-idWrittenAt = timeAddedAt - 1
+abbrev pub timeTagAt : ℕ
+timeTagAt = 2
+
+abbrev pub lengthTagAt : ℕ
+lengthTagAt = 2 + timeTagWidth
+
+abbrev pub spareAt : ℕ
+spareAt = 2 + timeTagWidth + lengthTagWidth
 
 abbrev pub unpackHeader : ℕ → EntryAreaHeader
 unpackHeader b = record {

@@ -15,16 +15,16 @@ pub(crate) const LENGTH_TAG_WIDTH: TagWidth = TagWidth::Two;
 
 const SPARE_WIDTH: u8 = 2;
 
-// What one of each part adds to the byte, the last part first: each stands above the one before it.
+// What one of each part adds to the byte, told by the widths of the parts below it; the flags that come first, from the highest bit down.
+const ID_WRITTEN: u8 = 128;
+
+const TIME_ADDED: u8 = 64;
+
+const TIME_TAG: u8 = 1 << (LENGTH_TAG_WIDTH as u8 + SPARE_WIDTH);
+
+const LENGTH_TAG: u8 = 1 << SPARE_WIDTH;
+
 const SPARE: u8 = 1;
-
-const LENGTH_TAG: u8 = SPARE << SPARE_WIDTH;
-
-const TIME_TAG: u8 = LENGTH_TAG << LENGTH_TAG_WIDTH as u8;
-
-const TIME_ADDED: u8 = TIME_TAG << TIME_TAG_WIDTH as u8;
-
-const ID_WRITTEN: u8 = TIME_ADDED << 1;
 
 // How many tags there are, and what the bits that must be zero could say.
 const TIME_TAGS: u8 = 1 << TIME_TAG_WIDTH as u8;

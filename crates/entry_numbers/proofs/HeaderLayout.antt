@@ -1,4 +1,4 @@
--- The header of an entry against an entry: packing and taking apart undo each other, and the header that writing gives fits. No law here knows a place.
+-- The header of an entry against an entry: packing and taking apart undo each other, and the header that writing gives fits. No law here knows a place or a width.
 use Rattle.codec.proofs.Prelude.{_≡_, refl, Bool, ℕ, _+_, _≤_, _<_, _^_, arith}
 use Rattle.codec.specs.Header.{bitsAt, placed, bit, Layout}
 use Rattle.codec.proofs.Header.{field-fits, bit-small, flag-of, same-bytes}

@@ -1,5 +1,5 @@
 -- docs/FORMAT.md, "Entries against an entry": the header byte.
-use Prim.Native.Nat.{ℕ, _+_, _-_}
+use Prim.Native.Nat.{ℕ, _+_}
 use Rattle.codec.specs.Header.{bitsAt, flag, placed, bit}
 use Rattle.entry_numbers.specs.declared.EntryHeader.{EntryHeader}
 
@@ -14,21 +14,21 @@ timeTagWidth = 2
 abbrev pub lengthTagWidth : ℕ
 lengthTagWidth = 3
 
--- where each part stands, the last first: each before the one below it
-abbrev pub lengthTagAt : ℕ
-lengthTagAt = 8 - lengthTagWidth
-
-abbrev pub timeTagAt : ℕ
-timeTagAt = lengthTagAt - timeTagWidth
-
-abbrev pub timeAddedAt : ℕ
-timeAddedAt = timeTagAt - 1
+-- where each part stands, told by the widths of the parts before it
+abbrev pub namespaceWrittenAt : ℕ
+namespaceWrittenAt = 0
 
 abbrev pub subspaceWrittenAt : ℕ
-subspaceWrittenAt = timeAddedAt - 1
+subspaceWrittenAt = 1
 
-abbrev pub namespaceWrittenAt : ℕ
-namespaceWrittenAt = subspaceWrittenAt - 1
+abbrev pub timeAddedAt : ℕ
+timeAddedAt = 2
+
+abbrev pub timeTagAt : ℕ
+timeTagAt = 3
+
+abbrev pub lengthTagAt : ℕ
+lengthTagAt = 3 + timeTagWidth
 
 abbrev pub unpackHeader : ℕ → EntryHeader
 unpackHeader b = record {

@@ -13,16 +13,16 @@ pub(crate) const TIME_TAG_WIDTH: TagWidth = TagWidth::Two;
 
 pub(crate) const LENGTH_TAG_WIDTH: TagWidth = TagWidth::Three;
 
-// What one of each part adds to the byte, the last part first: each stands above the one before it.
+// What one of each part adds to the byte, told by the widths of the parts below it; the flags that come first, from the highest bit down.
+const NAMESPACE_WRITTEN: u8 = 128;
+
+const SUBSPACE_WRITTEN: u8 = 64;
+
+const TIME_ADDED: u8 = 32;
+
+const TIME_TAG: u8 = 1 << LENGTH_TAG_WIDTH as u8;
+
 const LENGTH_TAG: u8 = 1;
-
-const TIME_TAG: u8 = LENGTH_TAG << LENGTH_TAG_WIDTH as u8;
-
-const TIME_ADDED: u8 = TIME_TAG << TIME_TAG_WIDTH as u8;
-
-const SUBSPACE_WRITTEN: u8 = TIME_ADDED << 1;
-
-const NAMESPACE_WRITTEN: u8 = SUBSPACE_WRITTEN << 1;
 
 // How many tags there are.
 const TIME_TAGS: u8 = 1 << TIME_TAG_WIDTH as u8;

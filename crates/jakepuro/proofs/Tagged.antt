@@ -1,5 +1,5 @@
 -- Laws of numbers whose tag's width crosses as its bits.
-use Rattle.codec.proofs.Prelude.{_≡_, List, Bool, true, false, ℕ, length}
+use Rattle.codec.proofs.Prelude.{_≡_, refl, List, Bool, true, false, _&&_, ℕ, _+_, _≤_, arith, leb, leb-true, length}
 use Rattle.codec.specs.Answers.{Outcome, refused}
 use Rattle.codec.specs.Format.{allowed, refusedValue, putAnswer, putBuffer, writeAnswer, writeBuffer}
 use Rattle.compact_u64.specs.declared.TagWidth.{TagWidth}
@@ -9,6 +9,19 @@ use Rattle.jakepuro.specs.declared.numbers.NumberWidth.{NumberWidth}
 use Rattle.jakepuro.specs.declared.numbers.NumberWidth.the-variants as width
 use Rattle.jakepuro.specs.Tagged.{isWidth, tagged, readTagged}
 use Rattle.jakepuro.specs.inside.Tagged.{HasBits}
+
+-- a number that is none of the widths
+pub above : (n w : ℕ) → n ≤ w → (w ≡ n → ⊥) → n + 1 ≤ w
+above n w l other = omega arith
+
+pub no-width : (w : ℕ) → (2 ≤ w → 9 ≤ w) → isWidth w ≡ false
+unfolding isWidth
+no-width w past = go (leb 2 w) refl (leb w 8) refl
+  where
+    go : (a : Bool) → leb 2 w ≡ a → (b : Bool) → leb w 8 ≡ b → (a && b) ≡ false
+    go false p b q = refl
+    go true p false q = refl
+    go true p true q = absurd (omega (arith, past (leb-true 2 w p), leb-true w 8 q))
 
 pub has-no-bits : (x : NumberWidth) (w : ℕ) → x ≡ width.Malformed → HasBits x w → isWidth w ≡ false
 has-no-bits x w e h = rw e at h

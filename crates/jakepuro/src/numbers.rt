@@ -24,6 +24,9 @@ fn width_of(width: u8) -> NumberWidth
         2 => NumberWidth::Bits(TagWidth::Two),
         3 => NumberWidth::Bits(TagWidth::Three),
         4 => NumberWidth::Bits(TagWidth::Four),
+        5 => NumberWidth::Bits(TagWidth::Five),
+        6 => NumberWidth::Bits(TagWidth::Six),
+        7 => NumberWidth::Bits(TagWidth::Seven),
         8 => NumberWidth::Bits(TagWidth::Eight),
         _ => NumberWidth::Malformed,
     }
@@ -52,7 +55,7 @@ fn give_number(number: DecodedU64, value: &mut u64, consumed: &mut usize) -> u8
     0
 }
 
-// Writes the bytes after a tag of 2, 3, 4 or 8 bits, and gives the tag.
+// Writes the bytes after a tag of 2 to 8 bits, and gives the tag.
 #[no_mangle]
 pub extern "C" fn jakepuro_number_encode(
     buffer: &mut [u8],
@@ -88,7 +91,7 @@ pub extern "C" fn jakepuro_number_len_of_encoding(width: u8, value: u64, length:
     calls::tell_length(Encoded::Length(n), length)
 }
 
-// Reads the bytes after a tag of 2, 3, 4 or 8 bits.
+// Reads the bytes after a tag of 2 to 8 bits.
 #[no_mangle]
 pub extern "C" fn jakepuro_number_decode(
     message: &[u8],

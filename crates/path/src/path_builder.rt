@@ -61,27 +61,23 @@ impl PathBuilder {
     }
 
     // One component more; its bytes and its length go after those that are there.
-    pub fn append_component(self, out: &mut [u8; lent::SIZE], component: &[u8]) -> Growth
+    pub fn append_component(mut self, out: &mut [u8; lent::SIZE], component: &[u8]) -> Growth
         ensures { λ r. ⌜ Appends self (now (component .entry)) (now (out .entry)) r (now (out .exit)) ⌝ }
     {
         let n = component.len();
-        let total = self.total;
-        let count = self.count;
-        let fits = fits_after(total, count, n);
+        let fits = fits_after(self.total, self.count, n);
         if !fits {
             return Growth {
                 answer: Appended::Outside,
                 builder: self,
             };
         }
-        put_component(out, component, total, count);
-        let builder = PathBuilder {
-            total: total + n,
-            count: count + 1,
-        };
+        put_component(out, component, self.total, self.count);
+        self.total += n;
+        self.count += 1;
         Growth {
             answer: Appended::Grown,
-            builder: builder,
+            builder: self,
         }
     }
 

@@ -1,4 +1,4 @@
--- Orders of checks that the laws cannot see, since they tell 1 from 2: computed from the definition, on the bytes that it gives. No byte, width or limit is told by its number.
+-- Orders of checks that the laws cannot see, since they tell 1 from 2: computed from the definition, by the names of widths and limits.
 use Rattle.codec.proofs.Prelude.{_≡_, refl, List, [], _∷_, _++_, true, false, ℕ, _+_}
 use Rattle.codec.specs.Answers.{refused}
 use Rattle.compact_u64.specs.BigEndian.{bigEndian}

@@ -1,5 +1,5 @@
 -- docs/FORMAT.md, "Paths": the header byte of a suffix, a tag for the total length, and one for the component count.
-use Prim.Native.Nat.{ℕ, _+_, _-_}
+use Prim.Native.Nat.{ℕ, _+_}
 use Rattle.codec.specs.Header.{bitsAt, placed}
 use Rattle.path_suffix.specs.declared.Tags.{Tags}
 
@@ -14,12 +14,12 @@ totalWidth = 4
 abbrev pub countWidth : ℕ
 countWidth = 4
 
--- where each tag stands, the last first: each before the one below it
-abbrev pub countAt : ℕ
-countAt = 8 - countWidth
-
+-- where each tag starts, told by the width of the one before it
 abbrev pub totalAt : ℕ
-totalAt = countAt - totalWidth
+totalAt = 0
+
+abbrev pub countAt : ℕ
+countAt = totalWidth
 
 abbrev pub unpackTags : ℕ → Tags
 unpackTags b = record { total = bitsAt totalAt totalWidth b; count = bitsAt countAt countWidth b }

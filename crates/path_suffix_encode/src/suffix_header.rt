@@ -13,10 +13,10 @@ pub const TOTAL_WIDTH: TagWidth = TagWidth::Four;
 
 pub const COUNT_WIDTH: TagWidth = TagWidth::Four;
 
-// What one of each tag adds to the byte, the last first: each stands above the one before it.
-const COUNT: u8 = 1;
+// What one of each tag adds to the byte, told by the width of the one below it.
+const TOTAL: u8 = 1 << COUNT_WIDTH as u8;
 
-const TOTAL: u8 = COUNT << COUNT_WIDTH as u8;
+const COUNT: u8 = 1;
 
 // How many tags there are.
 const TOTAL_TAGS: u8 = 1 << TOTAL_WIDTH as u8;

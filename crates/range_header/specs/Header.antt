@@ -1,6 +1,6 @@
 -- docs/FORMAT.md, "3d ranges": the first header byte.
 use mathlib.Core.Bool.{cond}
-use Prim.Native.Nat.{ℕ, _+_, _-_}
+use Prim.Native.Nat.{ℕ, _+_, _*_}
 use lib.Dec.{eqb}
 use Rattle.codec.specs.Header.{bitsAt, flag, placed, bit}
 use Rattle.range_subspaces.specs.declared.IdSource.{IdSource}
@@ -15,24 +15,24 @@ headerLength = 2
 abbrev pub sourceWidth : ℕ
 sourceWidth = 2
 
--- where each part stands, the last first: each before the one below it
-abbrev pub timesEndOpenAt : ℕ
-timesEndOpenAt = 8 - 1
-
-abbrev pub pathEndFromStartAt : ℕ
-pathEndFromStartAt = timesEndOpenAt - 1
-
-abbrev pub pathEndOpenAt : ℕ
-pathEndOpenAt = pathEndFromStartAt - 1
-
-abbrev pub pathStartFromStartAt : ℕ
-pathStartFromStartAt = pathEndOpenAt - 1
+-- where each part stands, told by the widths of the parts before it
+abbrev pub subspaceStartAt : ℕ
+subspaceStartAt = 0
 
 abbrev pub subspaceEndAt : ℕ
-subspaceEndAt = pathStartFromStartAt - sourceWidth
+subspaceEndAt = sourceWidth
 
-abbrev pub subspaceStartAt : ℕ
-subspaceStartAt = subspaceEndAt - sourceWidth
+abbrev pub pathStartFromStartAt : ℕ
+pathStartFromStartAt = 2 * sourceWidth
+
+abbrev pub pathEndOpenAt : ℕ
+pathEndOpenAt = 2 * sourceWidth + 1
+
+abbrev pub pathEndFromStartAt : ℕ
+pathEndFromStartAt = 2 * sourceWidth + 2
+
+abbrev pub timesEndOpenAt : ℕ
+timesEndOpenAt = 2 * sourceWidth + 3
 
 -- where an id is taken from
 abbrev pub sourceBits : IdSource → ℕ

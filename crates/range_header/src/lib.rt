@@ -22,18 +22,18 @@ const SOURCE_WIDTH: u8 = 2;
 
 const SOURCES: u8 = 1 << SOURCE_WIDTH;
 
-// What one of each part adds to the byte, the last part first: each stands above the one before it.
+// What one of each part adds to the byte, told by the widths of the parts below it.
+const SUBSPACE_START: u8 = 16 << SOURCE_WIDTH;
+
+const SUBSPACE_END: u8 = 16;
+
+const PATH_START_FROM_START: u8 = 8;
+
+const PATH_END_OPEN: u8 = 4;
+
+const PATH_END_FROM_START: u8 = 2;
+
 const TIMES_END_OPEN: u8 = 1;
-
-const PATH_END_FROM_START: u8 = TIMES_END_OPEN << 1;
-
-const PATH_END_OPEN: u8 = PATH_END_FROM_START << 1;
-
-const PATH_START_FROM_START: u8 = PATH_END_OPEN << 1;
-
-const SUBSPACE_END: u8 = PATH_START_FROM_START << 1;
-
-const SUBSPACE_START: u8 = SUBSPACE_END << SOURCE_WIDTH;
 
 fn source_from(bits: u8) -> IdSource
     ensures { λ r. ⌜ r ≡ sourceFrom bits ⌝ }

@@ -1,4 +1,4 @@
--- The header of the times: packing and taking apart undo each other. No law here knows a place.
+-- The header of the times: packing and taking apart undo each other. No law here knows a place or a width.
 use Rattle.codec.proofs.Prelude.{_≡_, refl, ℕ, _+_, _≤_, _<_, _^_, arith}
 use Rattle.codec.specs.Header.{bitsAt, placed, bit, Layout}
 use Rattle.codec.proofs.Header.{field-fits, bit-small, flag-of, same-bytes}

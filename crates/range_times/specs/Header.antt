@@ -1,5 +1,5 @@
 -- docs/FORMAT.md, "3d ranges": the second header byte, that of the times.
-use Prim.Native.Nat.{ℕ, _+_, _-_}
+use Prim.Native.Nat.{ℕ, _+_}
 use Rattle.codec.specs.Header.{bitsAt, flag, placed, bit}
 use Rattle.range_times.specs.declared.RangeTimesHeader.{RangeTimesHeader}
 
@@ -10,24 +10,24 @@ startTagWidth = 2
 abbrev pub endTagWidth : ℕ
 endTagWidth = 2
 
--- where each part stands, the last first: each before the one below it
-abbrev pub endTagAt : ℕ
-endTagAt = 8 - endTagWidth
-
-abbrev pub endAddedAt : ℕ
-endAddedAt = endTagAt - 1
-
-abbrev pub endFromStartAt : ℕ
-endFromStartAt = endAddedAt - 1
-
-abbrev pub startTagAt : ℕ
-startTagAt = endFromStartAt - startTagWidth
+-- where each part stands, told by the widths of the parts before it
+abbrev pub startFromStartAt : ℕ
+startFromStartAt = 0
 
 abbrev pub startAddedAt : ℕ
-startAddedAt = startTagAt - 1
+startAddedAt = 1
 
-abbrev pub startFromStartAt : ℕ
-startFromStartAt = startAddedAt - 1
+abbrev pub startTagAt : ℕ
+startTagAt = 2
+
+abbrev pub endFromStartAt : ℕ
+endFromStartAt = 2 + startTagWidth
+
+abbrev pub endAddedAt : ℕ
+endAddedAt = 3 + startTagWidth
+
+abbrev pub endTagAt : ℕ
+endTagAt = 4 + startTagWidth
 
 abbrev pub unpackHeader : ℕ → RangeTimesHeader
 unpackHeader b = record {

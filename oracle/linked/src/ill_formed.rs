@@ -2,9 +2,10 @@
 use crate::check::{refused_with, Agreed, Fenced, NO_COUNT};
 use crate::flat::{Record, FILL};
 use crate::pairs::Pair;
-use jakepuro::raw;
+use jakepuro::raw::{
+    self, MAX_COMPONENT_COUNT as MCC, MAX_COMPONENT_LENGTH as MCL, MAX_PATH_LENGTH as MPL,
+};
 use oracle::random::Rng;
-use oracle::{MCC, MCL, MPL};
 use std::fmt::Debug;
 
 /// A well-formed record that can be made ill-formed.

@@ -1,4 +1,4 @@
-use Rattle.codec.proofs.Prelude.{arith, now, length-set, needs}
+use Rattle.codec.proofs.Prelude.{_*_, arith, now, length-set, needs}
 use Rattle.path.specs.Limits.{maxComponentCount, maxPathLength}
 use Rattle.path.proofs.Puts.{puts-put, puts-first, puts-long, puts-tail, room-after}
 use Rattle.case_paths.proofs.RawSteps.{raw-record}

@@ -22,20 +22,21 @@ put-component-requires c κs =
     let e : tie.Else1 = search in
     (omega arith, fits e)
 
-add-t14 : tie.Need-add-t14
-add-t14 c =
+add-self : tie.Need-add-self
+add-self c =
     let e : tie.Else1 = search in
     omega (arith, fitting _ _ _ (fits e) .fits)
 
-add-t15 : tie.Need-add-t15
-add-t15 c =
+add-self-2 : tie.Need-add-self-2
+add-self-2 c =
     let e : tie.Else1 = search in
     omega (arith, fitting _ _ _ (fits e) .few)
 
 returns-2 : tie.Need-returns-2
 returns-2 c =
     let e : tie.Else1 = search in
-    rw (fits e) (record { answer = refl; is = rw (c .put-component .ensures) })
+    let put : tie.After-put-component = search in
+    rw (fits e) (record { answer = refl; is = rw (put .put-component .ensures) })
 
 pub append-component-spec : {M : Type 1} → statement M
-append-component-spec = tie.close (tie.spec (λ c κs. search needs) returns put-component-requires add-t14 add-t15 returns-2)
+append-component-spec = tie.close (tie.spec (λ c κs. search needs) returns put-component-requires add-self add-self-2 returns-2)
