@@ -1,7 +1,8 @@
 #!/bin/sh
 # drill.sh [NAME..]: what a new edition costs. Applies each drill of tools/drills, or those named, to a copy of the repository, proves there what rests on
 # it, up to the theorems, and prints the table of docs/EDITIONS.md: the lines that are other than before in src, specs and proofs, and the processor time of
-# the check. A drill is a text: what it is; `prove: CRATE ..`; then `file:`, `old:` and `new:`, as in a must-fail edit. Exit status 1 if one is not proved.
+# the check. A drill is a text: what it is; `prove: CRATE ..`; then `file:`, `old:` and `new:`, as in a must-fail edit, where \n is a new line. Exit
+# status 1 if one is not proved.
 set -eu
 cd "$(dirname "$0")/.."
 work=$PWD/target/drill
@@ -14,6 +15,7 @@ import sys
 
 for line in open(sys.argv[1], encoding="utf8"):
     key, _, text = line.rstrip("\n").partition(": ")
+    text = text.replace("\\n", "\n")
     if key == "file":
         path = text
     elif key == "old":

@@ -1,12 +1,13 @@
 -- The laws of an area's times against the reference's.
 use Rattle.codec.proofs.Prelude.{_≡_, refl, sym, ap, _∙_, List, Bool, true, false, _&&_, _||_, not, true≢false, false≢true, ℕ, arith, leb, eqb, le-leb, eqb-true}
-use Rattle.codec.specs.Reader.{give}
+use Rattle.codec.specs.Reader.{give, andThen, mapped}
 use Rattle.codec.specs.Reads.{Reads, Relaxes, Bounded}
-use Rattle.codec.proofs.Relations.{Given, Tested, Mapped, Joined, Chosen}
+use Rattle.codec.proofs.Relations.{Given, Tested, Mapped, Chosen}
+use Rattle.codec.proofs.Fields.{Field, field-as, field-then, field-last}
 use Rattle.codec.proofs.Tests.{and-right}
-use Rattle.codec.proofs.Readers.{reads-as, choose-reads, then-reads, guard-reads, mapped-reads, checked-reads, give-reads}
-use Rattle.codec.proofs.Relaxes.{relaxes-self, choose-relaxes, then-relaxes, mapped-relaxes, checked-relaxes}
-use Rattle.codec.proofs.Bounded.{choose-bounded, then-bounded, guard-bounded, mapped-bounded, checked-bounded, give-bounded}
+use Rattle.codec.proofs.Readers.{reads-as, choose-reads, guard-reads, mapped-reads, checked-reads, give-reads}
+use Rattle.codec.proofs.Relaxes.{relaxes-self, choose-relaxes, mapped-relaxes, checked-relaxes}
+use Rattle.codec.proofs.Bounded.{choose-bounded, guard-bounded, mapped-bounded, checked-bounded, give-bounded}
 use Rattle.compact_u64.specs.Number.{minTag, numberBytes}
 use Rattle.grouping.specs.declared.RangeEnd.{RangeEnd}
 use Rattle.grouping.specs.declared.RangeEnd.the-variants.{Closed, Open}
@@ -69,25 +70,30 @@ module _ (r : TimeRange) (added : Bool) (tag : ℕ) where
   end-back false (Closed x) e a = record { value = x; named = refl; stands = record { inside = a .inside refl; near = a .near; tagged = a .tagged; bytes = a .bytes } }
 
 module _ (r : TimeRange) (h : AreaHeader) where
-  end-reads : TypedRange r → spareBits h ≡ false → Reads (readEnd true r h) (EndAs r (h .«end_open») (h .«end_added») (h .«end_tag»))
+  start-field : Field (TypedRange r × (spareBits h ≡ false)) (λ canonic. readTime canonic startTagWidth r (h .«start_added») (h .«start_tag»))
+      (TimeAs startTagWidth r (h .«start_added») (h .«start_tag»)) (λ x. numberBytes startTagWidth (differenceOf r x .difference))
+  start-field = record {
+    reads = λ f. time-reads startTagWidth r (h .«start_added») (h .«start_tag») (omega arith) (omega arith) (f .0);
+    relaxes = time-relaxes startTagWidth r (h .«start_added») (h .«start_tag»);
+    bounded = time-bounded startTagWidth r (h .«start_added») (h .«start_tag»);
+    written = λ x e w. w .bytes;
+  }
+
+  end-field : Field (TypedRange r × (spareBits h ≡ false)) (λ canonic. readEnd canonic r h) (EndAs r (h .«end_open») (h .«end_added») (h .«end_tag»)) (endBytes r)
   unfolding readEnd EndRel
-  end-reads ty spare = reads-as _ _ _
-      (choose-reads (h .«end_open») _ _ _ _
-      (guard-reads (not (h .«end_added»)) (give Open) (Given Open) (λ ok. give-reads Open))
-      (mapped-reads Closed _ _ (time-reads endTagWidth r (h .«end_added») (h .«end_tag») (omega arith) (omega arith) ty)))
-      (end-there r (h .«end_added») (h .«end_tag») (h .«end_open») (no-spare h spare))
-      (end-back r (h .«end_added») (h .«end_tag») (h .«end_open»))
-
-  end-relaxes : Relaxes (readEnd true r h) (readEnd false r h)
-  unfolding readEnd
-  end-relaxes = choose-relaxes (h .«end_open») _ _ _ _ (relaxes-self _) (mapped-relaxes Closed _ _ (time-relaxes endTagWidth r (h .«end_added») (h .«end_tag»)))
-
-  pub end-bounded : (canonic : Bool) → Bounded (readEnd canonic r h)
-  unfolding readEnd
-  end-bounded canonic =
-      choose-bounded (h .«end_open») _ _
-      (guard-bounded (not (h .«end_added»)) _ (give-bounded Open))
-      (mapped-bounded Closed _ (time-bounded endTagWidth r (h .«end_added») (h .«end_tag») canonic))
+  end-field = record {
+    reads = λ f. reads-as _ _ _
+        (choose-reads (h .«end_open») _ _ _ _
+        (guard-reads (not (h .«end_added»)) (give Open) (Given Open) (λ ok. give-reads Open))
+        (mapped-reads Closed _ _ (time-reads endTagWidth r (h .«end_added») (h .«end_tag») (omega arith) (omega arith) (f .0))))
+        (end-there r (h .«end_added») (h .«end_tag») (h .«end_open») (no-spare h (f .1)))
+        (end-back r (h .«end_added») (h .«end_tag») (h .«end_open»));
+    relaxes = choose-relaxes (h .«end_open») _ _ _ _ (relaxes-self _) (mapped-relaxes Closed _ _ (time-relaxes endTagWidth r (h .«end_added») (h .«end_tag»)));
+    bounded = λ canonic. choose-bounded (h .«end_open») _ _
+        (guard-bounded (not (h .«end_added»)) _ (give-bounded Open))
+        (mapped-bounded Closed _ (time-bounded endTagWidth r (h .«end_added») (h .«end_tag») canonic));
+    written = λ x e w. w .bytes;
+  }
 
 -- ---- both
 -- an open end that is included lies between
@@ -109,64 +115,47 @@ end-inside r t ty i true o f = open-inside r t ty i (is-open (t .end) o)
 end-inside r t ty i false o f = f refl
 
 module _ (r : TimeRange) (h : AreaHeader) where
-  Rel : TimeRange → List ℕ → Type 0
-  Rel = Tested (includesRange r) (Joined (TimeAs startTagWidth r (h .«start_added») (h .«start_tag»)) (λ start. Mapped (timesFrom start) (EndAs r (h .«end_open») (h .«end_added») (h .«end_tag»))))
+  record Both (t : TimeRange) (e : List ℕ) : Type 0 where
+    start : TimeAs startTagWidth r (h .«start_added») (h .«start_tag») (t .start) (numberBytes startTagWidth (differenceOf r (t .start) .difference))
+    end : EndAs r (h .«end_open») (h .«end_added») (h .«end_tag») (t .end) (endBytes r (t .end))
+    bytes : e ≡ timesBytes r t
 
-  times-there : TypedRange r → (t : TimeRange) (e : List ℕ) → Rel t e → TimesAs r h t e
-  unfolding Rel timesBytes
-  times-there ty t e j =
-      let s = j .1 .first in
-      let m = j .1 .second in
-      let n = m .stands in
-      let i = ap (includesRange r) (m .named) ∙ j .0 in
-      rw (← (m .named)) (record {
+  -- one line a field, in the order in which they are read
+  both-laws : Field (TypedRange r × (spareBits h ≡ false)) (λ canonic. andThen (readTime canonic startTagWidth r (h .«start_added») (h .«start_tag»)) (λ start. mapped (timesFrom start) (readEnd canonic r h))) Both (timesBytes r)
+  unfolding timesBytes
+  both-laws = field-as
+      (field-then (λ (t : TimeRange). t .start) (start-field r h) (λ start.
+      field-last (λ (t : TimeRange). t .end) (end-field r h) (timesFrom start) (λ x. ((tt {0}, refl), refl)) (λ t k. rw (← (k .1)))))
+      (λ t e w. record { start = search; end = search; bytes = w .whole })
+      (λ t e b. record { known = tt; holds = search; whole = b .bytes })
+
+  pub times-reads : TypedRange r → spareBits h ≡ false → Reads (readTimes true r h) (TimesAs r h)
+  unfolding readTimes
+  times-reads ty spare = reads-as _ _ _ (checked-reads (includesRange r) _ _ (both-laws .reads (ty, spare)))
+      (λ t e j. let s = j .1 .start in let n = j .1 .end in record {
         startAdded = s .near;
         startTag = s .tagged;
         endOpen = n .is-open;
         endAdded = n .near;
         endTag = n .tagged;
-        included = i;
+        included = j .0;
         start = s .inside;
-        end = end-inside r (timesFrom (j .1 .value) (m .value)) ty i (h .«end_open») (n .is-open) (n .inside);
-        bytes = j .1 .whole ∙ rw (s .bytes, n .bytes);
+        end = end-inside r t ty (j .0) (h .«end_open») (n .is-open) (n .inside);
+        bytes = j .1 .bytes;
       })
-
-  times-back : (t : TimeRange) (e : List ℕ) → TimesAs r h t e → Rel t e
-  unfolding Rel timesBytes
-  times-back t e a = (
-    a .included,
-    record {
-      value = t .start;
-      front = numberBytes startTagWidth (differenceOf r (t .start) .difference);
-      rear = endBytes r (t .end);
-      whole = a .bytes;
-      first = record { inside = a .start; near = a .startAdded; tagged = a .startTag; bytes = refl };
-      second = record {
-        value = t .end;
-        named = refl;
-        stands = record { is-open = a .endOpen; near = a .endAdded; tagged = a .endTag; inside = λ f. a .end; bytes = refl };
-      };
-    },
-  )
-
-  pub times-reads : TypedRange r → spareBits h ≡ false → Reads (readTimes true r h) (TimesAs r h)
-  unfolding readTimes Rel
-  times-reads ty spare = reads-as _ _ _
-      (checked-reads (includesRange r) _ _ (
-      then-reads (readTime true startTagWidth r (h .«start_added») (h .«start_tag»)) _ _ _ (time-reads startTagWidth r (h .«start_added») (h .«start_tag») (omega arith) (omega arith) ty) (λ start e x.
-      mapped-reads (timesFrom start) _ _ (end-reads r h ty spare))))
-      (times-there ty) times-back
+      (λ t e a. (
+        a .included,
+        record {
+          start = record { inside = a .start; near = a .startAdded; tagged = a .startTag; bytes = refl };
+          end = record { is-open = a .endOpen; near = a .endAdded; tagged = a .endTag; inside = λ f. a .end; bytes = refl };
+          bytes = a .bytes;
+        },
+      ))
 
   pub times-relaxes : Relaxes (readTimes true r h) (readTimes false r h)
   unfolding readTimes
-  times-relaxes =
-      checked-relaxes (includesRange r) (includesRange r) _ _ (λ t i. i) (
-      then-relaxes (readTime true startTagWidth r (h .«start_added») (h .«start_tag»)) (readTime false startTagWidth r (h .«start_added») (h .«start_tag»)) _ _ (time-relaxes startTagWidth r (h .«start_added») (h .«start_tag»)) (λ start.
-      mapped-relaxes (timesFrom start) _ _ (end-relaxes r h)))
+  times-relaxes = checked-relaxes (includesRange r) (includesRange r) _ _ (λ t i. i) (both-laws .relaxes)
 
   pub times-bounded : (canonic : Bool) → Bounded (readTimes canonic r h)
   unfolding readTimes
-  times-bounded canonic =
-      checked-bounded (includesRange r) _ (
-      then-bounded (readTime canonic startTagWidth r (h .«start_added») (h .«start_tag»)) _ (time-bounded startTagWidth r (h .«start_added») (h .«start_tag») canonic) (λ start.
-      mapped-bounded (timesFrom start) _ (end-bounded r h canonic)))
+  times-bounded canonic = checked-bounded (includesRange r) _ (both-laws .bounded canonic)

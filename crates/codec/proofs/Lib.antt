@@ -5,6 +5,7 @@ pub mod Readers
 pub mod ReadsAs
 pub mod Relaxes
 pub mod Bounded
+pub mod Fields
 pub mod Yields
 pub mod Lawful
 pub mod Writings

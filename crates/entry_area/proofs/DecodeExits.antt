@@ -25,7 +25,7 @@ use Rattle.entry_area_end.specs.declared.EntryAreaHeader.{EntryAreaHeader}
 use Rattle.entry_area_end.specs.declared.End.{End}
 use Rattle.entry_area_end.specs.Header.{headerLength, unpackHeader}
 use Rattle.entry_area_end.specs.End.{readAfterPath}
-use Rattle.entry_area_end.proofs.Reading.{end-bounded}
+use Rattle.entry_area_end.proofs.Reading.{end-laws}
 use Rattle.entry_area.specs.Entry.{readId, readRest, readParts, readEntry}
 use Rattle.entry_area.specs.Records.{readAgainstNamespaceArea}
 
@@ -85,7 +85,7 @@ module _ (canonic : Bool) (n i : List ℕ) (r : Path) (w : wellFormed r ≡ true
 
     module _ (z : End) (c : ℕ) (g : readAfterPath canonic times h (drop b s) ≡ accepted z c) where
       pub within-whole : b + c ≤ length s
-      within-whole = omega (arith, within-inside, end-bounded times h canonic .bound (drop b s) z c g, length-drop b s)
+      within-whole = omega (arith, within-inside, end-laws times h .bounded canonic .bound (drop b s) z c g, length-drop b s)
 
       pub within-read : mapped entryFrom (readRest canonic n i (componentsOf r) times h) s
           ≡ accepted (record { «namespace_id» = n; «subspace_id» = i; path = p; timestamp = z .timestamp; «payload_length» = z .«payload_length»; «payload_digest» = z .«payload_digest» }) (b + c)

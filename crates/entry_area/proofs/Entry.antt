@@ -26,7 +26,7 @@ use Rattle.entry_area_end.specs.inside.Header.{HeaderFits}
 use Rattle.entry_area_end.specs.End.{headerOf, endFrom}
 use Rattle.entry_area_end.proofs.Relations.{EndAs}
 use Rattle.entry_area_end.proofs.HeaderLayout.{header-layout, header-fits}
-use Rattle.entry_area_end.proofs.Reading.{end-reads, end-relaxes}
+use Rattle.entry_area_end.proofs.Reading.{end-laws}
 use Rattle.entry_area.specs.Entry.{isAny, idBytes, afterPathBytes, restBytes, entryBytes, readId, valueFrom, readRest, readParts, readEntry}
 use Rattle.entry_area.specs.Relations.{EntryAs}
 use Rattle.entry_area.proofs.Relations.{IdAs}
@@ -71,18 +71,18 @@ module _ (n : List ℕ) (r : AreaValue) where
       let m = p .second .second in
       let d = m .stands in
       let w = valueFrom n (p .value) (p .second .value) (m .value) in
-      let is : entryHeader r w ≡ h = rw (s .any, d .timeAdded, d .timeTag, d .lengthTag, ← (eqb-true (h .spare) 0 (j .second .0))) in
+      let is : entryHeader r w ≡ h = rw (s .any, d .time .near, d .time .tagged, d .size .tagged, ← (eqb-true (h .spare) 0 (j .second .0))) in
       rw (← (m .named)) (record {
         typed = record {
           namespace = ty;
           subspace = s .typed;
           path = typed-of (p .second .value) (x .1 .ok .all);
-          time = omega (arith, d .time);
-          size = d .size;
-          digest = d .digest;
+          time = omega (arith, d .time .small);
+          size = d .size .small;
+          digest = (d .digest .0, d .digest .1);
         };
         path = x .1 .ok;
-        inside = inside-of n r w (record { namespace = same-refl n; subspace = s .inside; prefix = x .0; time = d .included });
+        inside = inside-of n r w (record { namespace = same-refl n; subspace = s .inside; prefix = x .0; time = d .time .included });
         bytes = j .whole ∙ rw (j .first .1, p .whole, p .second .whole, s .bytes, x .1 .bytes, d .bytes, ← is);
       })
 
@@ -116,13 +116,9 @@ module _ (n : List ℕ) (r : AreaValue) where
                 value = endFrom (v .time) (v .size) (v .digest);
                 named = same;
                 stands = record {
-                  time = omega (arith, x .typed .time);
-                  included = i .time;
-                  timeAdded = refl;
-                  timeTag = refl;
-                  size = x .typed .size;
-                  lengthTag = refl;
-                  digest = x .typed .digest;
+                  time = record { small = omega (arith, x .typed .time); included = i .time; near = refl; tagged = refl; bytes = refl };
+                  size = record { small = x .typed .size; tagged = refl; bytes = refl };
+                  digest = (x .typed .digest .0, x .typed .digest .1, refl);
                   bytes = refl;
                 };
               };
@@ -138,7 +134,7 @@ module _ (n : List ℕ) (r : AreaValue) where
       guard-reads (eqb (h .spare) 0) _ _ (λ ok.
       then-reads (readId (r .subspace) (h .«id_written»)) _ _ _ (id-reads (r .subspace) sub (h .«id_written»)) (λ s e y.
       then-reads (checked (isPrefix (r .path)) (readAgainst true (r .path))) _ _ _ (checked-reads (isPrefix (r .path)) _ _ (against-reads (r .path) path)) (λ p e z.
-      mapped-reads (valueFrom n s p) _ _ (end-reads (r .times) h times))))))
+      mapped-reads (valueFrom n s p) _ _ (end-laws (r .times) h .reads times))))))
       (entry-there id) entry-back
 
   pub entry-relaxes : Relaxes (readEntry true n r) (readEntry false n r)
@@ -149,7 +145,7 @@ module _ (n : List ℕ) (r : AreaValue) where
       then-relaxes (readId (r .subspace) (h .«id_written»)) (readId (r .subspace) (h .«id_written»)) _ _ (relaxes-self _) (λ s.
       then-relaxes (checked (isPrefix (r .path)) (readAgainst true (r .path))) (checked (isPrefix (r .path)) (readAgainst false (r .path))) _ _
       (checked-relaxes (isPrefix (r .path)) (isPrefix (r .path)) _ _ (λ p q. q) (against-relaxes (r .path))) (λ p.
-      mapped-relaxes (valueFrom n s p) _ _ (end-relaxes (r .times) h)))))
+      mapped-relaxes (valueFrom n s p) _ _ (end-laws (r .times) h .relaxes)))))
 
   pub entry-empty : (canonic : Bool) → readEntry canonic n r [] ≡ refused 1
   unfolding readEntry

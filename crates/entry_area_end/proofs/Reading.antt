@@ -1,12 +1,12 @@
 -- The laws of the fields after the path, and what the reader's definition answers at each exit of the code.
-use Rattle.codec.proofs.Prelude.{_≡_, refl, _∙_, List, _++_, Bool, true, false, ℕ, _+_, _≤_, arith, length, drop, length-drop, drop-drop}
+use Rattle.codec.proofs.Prelude.{_≡_, refl, List, Bool, ℕ, _+_, _≤_, arith, length, drop, length-drop, drop-drop}
 use Rattle.codec.specs.Answers.{accepted, refused}
-use Rattle.codec.specs.Reader.{someBytes}
-use Rattle.codec.specs.Reads.{Reads, Relaxes, Bounded}
-use Rattle.codec.proofs.Relations.{SomeBytes, Mapped, Joined}
-use Rattle.codec.proofs.Readers.{reads-as, then-reads, mapped-reads, someBytes-reads}
-use Rattle.codec.proofs.Relaxes.{relaxes-self, then-relaxes, mapped-relaxes}
-use Rattle.codec.proofs.Bounded.{then-bounded, mapped-bounded, someBytes-bounded}
+use Rattle.codec.specs.Reader.{Reader, someBytes}
+use Rattle.codec.proofs.Relations.{SomeBytes}
+use Rattle.codec.proofs.Readers.{someBytes-reads}
+use Rattle.codec.proofs.Relaxes.{relaxes-self}
+use Rattle.codec.proofs.Bounded.{someBytes-bounded}
+use Rattle.codec.proofs.Fields.{Field, field-as, field-then, field-last}
 use Rattle.compact_u64.specs.Number.{numberBytes, readNumber}
 use Rattle.compact_u64.specs.Laws.{NumberAs}
 use Rattle.compact_u64.proofs.Number.{number-reads, number-relaxes, number-bounded}
@@ -18,95 +18,71 @@ use Rattle.time_relative.proofs.Included.{included-reads, included-relaxes, inc
 use Rattle.entry_area_end.specs.declared.EntryAreaHeader.{EntryAreaHeader}
 use Rattle.entry_area_end.specs.declared.End.{End}
 use Rattle.entry_area_end.specs.Header.{timeTagWidth, lengthTagWidth}
-use Rattle.entry_area_end.specs.End.{endFrom, readAfterPath}
+use Rattle.entry_area_end.specs.End.{endOf, endFrom, readAfterPath}
 use Rattle.entry_area_end.proofs.Relations.{EndAs}
 
 -- ---- the laws
 module _ (r : TimeRange) (h : EntryAreaHeader) where
-  Rel : End → List ℕ → Type 0
-  Rel = Joined (IncludedAs timeTagWidth r (h .«time_added») (h .«time_tag»)) (λ time. Joined (NumberAs lengthTagWidth (h .«length_tag»)) (λ size. Mapped (endFrom time size) (SomeBytes 32)))
-
-  end-there : (end : End) (e : List ℕ) → Rel end e → EndAs r h end e
-  unfolding Rel
-  end-there end e j =
-      let t = j .first in
-      let s = j .second .first in
-      let m = j .second .second in
-      rw (← (m .named)) (record {
-        time = t .small;
-        included = t .included;
-        timeAdded = t .near;
-        timeTag = t .tagged;
-        size = s .small;
-        lengthTag = s .tagged;
-        digest = (m .stands .0, m .stands .1);
-        bytes = j .whole ∙ rw (t .bytes, j .second .whole, s .bytes, m .stands .2);
-      })
-
-  end-back : (end : End) (e : List ℕ) → EndAs r h end e → Rel end e
-  unfolding Rel
-  end-back end e a = record {
-    value = end .timestamp;
-    front = numberBytes timeTagWidth (differenceOf r (end .timestamp) .difference);
-    rear = numberBytes lengthTagWidth (end .«payload_length») ++ end .«payload_digest»;
-    whole = a .bytes;
-    first = record { small = a .time; included = a .included; near = a .timeAdded; tagged = a .timeTag; bytes = refl };
-    second = record {
-      value = end .«payload_length»;
-      front = numberBytes lengthTagWidth (end .«payload_length»);
-      rear = end .«payload_digest»;
-      whole = refl;
-      first = record { small = a .size; tagged = a .lengthTag; bytes = refl };
-      second = record { value = end .«payload_digest»; named = refl; stands = (a .digest .0, a .digest .1, refl) };
-    };
+  time-field : Field (TypedRange r) (λ canonic. readIncluded canonic timeTagWidth r (h .«time_added») (h .«time_tag»))
+      (IncludedAs timeTagWidth r (h .«time_added») (h .«time_tag»)) (λ x. numberBytes timeTagWidth (differenceOf r x .difference))
+  time-field = record {
+    reads = included-reads timeTagWidth r (h .«time_added») (h .«time_tag») (omega arith) (omega arith);
+    relaxes = included-relaxes timeTagWidth r (h .«time_added») (h .«time_tag»);
+    bounded = included-bounded timeTagWidth r (h .«time_added») (h .«time_tag»);
+    written = λ x e w. w .bytes;
   }
 
-  pub end-reads : TypedRange r → Reads (readAfterPath true r h) (EndAs r h)
-  unfolding Rel readAfterPath
-  end-reads ty = reads-as _ _ _
-      (then-reads (readIncluded true timeTagWidth r (h .«time_added») (h .«time_tag»)) _ _ _ (included-reads timeTagWidth r (h .«time_added») (h .«time_tag») (omega arith) (omega arith) ty) (λ time e x.
-      then-reads (readNumber true lengthTagWidth (h .«length_tag»)) _ _ _ (number-reads lengthTagWidth (h .«length_tag») (omega arith) (omega arith)) (λ size e y.
-      mapped-reads (endFrom time size) _ _ (someBytes-reads 32))))
-      end-there end-back
+  size-field : Field (TypedRange r) (λ canonic. readNumber canonic lengthTagWidth (h .«length_tag»)) (NumberAs lengthTagWidth (h .«length_tag»)) (numberBytes lengthTagWidth)
+  size-field = record {
+    reads = λ ty. number-reads lengthTagWidth (h .«length_tag») (omega arith) (omega arith);
+    relaxes = number-relaxes lengthTagWidth (h .«length_tag»);
+    bounded = number-bounded lengthTagWidth (h .«length_tag»);
+    written = λ x e w. w .bytes;
+  }
 
-  pub end-relaxes : Relaxes (readAfterPath true r h) (readAfterPath false r h)
+  digest-field : Field (TypedRange r) (λ canonic. someBytes 32) (SomeBytes 32) (λ d. d)
+  digest-field = record { reads = λ ty. someBytes-reads 32; relaxes = relaxes-self (someBytes 32); bounded = λ canonic. someBytes-bounded 32; written = λ d e w. w .2 }
+
+  -- one line a field, in the order in which they are read
+  pub end-laws : Field (TypedRange r) (λ canonic. readAfterPath canonic r h) (EndAs r h) (endOf r)
   unfolding readAfterPath
-  end-relaxes =
-      then-relaxes (readIncluded true timeTagWidth r (h .«time_added») (h .«time_tag»)) (readIncluded false timeTagWidth r (h .«time_added») (h .«time_tag»)) _ _ (included-relaxes timeTagWidth r (h .«time_added») (h .«time_tag»)) (λ time.
-      then-relaxes (readNumber true lengthTagWidth (h .«length_tag»)) (readNumber false lengthTagWidth (h .«length_tag»)) _ _ (number-relaxes lengthTagWidth (h .«length_tag»)) (λ size.
-      mapped-relaxes (endFrom time size) _ _ (relaxes-self (someBytes 32))))
+  end-laws = field-as
+      (field-then (λ end. end .timestamp) time-field (λ time.
+      field-then (λ end. end .«payload_length») size-field (λ size.
+      field-last (λ end. end .«payload_digest») digest-field (endFrom time size) (λ d. (((tt {0}, refl), refl), refl)) (λ end k. rw (← (k .0 .1), ← (k .1))))))
+      (λ end e w. record { time = search; size = search; digest = search; bytes = w .whole })
+      (λ end e a. record { known = tt; holds = search; whole = a .bytes })
 
-  pub end-bounded : (canonic : Bool) → Bounded (readAfterPath canonic r h)
-  unfolding readAfterPath
-  end-bounded canonic =
-      then-bounded (readIncluded canonic timeTagWidth r (h .«time_added») (h .«time_tag»)) _ (included-bounded timeTagWidth r (h .«time_added») (h .«time_tag») canonic) (λ time.
-      then-bounded (readNumber canonic lengthTagWidth (h .«length_tag»)) _ (number-bounded lengthTagWidth (h .«length_tag») canonic) (λ size.
-      mapped-bounded (endFrom time size) _ (someBytes-bounded 32)))
+-- ---- the exits, by the first reader and the second
+module _ (canonic : Bool) (r : TimeRange) (h : EntryAreaHeader) where
+  abbrev pub firstRead : Reader ℕ
+  firstRead = readIncluded canonic timeTagWidth r (h .«time_added») (h .«time_tag»)
 
--- ---- the exits
-module _ (canonic : Bool) (r : TimeRange) (h : EntryAreaHeader) (s : List ℕ) where
-  pub end-time : (k : ℕ) → readIncluded canonic timeTagWidth r (h .«time_added») (h .«time_tag») s ≡ refused k → readAfterPath canonic r h s ≡ refused k
-  unfolding readAfterPath
-  end-time k e = rw e
+  abbrev pub secondRead : Reader ℕ
+  secondRead = readNumber canonic lengthTagWidth (h .«length_tag»)
 
-  module _ (x a : ℕ) (e : readIncluded canonic timeTagWidth r (h .«time_added») (h .«time_tag») s ≡ accepted x a) where
-    pub end-size : (k : ℕ) → readNumber canonic lengthTagWidth (h .«length_tag») (drop a s) ≡ refused k → readAfterPath canonic r h s ≡ refused k
+  module _ (s : List ℕ) where
+    pub end-first : (k : ℕ) → firstRead s ≡ refused k → readAfterPath canonic r h s ≡ refused k
     unfolding readAfterPath
-    end-size k f = rw (e, f)
+    end-first k e = rw e
 
-    module _ (y b : ℕ) (f : readNumber canonic lengthTagWidth (h .«length_tag») (drop a s) ≡ accepted y b) where
-      pub end-inside : a + b ≤ length s
-      end-inside =
-          omega (arith, included-bounded timeTagWidth r (h .«time_added») (h .«time_tag») canonic .bound s x a e, number-bounded lengthTagWidth (h .«length_tag») canonic .bound (drop a s) y b f, length-drop a s)
-
-      pub end-digest : (k : ℕ) → someBytes 32 (drop (a + b) s) ≡ refused k → readAfterPath canonic r h s ≡ refused k
+    module _ (x a : ℕ) (e : firstRead s ≡ accepted x a) where
+      pub end-second : (k : ℕ) → secondRead (drop a s) ≡ refused k → readAfterPath canonic r h s ≡ refused k
       unfolding readAfterPath
-      end-digest k g = rw (e, f, drop-drop, g)
+      end-second k f = rw (e, f)
 
-      module _ (d : List ℕ) (n : ℕ) (g : someBytes 32 (drop (a + b) s) ≡ accepted d n) where
-        pub end-read : readAfterPath canonic r h s ≡ accepted (endFrom x y d) (a + (b + n))
+      module _ (y b : ℕ) (f : secondRead (drop a s) ≡ accepted y b) where
+        pub end-inside : a + b ≤ length s
+        end-inside = omega (arith, time-field r h .bounded canonic .bound s x a e, size-field r h .bounded canonic .bound (drop a s) y b f, length-drop a s)
+
+        pub end-digest : (k : ℕ) → someBytes 32 (drop (a + b) s) ≡ refused k → readAfterPath canonic r h s ≡ refused k
         unfolding readAfterPath
-        end-read = rw (e, f, drop-drop, g)
+        end-digest k g = rw (e, f, drop-drop, g)
 
-        pub digest-inside : a + (b + n) ≤ length s
-        digest-inside = omega (arith, end-inside, someBytes-bounded 32 .bound (drop (a + b) s) d n g, length-drop (a + b) s)
+        module _ (d : List ℕ) (n : ℕ) (g : someBytes 32 (drop (a + b) s) ≡ accepted d n) where
+          pub end-read : readAfterPath canonic r h s ≡ accepted (endFrom x y d) (a + (b + n))
+          unfolding readAfterPath
+          end-read = rw (e, f, drop-drop, g)
+
+          pub digest-inside : a + (b + n) ≤ length s
+          digest-inside = end-laws r h .bounded canonic .bound s _ _ end-read

@@ -14,6 +14,7 @@ use Rattle.path.specs.Prefix.{shared}
 use Rattle.codec.proofs.Tests.{and-left, and-right}
 use Rattle.path.proofs.Limits.{total-append, total-split, all-append, all-take, all-drop, limits-total, limits-count, limits-of}
 use Rattle.path.proofs.Prefix.{Shares, shares}
+use Rattle.path_suffix.specs.Header.{headerLength}
 use Rattle.path_suffix.specs.Suffix.{suffixBytes}
 use Rattle.path_suffix.proofs.Relations.{SuffixAs}
 use Rattle.path_suffix.proofs.Suffix.{suffix-reads, suffix-relaxes, suffix-bounded, suffix-short}
@@ -56,7 +57,7 @@ unfolding readAgainst
 against-empty r canonic = refl
 
 -- how long a path against a path may be
-pub against-short : (r p : List (List ℕ)) → length (againstBytes r p) ≤ 26 + (9 * length p + totalOf p)
+pub against-short : (r p : List (List ℕ)) → length (againstBytes r p) ≤ 9 + (headerLength + 16 + (9 * length p + totalOf p))
 against-short r p =
     omega (
       arith,

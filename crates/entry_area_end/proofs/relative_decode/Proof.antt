@@ -4,26 +4,19 @@ use Rattle.codec.specs.Reader.{someBytes}
 use Rattle.codec.specs.declared.Decoded.{Decoded}
 use Rattle.codec.proofs.Answers.{no-value, gives-refused, gives-accepted}
 use Rattle.compact_u64.specs.Answers.{numberAnswer}
-use Rattle.compact_u64.specs.Number.{readNumber}
 use Rattle.compact_u64.proofs.Exits.{refused-number}
-use Rattle.time_relative.specs.Difference.{readIncluded}
-use Rattle.entry_area_end.specs.Header.{timeTagWidth, lengthTagWidth}
 use Rattle.entry_area_end.specs.End.{noEnd}
-use Rattle.entry_area_end.proofs.Reading.{end-time, end-size, end-inside, end-digest, end-read, digest-inside}
+use Rattle.entry_area_end.proofs.Reading.{firstRead, secondRead, end-first, end-second, end-inside, end-digest, end-read, digest-inside}
 use Rattle.entry_area_end.proofs.relative_decode.Statement.{statement}
 use Rattle.entry_area_end.proofs.relative_decode.Tie as tie
 
-time-is : (c : tie.After-known-told) → let a = c .before .before .before .before .before .args in let x = c .before .first .given .0 in
-    readIncluded (a .canonic) timeTagWidth (a .times) (a .header .«time_added») (a .header .«time_tag») (now (a .message)) ≡ accepted (x .0) (x .1 .0)
-time-is c =
-    let after-decode-included : tie.After-decode-included = search in
-    sym (after-decode-included .decode-included .ensures) ∙ ap numberAnswer (c .before .first .given .1)
+first-is : (c : tie.After-known-told) → let a = c .before .before .before .before .before .args in let x = c .before .first .given .0 in
+    firstRead (a .canonic) (a .times) (a .header) (now (a .message)) ≡ accepted (x .0) (x .1 .0)
+first-is c = sym (c .before .before .before .decode-included .ensures) ∙ ap numberAnswer (c .before .first .given .1)
 
-size-is : (c : tie.After-known-told2) → let a = c .before .before .before .before .before .before .before .before .before .args in let x = c .before .second .given .0 in
-    readNumber (a .canonic) lengthTagWidth (a .header .«length_tag») (drop (c .before .before .before .before .before .first .given .0 .1 .0) (now (a .message))) ≡ accepted (x .0) (x .1 .0)
-size-is c =
-    let after-relative-decode : tie.After-relative-decode = search in
-    sym (after-relative-decode .relative-decode .ensures) ∙ ap numberAnswer (c .before .second .given .1)
+second-is : (c : tie.After-known-told2) → let a = c .before .before .before .before .before .before .before .before .before .args in let x = c .before .second .given .0 in
+    secondRead (a .canonic) (a .times) (a .header) (drop (c .before .before .before .before .before .first .given .0 .1 .0) (now (a .message))) ≡ accepted (x .0) (x .1 .0)
+second-is c = sym (c .before .before .before .relative-decode .ensures) ∙ ap numberAnswer (c .before .second .given .1)
 
 -- earlier places
 abbrev known-told3-second : tie.After-known-told3 → tie.After-second
@@ -49,34 +42,34 @@ inside c =
     let after-known-told : tie.After-known-told = search in
     let start : tie.Start = search in
     let a = start .args in
-    digest-inside (a .canonic) (a .times) (a .header) (now (a .message)) _ _ (time-is after-known-told) _ _ (size-is after-known-told2) _ _ (digest-is c)
+    digest-inside (a .canonic) (a .times) (a .header) (now (a .message)) _ _ (first-is after-known-told) _ _ (second-is after-known-told2) _ _ (digest-is c)
 
 returns : tie.Need-returns
 returns c =
-    let after-decode-included : tie.After-decode-included = search in
+    let call = c .before .before .before .decode-included in
     let start : tie.Start = search in
     let a = start .args in
-    let x = refused-number (after-decode-included .decode-included .result) (c .before .before .match .keys2) in
+    let x = refused-number (call .result) (c .before .before .match .keys2) in
     rw (c .refuse .ensures .0, c .refuse .ensures .1)
-    (gives-refused (x .why) (x .whole noEnd (c .before .unvalued .result) (c .before .unvalued .ensures)) (end-time (a .canonic) (a .times) (a .header) (now (a .message)) (x .why) (sym (after-decode-included .decode-included .ensures) ∙ x .number)))
+    (gives-refused (x .why) (x .whole noEnd (c .before .unvalued .result) (c .before .unvalued .ensures)) (end-first (a .canonic) (a .times) (a .header) (now (a .message)) (x .why) (sym (call .ensures) ∙ x .number)))
 
 returns-2 : tie.Need-returns-2
 returns-2 c =
-    let after-relative-decode : tie.After-relative-decode = search in
+    let call = c .before .before .before .relative-decode in
     let after-known-told : tie.After-known-told = search in
     let start : tie.Start = search in
     let a = start .args in
-    let x = refused-number (after-relative-decode .relative-decode .result) (c .before .before .match2 .keys2) in
+    let x = refused-number (call .result) (c .before .before .match2 .keys2) in
     rw (c .refuse2 .ensures .0, c .refuse2 .ensures .1)
     (gives-refused (x .why) (x .whole noEnd (c .before .unvalued2 .result) (c .before .unvalued2 .ensures))
-    (end-size (a .canonic) (a .times) (a .header) (now (a .message)) _ _ (time-is after-known-told) (x .why) (sym (after-relative-decode .relative-decode .ensures) ∙ x .number)))
+    (end-second (a .canonic) (a .times) (a .header) (now (a .message)) _ _ (first-is after-known-told) (x .why) (sym (call .ensures) ∙ x .number)))
 
 add-at : tie.Need-add-at
 add-at c =
     let after-known-told : tie.After-known-told = search in
     let start : tie.Start = search in
     let a = start .args in
-    omega (arith, end-inside (a .canonic) (a .times) (a .header) (now (a .message)) _ _ (time-is after-known-told) _ _ (size-is c))
+    omega (arith, end-inside (a .canonic) (a .times) (a .header) (now (a .message)) _ _ (first-is after-known-told) _ _ (second-is c))
 
 returns-3 : tie.Need-returns-3
 returns-3 c =
@@ -87,7 +80,7 @@ returns-3 c =
     let x = no-value (c .before .before .decode-id .result .answer) (c .before .match3 .keys2) in
     rw (c .refuse3 .ensures .0, c .refuse3 .ensures .1)
     (gives-refused (x .why) (x .beside _)
-    (end-digest (a .canonic) (a .times) (a .header) (now (a .message)) _ _ (time-is after-known-told) _ _ (size-is after-known-told2) (x .why)
+    (end-digest (a .canonic) (a .times) (a .header) (now (a .message)) _ _ (first-is after-known-told) _ _ (second-is after-known-told2) (x .why)
     (sym (c .before .before .decode-id .ensures .answer) ∙ x .beside _)))
 
 add-t19 : tie.Need-add-t19
@@ -102,7 +95,7 @@ returns-4 c =
     let after-known-told : tie.After-known-told = search in
     let start : tie.Start = search in
     let a = start .args in
-    gives-accepted (end-read (a .canonic) (a .times) (a .header) (now (a .message)) _ _ (time-is after-known-told) _ _ (size-is after-known-told2) _ _ (digest-is (c .before)))
+    gives-accepted (end-read (a .canonic) (a .times) (a .header) (now (a .message)) _ _ (first-is after-known-told) _ _ (second-is after-known-told2) _ _ (digest-is (c .before)))
 
 pub relative-decode-spec : {M : Type 1} → statement M
 relative-decode-spec =

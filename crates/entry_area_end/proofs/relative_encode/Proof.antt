@@ -1,10 +1,8 @@
 use Rattle.codec.proofs.Prelude.{_≡_, refl, ap, _∙_, List, _++_, ℕ, _+_, _-_, _≤_, arith, now, length, length-append, length-unmapped, needs}
 use Rattle.codec.specs.Format.{allowed}
 use Rattle.codec.proofs.Lending.{put-full, put-fits, pair-inside, pair-put}
-use Rattle.compact_u64.specs.Number.{numberBytes}
-use Rattle.entry_area_end.specs.Header.{timeTagWidth, lengthTagWidth}
 use Rattle.entry_area_end.specs.End.{endOf}
-use Rattle.entry_area_end.proofs.Writing.{end-apart}
+use Rattle.entry_area_end.proofs.Writing.{numbersOf, end-apart}
 use Rattle.entry_area_end.proofs.relative_encode.Statement.{statement}
 use Rattle.entry_area_end.proofs.relative_encode.Tie as tie
 
@@ -14,7 +12,7 @@ difference-start c = c .before .before .before .before
 
 -- both numbers
 abbrev numbers : tie.After-difference → List ℕ
-numbers c = numberBytes timeTagWidth (c .difference .result .difference) ++ numberBytes lengthTagWidth (difference-start c .args .end .«payload_length»)
+numbers c = numbersOf (c .difference .result) (difference-start c .args .end)
 
 bytes : (c : tie.After-difference) → let a = difference-start c .args in endOf (a .times) (a .end) ≡ numbers c ++ a .end .«payload_digest»
 bytes c = end-apart (difference-start c .args .times) (difference-start c .args .end) _ (c .difference .ensures)

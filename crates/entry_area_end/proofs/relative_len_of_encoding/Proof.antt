@@ -1,7 +1,5 @@
 use Rattle.codec.proofs.Prelude.{ap, _∙_, _++_, arith, length, length-append, ℕ, needs, length-unmapped}
-use Rattle.compact_u64.specs.Number.{numberBytes}
-use Rattle.entry_area_end.specs.Header.{timeTagWidth, lengthTagWidth}
-use Rattle.entry_area_end.proofs.Writing.{end-apart}
+use Rattle.entry_area_end.proofs.Writing.{numbersOf, end-apart}
 use Rattle.entry_area_end.proofs.relative_len_of_encoding.Statement.{statement}
 use Rattle.entry_area_end.proofs.relative_len_of_encoding.Tie as tie
 
@@ -11,7 +9,7 @@ returns c =
     let a = start .args in
     let digest = length-unmapped ℕ (a .end .«payload_digest») 32 (start .good .0 .1 .1 .1 .1 .0 .1 .0 .1) in
     let n = c .relative-len-of-pair .ensures in
-    let numbers = numberBytes timeTagWidth (c .before .difference .result .difference) ++ numberBytes lengthTagWidth (a .end .«payload_length») in
+    let numbers = numbersOf (c .before .difference .result) (a .end) in
     let long = ap length (end-apart (a .times) (a .end) _ (c .before .difference .ensures)) ∙ length-append numbers (a .end .«payload_digest») in
     (omega (arith, n .0, digest, long), omega (arith, n .1))
 
