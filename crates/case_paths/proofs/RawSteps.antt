@@ -49,7 +49,7 @@ module _ (p : List ℕ) (rest : Bool) where
       by-cases true false e = refl
       by-cases false d e = refl
 
--- ---- 20 numbers parted by commas
+-- ---- as many numbers as a record has lengths, parted by commas
 abbrev pub noLengths : Lengths
 noLengths = record { ok = false; lengths = replicate maxComponentCount 0 }
 

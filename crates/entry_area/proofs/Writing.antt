@@ -11,7 +11,7 @@ use Rattle.codec.proofs.Tests.{and-left, and-right}
 use Rattle.path.proofs.Verdicts.{said-known, unsaid-known}
 use Rattle.path.proofs.Components.{Formed, sized-formed, parts-formed, count-is}
 use Rattle.path.proofs.Records.{lent-known}
-use Rattle.path_suffix.specs.Lengths.{maxAgainstLength}
+use Rattle.path_suffix.specs.inside.Lengths.{maxAgainstLength}
 use Rattle.path_suffix.specs.Suffix.{suffixBy}
 use Rattle.path_relative.specs.Records.{sharedBy}
 use Rattle.path_relative.proofs.Writing.{within-by}

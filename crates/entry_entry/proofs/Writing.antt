@@ -5,7 +5,7 @@ use Rattle.codec.proofs.Tests.{and-right}
 use Rattle.codec.proofs.Lawful.{verdict-allowed}
 use Rattle.path.specs.Record.{componentsOf, wellFormed}
 use Rattle.path.proofs.Components.{parts-formed, count-is, total-small}
-use Rattle.path_suffix.specs.Lengths.{maxAgainstLength}
+use Rattle.path_suffix.specs.inside.Lengths.{maxAgainstLength}
 use Rattle.path_relative.specs.Against.{againstBytes}
 use Rattle.path_relative.specs.Records.{againstPath}
 use Rattle.path_relative.proofs.Against.{against-short}

@@ -9,7 +9,7 @@ use Rattle.range_3d.specs.Record.{Range3d, headOf, rangeWith, wellFormedSubspac
 use Rattle.path.specs.Flat.{pathSize, pathFlat, pathIn}
 use Rattle.flat.specs.PathRecord.{pathIf}
 use Rattle.flat.specs.Times.{timesFlat, timesMarked, timesIn}
-use Rattle.flat.specs.RangeRecord.{rangeSize, rangePathOpen, rangePathEnd, rangeTimesStart, pathsSize, subspacesFlat, rangeFlat, rangeMarked, subspacesIn, rangeIn}
+use Rattle.flat.specs.RangeRecord.{rangeSize, rangePathOpen, rangePathEnd, rangeTimesStart, subspacesFlat, rangeFlat, rangeMarked, subspacesIn, rangeIn}
 use Rattle.path.proofs.Loads.{path-long, path-loads, path-stores, path-within}
 use Rattle.flat.proofs.PathLaws.{unmarked}
 use Rattle.flat.proofs.TimesLaws.{mark-loads, mark-small, mark-stores, times-marked, times-loads, times-stores, times-long, three}
@@ -133,7 +133,7 @@ range-stores s long b w = go (rangeMarked s) refl (and-left (wellFormed (rangeIn
         let e : getD s rangePathOpen 0 ≡ getD (drop 65 s) pathSize 0 = sym (getD-drop 65 s pathSize 0) in
         let d : drop rangePathEnd s ≡ drop (pathSize + 1) (drop 65 s) = sym (drop-drop (pathSize + 1) 65 s) in
         let h : pathSize < length (drop 65 s) = rw length-drop (omega arith) in
-        rw (ep, eq, et, e, d, middle (drop 65 s) pathSize pathSize h, middle s 32 32 (omega arith)) (three s 65 pathsSize)
+        rw (ep, eq, et, e, d, middle (drop 65 s) pathSize pathSize h, middle s 32 32 (omega arith)) (three s 65 (pathSize + 1 + pathSize))
 
     fields : Marks s → stored true ≡ s
     fields m =

@@ -12,10 +12,7 @@ use Rattle.path.specs.Flat.{pathSize, pathFlat, pathIn}
 use Rattle.flat.specs.PathRecord.{pathIf}
 use Rattle.flat.specs.Times.{timesSize, timesFlat, timesMarked, timesIn}
 
--- how many bytes the paths have; where their mark, their end and the times start; and how many bytes there are in all
-abbrev pub pathsSize : ℕ
-pathsSize = pathSize + 1 + pathSize
-
+-- where the mark and the end of the paths and the times start, and how many bytes there are in all
 abbrev pub rangePathOpen : ℕ
 rangePathOpen = 65 + pathSize
 

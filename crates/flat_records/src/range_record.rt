@@ -1,10 +1,10 @@
 // A 3d range: subspace start, mark, end; path start, mark, end; times. The marks say that an end is open.
 ghost use mathlib.Core.Path.{_≡_};
-ghost use Prim.Native.Nat.{_≤_};
+ghost use Prim.Native.Nat.{_+_, _≤_};
 ghost use lib.ListN.{length, take, drop};
 ghost use Rattle.path.specs.Flat.{pathSize, pathIn};
 ghost use Rattle.range_3d.specs.Record.{headOf, rangeWith};
-ghost use Rattle.flat.specs.RangeRecord.{rangeSize, rangePathEnd, pathsSize, subspacesFlat, pathsFlat, subspacesIn, rangeMarked, rangeIn, rangeFlat};
+ghost use Rattle.flat.specs.RangeRecord.{rangeSize, rangePathEnd, subspacesFlat, pathsFlat, subspacesIn, rangeMarked, rangeIn, rangeFlat};
 ghost use Rattle.path.specs.Puts.{Puts};
 use range_3d::Range3dHead;
 use range_3d::SubspaceRange;
@@ -54,8 +54,8 @@ fn put_subspaces(flat: &mut [u8], subspaces: SubspaceRange)
 
 // The paths, from the first byte on.
 fn put_paths<'a>(flat: &mut [u8], start: &'a [u8], end_open: bool, end: &'a [u8])
-    requires { ⌜ (pathsSize ≤ length (now flat)) × (length (now start) ≡ pathSize) × (length (now end) ≡ pathSize) ⌝ }
-    ensures { λ _. ⌜ Puts pathsSize (pathsFlat (pathIn (now (start .entry))) «end_open» (pathIn (now (end .entry)))) (now (flat .entry)) (now (flat .exit)) ⌝ }
+    requires { ⌜ (pathSize + 1 + pathSize ≤ length (now flat)) × (length (now start) ≡ pathSize) × (length (now end) ≡ pathSize) ⌝ }
+    ensures { λ _. ⌜ Puts (pathSize + 1 + pathSize) (pathsFlat (pathIn (now (start .entry))) «end_open» (pathIn (now (end .entry)))) (now (flat .entry)) (now (flat .exit)) ⌝ }
 {
     let open = PATH_OPEN - PATH_START;
     let at = PATH_END - PATH_START;

@@ -10,7 +10,7 @@ use Rattle.path.proofs.Components.{Formed, sized-formed, well-sized, count-is, 
 use Rattle.path.proofs.Prefix.{shares}
 use Rattle.path.proofs.Verdicts.{said-known, unsaid-known}
 use Rattle.codec.proofs.Lawful.{verdict-allowed}
-use Rattle.path_suffix.specs.Lengths.{maxSuffixLength}
+use Rattle.path_suffix.specs.inside.Lengths.{maxSuffixLength}
 use Rattle.path_suffix.proofs.Suffix.{suffix-short}
 use Rattle.path_suffix.specs.Suffix.{suffixBytes, suffixBy}
 use Rattle.path_relative.specs.Records.{sharedBy, extendsBy, againstPath, extendsPath}

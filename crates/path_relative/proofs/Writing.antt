@@ -7,7 +7,7 @@ use Rattle.codec.proofs.Lending.{put-refused-value, put-full, put-fits, put-ref
 use Rattle.compact_u64.specs.Number.{standaloneBytes}
 use Rattle.path.specs.Record.{Path, componentsOf}
 use Rattle.path.proofs.Components.{Formed, rest-count, rest-small}
-use Rattle.path_suffix.specs.Lengths.{maxSuffixLength}
+use Rattle.path_suffix.specs.inside.Lengths.{maxSuffixLength}
 use Rattle.path_suffix.specs.Suffix.{suffixBy}
 use Rattle.path_suffix.proofs.Suffix.{suffix-short}
 use Rattle.path_relative.specs.Records.{sharedBy}

@@ -1,4 +1,3 @@
 pub mod Header
-pub mod Lengths
 pub mod Suffix
 pub mod inside

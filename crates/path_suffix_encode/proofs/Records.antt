@@ -6,7 +6,7 @@ use Rattle.path.specs.Limits.{totalOf}
 use Rattle.path.specs.Flat.{pathIn, lent}
 use Rattle.path.proofs.Components.{Formed, bytesAt, bytes-at-long, count-is, rest-count, rest-small, component}
 use Rattle.path.proofs.Records.{lent-known, span-rest}
-use Rattle.path_suffix.specs.Lengths.{maxSuffixLength}
+use Rattle.path_suffix.specs.inside.Lengths.{maxSuffixLength}
 use Rattle.path_suffix.specs.Suffix.{sizesFrom, sizesOf, sizedBytes, componentBytes, suffixBytes}
 use Rattle.path_suffix.proofs.Suffix.{suffix-short}
 use Rattle.path_suffix.proofs.Components.{bytes-cons}

@@ -7,7 +7,7 @@ ghost use Rattle.codec.specs.Format.{over, lengthAnswer, WritesInto};
 ghost use Rattle.path.specs.Record.{componentsOf, sized};
 ghost use Rattle.path.specs.inside.Sizes.{Leads};
 ghost use Rattle.path.specs.Flat.{pathIn};
-ghost use Rattle.path_suffix.specs.Lengths.{maxSuffixLength};
+ghost use Rattle.path_suffix.specs.inside.Lengths.{maxSuffixLength};
 ghost use Rattle.path_suffix.specs.Suffix.{componentBytes, suffixBytes, suffixBy};
 use crate::suffix_header;
 use codec::Encoded;

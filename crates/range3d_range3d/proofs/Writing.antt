@@ -6,7 +6,7 @@ use Rattle.codec.proofs.Tests.{and-left, and-right}
 use Rattle.path.specs.Record.{componentsOf, sized}
 use Rattle.codec.specs.Answers.{said, unsaid}
 use Rattle.path.proofs.Verdicts.{said-known, unsaid-known}
-use Rattle.path_suffix.specs.Lengths.{maxAgainstLength}
+use Rattle.path_suffix.specs.inside.Lengths.{maxAgainstLength}
 use Rattle.path_relative.specs.Records.{sharedBy}
 use Rattle.range_3d.specs.Record.{PathRange, Range3d, subspacesOf, pathsOf, headOf, wellFormedRange3d}
 use Rattle.range_3d.specs.inside.Sizes.{sizedRange3d}

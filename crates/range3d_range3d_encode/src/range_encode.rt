@@ -4,7 +4,7 @@ ghost use Prim.Native.Nat.{_*_, _≤_};
 ghost use lib.ListN.{length};
 ghost use Rattle.codec.specs.Format.{over, WritesInto};
 ghost use Rattle.path.specs.Flat.{pathIn};
-ghost use Rattle.path_suffix.specs.Lengths.{maxAgainstLength};
+ghost use Rattle.path_suffix.specs.inside.Lengths.{maxAgainstLength};
 ghost use Rattle.range_3d.specs.Record.{rangeWith};
 ghost use Rattle.range_paths.specs.Records.{pathsWith};
 ghost use Rattle.range_paths.specs.inside.Writing.{bothBytes, Shares};

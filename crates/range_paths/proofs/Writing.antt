@@ -11,7 +11,7 @@ use Rattle.path.specs.Answers.{saidIf}
 use Rattle.path.proofs.Components.{sized-formed, count-is, rest-count, rest-small}
 use Rattle.path.proofs.Prefix.{shares}
 use Rattle.path.proofs.Verdicts.{said-known, unsaid-known}
-use Rattle.path_suffix.specs.Lengths.{maxAgainstLength}
+use Rattle.path_suffix.specs.inside.Lengths.{maxAgainstLength}
 use Rattle.path_suffix.specs.Suffix.{suffixBy}
 use Rattle.path_suffix.proofs.Suffix.{suffix-short}
 use Rattle.path_relative.specs.Records.{sharedBy}

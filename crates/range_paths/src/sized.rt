@@ -5,7 +5,7 @@ ghost use lib.ListN.{length};
 ghost use Rattle.codec.specs.Format.{allowed};
 ghost use Rattle.path.specs.Record.{sized};
 ghost use Rattle.path.specs.Flat.{pathIn};
-ghost use Rattle.path_suffix.specs.Lengths.{maxAgainstLength};
+ghost use Rattle.path_suffix.specs.inside.Lengths.{maxAgainstLength};
 ghost use Rattle.path_relative.specs.Records.{sharedBy};
 ghost use Rattle.range_paths.specs.Records.{pathsWith, measuredAnswer, measureIn};
 ghost use Rattle.range_paths.specs.inside.Writing.{nearAnswer, nearIn};

@@ -1,4 +1,4 @@
--- The invariant: the first i numbers of the field are in their form and stand in `lengths`, and the field has 20.
+-- The invariant: the first i numbers of the field are in their form and stand in `lengths`, and the field has as many as a record has lengths.
 use Rattle.codec.proofs.Prelude.{_-_, _≤_, refl, _∙_, sym, now, arith, needs}
 use Rattle.path.specs.Limits.{maxComponentCount}
 use Rattle.case_paths.proofs.RawSteps.{LengthsRead, lengths-few, lengths-refused, lengths-next, lengths-all, number-said}

@@ -3,7 +3,7 @@ use Rattle.codec.specs.Answers.{wrote, outcomeOf}
 use Rattle.codec.proofs.Lending.{length-wrote, length-not-refused-writing, no-length}
 use Rattle.path.specs.Record.{Path, sized}
 use Rattle.path.specs.Flat.{pathIn}
-use Rattle.path_suffix.specs.Lengths.{maxAgainstLength}
+use Rattle.path_suffix.specs.inside.Lengths.{maxAgainstLength}
 use Rattle.path_relative.specs.Records.{sharedBy}
 use Rattle.grouping.specs.Record.{subspaceOf}
 use Rattle.entry.proofs.Typed.{subspace-long}

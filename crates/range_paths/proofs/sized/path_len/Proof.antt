@@ -4,7 +4,7 @@ use Rattle.codec.proofs.Lawful.{verdict-allowed}
 use Rattle.codec.proofs.Lending.{length-wrote, length-not-refused-writing, no-length}
 use Rattle.path.specs.Record.{Path, sized}
 use Rattle.path.specs.Flat.{pathIn}
-use Rattle.path_suffix.specs.Lengths.{maxAgainstLength}
+use Rattle.path_suffix.specs.inside.Lengths.{maxAgainstLength}
 use Rattle.path_relative.specs.Records.{sharedBy}
 use Rattle.range_paths.proofs.Writing.{shared-short}
 use Rattle.range_paths.proofs.sized.path_len.Statement.{statement}
