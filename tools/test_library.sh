@@ -1,6 +1,6 @@
 #!/bin/sh
 # test_library.sh: builds the static archive and tests it from outside: the Rust bindings, the C example, and a comparison with
-# the original Rust in one process (some 40 million cases). Ends at the first failure.
+# the original Rust in one process (some 50 million cases). Ends at the first failure.
 set -eu
 cd "$(dirname "$0")/.."
 mkdir -p target
