@@ -7,20 +7,20 @@ from pathlib import Path
 sys.dont_write_bytecode = True
 import area_lists
 from area_lists import ID, OTHER, OWN, message
-from case_lists import FULL, MCC, MCL, a, text
+from case_lists import FULL, MCC, MCL, a, suffix, text
 from model import LISTING_LINE_LIMIT, TOP, listing, tabbed
 from oracle import build, run
 
 ROOT = Path(__file__).resolve().parent.parent
-EXAMPLE = [tabbed("s", "*", "", 0, "*", OWN), *[tabbed(mode, "*", "", 100, 200, message(50, 0)) for mode in "ls"]]
+EXAMPLE = [tabbed("s", "*", "-", 0, "*", OWN), *[tabbed(mode, "*", "-", 100, 200, message(50, 0)) for mode in "ls"]]
 
 
 def listed(line):
-    """A case line of areas as a line of the listing; None where the path has no such text."""
-    kind, op, subspace, path, start, end, *rest = line.split("\t")
-    if op not in "sl" or len(rest) != 2 or rest[0] != "0" or path == "":
+    """A case line of areas that reads from the message's start as a line of the listing; None of any other."""
+    kind, op, *reference, start, message = line.split("\t")
+    if op not in "sl" or len(reference) != 4 or start != "0":
         return None
-    return tabbed(op, subspace, "" if path == "-" else path, start, end, rest[1])
+    return tabbed(op, *reference, message)
 
 
 def readings():
@@ -30,10 +30,14 @@ def readings():
 
 
 def paths():
-    """Components at their limits, from both sides; a dash is no path."""
+    """A dash and the fields that are like it; components at their limits, from both sides."""
     full = text([a(len(c) // 2) for c in FULL])
-    texts = ["61", "/", "61/", "/61", "61/62", a(MCL), a(MCL + 1), full, f"{full}/61", "/" * (MCC - 1), "/" * MCC, "-", "6", "6g", "6A", "61//62"]
-    return [tabbed(mode, "*", path, 0, "*", OWN) for path in texts for mode in "sl"]
+    texts = ["61", "61/", "/61", "61/62", a(MCL), a(MCL + 1), full, f"{full}/61", "/" * (MCC - 1), "/" * MCC, "6", "6g", "6A", "61//62"]
+    dashes = ["-", "", "/", "-/61", "61/-", "--", "-/", "/-", "- ", "2d"]
+    # The reference's own path, and that with one empty component more.
+    messages = [OWN, message(0, None, path=suffix([""]), end_open=1, start_added=1)]
+    asked = [(path, bytes) for path in dashes for bytes in messages] + [(path, OWN) for path in texts]
+    return [tabbed(mode, "*", path, 0, "*", bytes) for path, bytes in asked for mode in "sl"]
 
 
 def malformed():
@@ -52,7 +56,7 @@ def malformed():
 
 def lengths():
     """Lines of the most bytes and more, each followed by a short one."""
-    start = tabbed("l", "*", "", 0, "*", OWN)
+    start = tabbed("l", "*", "-", 0, "*", OWN)
     lines = []
     for n in [LISTING_LINE_LIMIT - 1, LISTING_LINE_LIMIT, LISTING_LINE_LIMIT + 1, LISTING_LINE_LIMIT + 2, 9000, 70000]:
         lines += [start + "0" * (n - len(start)), tabbed("s", OTHER, "61", n, TOP, OWN)]
@@ -60,7 +64,7 @@ def lengths():
 
 
 def numbers():
-    return [tabbed(mode, ID, "", start, end, text) for mode in "sl" for start, end in [(0, TOP), (TOP, "*"), (TOP, TOP), (1, 0)]
+    return [tabbed(mode, ID, "-", start, end, text) for mode in "sl" for start, end in [(0, TOP), (TOP, "*"), (TOP, TOP), (1, 0)]
             for text in ["", OWN[:2], OWN[:4], OWN, message(0, 0, start_added=1), message(0, 0, start_added=1, end_added=1), message(0, 0)[:-2],
                          "2f00ffffffffffffffff00"]]
 

@@ -438,11 +438,10 @@ def answer(line):
 def listing(line, answer_of=answer):
     """The answer to a line of the area listing, which is that to a case line."""
     mode, *fields = line.split("\t")
-    if len(line) > LISTING_LINE_LIMIT or mode not in ["s", "l"] or len(fields) != 5 or fields[1] == "-":
+    if len(line) > LISTING_LINE_LIMIT or mode not in ["s", "l"] or len(fields) != 5:
         return tabbed("no", 6)
-    subspace, path, start, end, message = fields
-    told = answer_of(tabbed("area_area", mode, subspace, path or "-", start, end, 0, message))
-    return told.replace("\t-\t", "\t\t")
+    *reference, message = fields
+    return answer_of(tabbed("area_area", mode, *reference, 0, message))
 
 
 if __name__ == "__main__":

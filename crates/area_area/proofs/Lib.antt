@@ -5,3 +5,4 @@ pub mod DecodeExits
 pub mod Writing
 pub mod Relations
 pub mod Orders
+pub mod Yields

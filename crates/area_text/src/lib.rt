@@ -1,10 +1,21 @@
-// The text of an area's fields: docs/CASES.md.
+// The fields of an area in a line, read and printed: docs/CASES.md.
 ghost use mathlib.Core.Path.{_≡_};
+ghost use mathlib.Core.Bool.{cond};
+ghost use Rattle.path.specs.Flat.{pathIn};
+ghost use Rattle.grouping.specs.Record.{areaWith};
 ghost use Rattle.text.specs.Buffer.{placeAfter, putAt};
-ghost use Rattle.area_text.specs.AreaText.{readSubspaceText, readEndText, subspaceText, endText};
+ghost use Rattle.case_text.specs.Answers.{PutsText};
+ghost use Rattle.case_text.specs.Fields.{Says};
+ghost use Rattle.area_text.specs.AreaText.{readSubspaceText, readEndText, subspaceText, endText, areaText, areaField, fieldArea, noArea};
+use case_text::MAX_BYTES;
+use case_text::fields;
 use decimal::Decimal;
+use grouping::AreaHead;
 use grouping::AreaSubspace;
 use grouping::RangeEnd;
+use grouping::TimeRange;
+use path::Path;
+use path_text::Found;
 
 // A subspace that a field says; where the field is not in its form, one that no field says.
 pub struct SubspaceField {
@@ -15,6 +26,13 @@ pub struct SubspaceField {
 pub struct EndField {
     pub ok: bool,
     pub end: RangeEnd,
+}
+
+// An area that four fields say; where they are not in their form, one in which no time lies.
+pub struct AreaField {
+    pub ok: bool,
+    pub head: AreaHead,
+    pub path: Path,
 }
 
 // `*` is any subspace.
@@ -78,4 +96,74 @@ pub fn put_end(out: &mut [u8], at: usize, end: RangeEnd) -> usize
         RangeEnd::Closed(time) => text::put_decimal(out, at, time),
         RangeEnd::Open => text::put_bytes(out, at, b"*"),
     }
+}
+
+fn no_area() -> AreaField
+    ensures { λ r. ⌜ r ≡ noArea ⌝ }
+{
+    let head = AreaHead::empty();
+    let path = Path::new_empty();
+    AreaField {
+        ok: false,
+        head: head,
+        path: path,
+    }
+}
+
+// Reads the place-th field of a line and the three after it.
+pub fn read_area(line: &[u8], place: u8) -> AreaField
+    ensures { λ r. ⌜ Says (areaField place (now (line .entry))) (r .ok) (fieldArea r) × (r ≡ cond (r .ok) r noArea) ⌝ }
+{
+    let i = place as usize;
+    let first = read_subspace(text::part(line, b'\t', i));
+    if !first.ok {
+        return no_area();
+    }
+    let second = fields::path(line, i + 1);
+    let found = second.found;
+    let Found::Read = found else {
+        return no_area();
+    };
+    let third = decimal::read_decimal(text::part(line, b'\t', i + 2));
+    let Decimal::Value(start) = third else {
+        return no_area();
+    };
+    let fourth = read_end(text::part(line, b'\t', i + 3));
+    if !fourth.ok {
+        return no_area();
+    }
+    let subspace = first.subspace;
+    let path = second.path;
+    let end = fourth.end;
+    AreaField {
+        ok: true,
+        head: AreaHead {
+            subspace: subspace,
+            times: TimeRange {
+                start: start,
+                end: end,
+            },
+        },
+        path: path,
+    }
+}
+
+// Prints an area from the buffer's first byte on.
+pub fn print_area(
+    area: AreaHead,
+    path: &[u8; path::lent::SIZE],
+    buffer: &mut [u8; MAX_BYTES],
+) -> usize
+    ensures { λ r. ⌜ PutsText 0 (areaText (areaWith area (pathIn (now (path .entry))))) (now (buffer .entry)) (now (buffer .exit)) r ⌝ }
+{
+    let subspace = area.subspace;
+    let times = area.times;
+    let end = times.end;
+    let mut p = put_subspace(buffer, 0, subspace);
+    p = text::put_bytes(buffer, p, b"\t");
+    p = path_text::put_path(buffer, p, path);
+    p = text::put_bytes(buffer, p, b"\t");
+    p = text::put_decimal(buffer, p, times.start);
+    p = text::put_bytes(buffer, p, b"\t");
+    put_end(buffer, p, end)
 }

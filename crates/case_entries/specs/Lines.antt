@@ -6,7 +6,7 @@ use Rattle.entry_area.specs.Records.{againstNamespaceArea, readAgainstNamespace
 use Rattle.case_text.specs.declared.Op.{Op}
 use Rattle.case_text.specs.Fields.{field, idField, opOf}
 use Rattle.case_text.specs.Records.{recordLine}
-use Rattle.case_areas.specs.Lines.{areaField}
+use Rattle.area_text.specs.AreaText.{areaField}
 use Rattle.case_entry_text.specs.Fields.{entryText, entryField}
 
 -- ---- the line: namespace and area stand before the other fields

@@ -6,10 +6,10 @@ ghost use Rattle.case_text.specs.Texts.{ended};
 ghost use Rattle.case_text.specs.inside.Values.{valueText};
 ghost use Rattle.case_text.specs.Answers.{PutsWithin};
 ghost use Rattle.case_text.specs.Asking.{OutputInside};
-ghost use Rattle.case_areas.specs.Lines.{fieldArea};
+ghost use Rattle.area_text.specs.AreaText.{fieldArea};
 ghost use Rattle.case_entry_text.specs.Fields.{entryField};
 ghost use Rattle.case_entries.specs.Lines.{entryLine};
-use case_areas::AreaField;
+use area_text::AreaField;
 use case_text::Asked;
 use case_text::MAX_BYTES;
 use case_text::Output;
@@ -61,7 +61,7 @@ pub fn entry(line: &[u8], out: &mut [u8], at: usize) -> usize
     if !first.ok {
         return put::refuse(out, at);
     }
-    let area = case_areas::read_area(line, 3);
+    let area = area_text::read_area(line, 3);
     if !area.ok {
         return put::refuse(out, at);
     }

@@ -10,6 +10,7 @@ ghost use Rattle.case_text.specs.Fields.{Says};
 ghost use Rattle.case_entry_text.specs.Fields.{namesText, entryText, namesField, entryField, fieldEntry, noEntry};
 ghost use Rattle.case_entry_text.specs.inside.Fields.{fieldNames, noNames};
 use case_text::MAX_BYTES;
+use case_text::fields;
 use decimal::Decimal;
 use entry::EntryFields;
 use path::Path;
@@ -72,7 +73,7 @@ fn read_names(line: &[u8], place: u8) -> NamesField
     if !second.ok {
         return no_names();
     }
-    let third = path_text::read_path(text::part(line, b'\t', i + 2));
+    let third = fields::path(line, i + 2);
     let found = third.found;
     let Found::Read = found else {
         return no_names();

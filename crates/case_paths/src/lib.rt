@@ -114,7 +114,7 @@ fn write(
     requires { ⌜ OutputInside (length buffer) output ⌝ }
     ensures { λ r. ⌜ PutsWithin maxAnswer at (ended (pathField i (now (line .entry)) (valueText (encodingFormat encoding (pathIn (reference .flat))) output buffer))) (now (out .entry)) (now (out .exit)) r ⌝ }
 {
-    let field = path_text::read_path(text::part(line, b'\t', i as usize));
+    let field = fields::path(line, i as usize);
     let found = field.found;
     let Found::Read = found else {
         return put::refuse(out, at);
@@ -172,7 +172,7 @@ pub fn plain(line: &[u8], out: &mut [u8], at: usize) -> usize
 pub fn relative(line: &[u8], out: &mut [u8], at: usize, encoding: Encoding) -> usize
     ensures { λ r. ⌜ PutsWithin maxAnswer at (ended (relativeLine encoding (now (line .entry)))) (now (out .entry)) (now (out .exit)) r ⌝ }
 {
-    let field = path_text::read_path(text::part(line, b'\t', 2));
+    let field = fields::path(line, 2);
     let found = field.found;
     let Found::Read = found else {
         return put::refuse(out, at);

@@ -12,6 +12,7 @@ ghost use Rattle.case_text.specs.Fields.{Says};
 ghost use Rattle.case_range_text.specs.Fields.{subspacesField, endField, readPathEnd, pathsField, timesField, rangeField, rangeSaid, noRangeField, subspacesText, pathEndText, rangeText};
 ghost use Rattle.case_range_text.specs.inside.Fields.{noSubspacesField, pathsSaid, noPathsField, noTimesField};
 use case_text::MAX_BYTES;
+use case_text::fields;
 use decimal::Decimal;
 use grouping::AreaSubspace;
 use grouping::RangeEnd;
@@ -143,7 +144,7 @@ fn read_paths(line: &[u8], i: usize) -> PathsField
     requires { ⌜ i ≤ 259 ⌝ }
     ensures { λ r. ⌜ Says (pathsField i (now (line .entry))) (r .ok) (pathsSaid r) ⌝ }
 {
-    let first = path_text::read_path(text::part(line, b'\t', i));
+    let first = fields::path(line, i);
     let found = first.found;
     let Found::Read = found else {
         return no_paths();

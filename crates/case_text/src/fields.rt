@@ -1,6 +1,7 @@
 // The fields of a line.
 ghost use mathlib.Core.Path.{_≡_};
 ghost use lib.ListN.{length};
+ghost use Rattle.path_text.specs.PathText.{Finds, readPathText};
 ghost use Rattle.case_text.specs.Fields.{field, opOf};
 ghost use Rattle.case_text.specs.Answers.{ReadsHex};
 ghost use Rattle.case_text.specs.Asking.{askingRead, askingWrite, asking, Asks};
@@ -9,6 +10,7 @@ use crate::HexField;
 use crate::Op;
 use crate::Output;
 use decimal::Decimal;
+use path_text::PathField;
 use text::Hex;
 
 // The operation that a field names.
@@ -28,6 +30,13 @@ pub fn op(field: &[u8]) -> Op
         return Op::Length;
     }
     Op::Unknown
+}
+
+// Reads the i-th field of a line as a path.
+pub fn path(line: &[u8], i: usize) -> PathField
+    ensures { λ r. ⌜ Finds r (readPathText (field i (now (line .entry)))) ⌝ }
+{
+    path_text::read_path(text::part(line, b'\t', i))
 }
 
 // Reads the i-th field of a line as bytes in hex, no more than the buffer has.

@@ -1,2 +1,3 @@
 pub mod Answering
 pub mod Stream
+pub mod Paths

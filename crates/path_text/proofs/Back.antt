@@ -1,46 +1,32 @@
 -- There and back: what was printed is read as it was.
-use Rattle.codec.proofs.Prelude.{_≡_, refl, ap, _∙_, List, [], _∷_, _++_, map, append-nil, Bool, true, false, cond, ℕ, _+_, _/_, _%_, _≤_, _<_, arith, ltb, eqb, ne-eqb, length}
-use Rattle.io.specs.Digits.{glyph}
+use Rattle.codec.proofs.Prelude.{_≡_, refl, sym, ap, _∙_, _↔_, List, [], _∷_, _++_, map, append-nil, Bool, true, false, cond, ℕ, _/_, _≤_, arith, length}
+use Rattle.codec.specs.Answers.{said}
 use Rattle.codec.specs.Writings.{All}
 use Rattle.codec.specs.Bytes.{sameBytes}
 use Rattle.text.specs.Parts.{parts}
-use Rattle.text.specs.Hex.{unhex, hexText}
+use Rattle.text.specs.Hex.{isHex, unhex, hexText}
+use Rattle.text.proofs.Tests.{both}
+use Rattle.text.proofs.HexSteps.{unhex-bytes}
 use Rattle.text.proofs.Back.{hex-back}
+use Rattle.text.proofs.Joined.{one-part, parted, other-glyph, hex-without}
+use Rattle.path.specs.declared.Path.{Path as HeldPath}
 use Rattle.path.specs.Record.{Path, componentsOf, pathFrom, wellFormed, TypedPath}
-use Rattle.path.specs.Limits.{Component, PathOk}
-use Rattle.path.proofs.Limits.{ok-path}
-use Rattle.path.proofs.Record.{apart-path, well-formed}
+use Rattle.path.specs.Limits.{pathOk, Component, PathOk, TypedComponents}
+use Rattle.path.specs.Flat.{pathFlat, pathIn}
+use Rattle.path.proofs.Limits.{path-ok, ok-path}
+use Rattle.path.proofs.Record.{apart-path, well-formed, formed-well, made-path}
+use Rattle.path.proofs.Loads.{flat-back}
 use Rattle.path.proofs.Components.{parts-formed, count-is, total-small}
-use Rattle.path_text.specs.PathText.{maxPathText, tailText, componentsText, pathText, componentsTextOf, pathTextOf, readField, allHex, readTexts, readComponentsText, readPathText}
+use Rattle.path_text.specs.PathText.{maxPathText, tailText, pathText, pathTextOf, readField, refusedField, allHex, fieldOf, readTexts, readComponentsText, readPathText}
 use Rattle.path_text.specs.Laws.{PathTextLaws}
 use Rattle.path_text.proofs.Reading.{field-ok}
 use Rattle.path_text.proofs.Printing as printing
 
--- ---- a digit is neither `/` nor `-`
-digit : (d : ℕ) → 47 < glyph d
-digit d = by-cases (ltb d 10)
-  where
-    by-cases : (b : Bool) → 47 < cond b (48 + d) (87 + d)
-    by-cases true = omega arith
-    by-cases false = omega arith
-
-no-slash : (d : ℕ) → eqb (glyph d) 47 ≡ false
-no-slash d = ne-eqb (glyph d) 47 (λ e. omega (arith, digit d, e))
-
 -- ---- the parts of a text are the components' texts
-hex-first : (c : List ℕ) (r p : List ℕ) (ps : List (List ℕ)) → parts 47 r ≡ p ∷ ps → parts 47 (hexText c ++ r) ≡ (hexText c ++ p) ∷ ps
-unfolding hexText parts
-hex-first [] r p ps e = e
-hex-first (b ∷ c) r p ps e = rw (no-slash (b / 16), no-slash (b % 16), hex-first c r p ps e)
-
-tail-parts : (cs : List (List ℕ)) → parts 47 (tailText cs) ≡ [] ∷ map hexText cs
-unfolding tailText parts
-tail-parts [] = refl
-tail-parts (c ∷ cs) = rw (hex-first c (tailText cs) [] (map hexText cs) (tail-parts cs), append-nil (hexText c))
-
-text-parts : (c : List ℕ) (cs : List (List ℕ)) → parts 47 (componentsText (c ∷ cs)) ≡ hexText c ∷ map hexText cs
-unfolding componentsText
-text-parts c cs = rw (hex-first c (tailText cs) [] (map hexText cs) (tail-parts cs), append-nil (hexText c))
+text-parts : (c : List ℕ) (cs : List (List ℕ)) → parts 47 (pathText (c ∷ cs)) ≡ hexText c ∷ map hexText cs
+unfolding pathText tailText
+text-parts c [] = rw (append-nil (hexText c), one-part 47 (hexText c) (hex-without 47 (omega arith) c))
+text-parts c (d ∷ cs) = rw (parted 47 (hexText c) (hexText d ++ tailText cs) (hex-without 47 (omega arith) c), text-parts d cs)
 
 texts-back : (cs : List (List ℕ)) → All Component cs → (allHex (map hexText cs) ≡ true) × (map unhex (map hexText cs) ≡ cs)
 texts-back [] h = (refl, refl)
@@ -49,21 +35,18 @@ texts-back (c ∷ cs) h =
     let r = texts-back cs (h .1) in
     (rw (b .0) (r .0), rw (b .1, r .1))
 
-components-back : (c : List ℕ) (cs : List (List ℕ)) → PathOk (c ∷ cs) → readComponentsText (componentsText (c ∷ cs)) ≡ readField (pathFrom (c ∷ cs))
+components-back : (c : List ℕ) (cs : List (List ℕ)) → PathOk (c ∷ cs) → readComponentsText (pathText (c ∷ cs)) ≡ readField (pathFrom (c ∷ cs))
 unfolding readComponentsText readTexts
 components-back c cs h =
     let b = texts-back (c ∷ cs) (h .all) in
     rw (text-parts c cs, b .0, b .1, field-ok (c ∷ cs) (ok-path (c ∷ cs) h))
 
 -- ---- no components' text is `-`
-no-dash : (d : ℕ) (s : List ℕ) → sameBytes (glyph d ∷ s) (45 ∷ []) ≡ false
-no-dash d s = rw (ne-eqb (glyph d) 45 (λ e. omega (arith, digit d, e)))
-
-other-text : (c : List ℕ) (cs : List (List ℕ)) → sameBytes (componentsText (c ∷ cs)) (45 ∷ []) ≡ false
-unfolding componentsText hexText tailText
+other-text : (c : List ℕ) (cs : List (List ℕ)) → sameBytes (pathText (c ∷ cs)) (45 ∷ []) ≡ false
+unfolding pathText hexText tailText
 other-text [] [] = refl
 other-text [] (d ∷ cs) = refl
-other-text (b ∷ c) cs = no-dash (b / 16) (glyph (b % 16) ∷ (hexText c ++ tailText cs))
+other-text (b ∷ c) cs = rw (other-glyph 45 (omega arith) (b / 16))
 
 path-back : (cs : List (List ℕ)) → PathOk cs → readPathText (pathText cs) ≡ readField (pathFrom cs)
 unfolding readPathText pathText
@@ -77,13 +60,42 @@ record-back p t e =
     let a = apart-path p t (well-formed p e) in
     rw e (path-back (componentsOf p) (a .ok) ∙ ap readField (a .made))
 
-components-few : (p : Path) → length (componentsTextOf p) ≤ maxPathText
-unfolding componentsTextOf
-components-few p = by-cases (wellFormed p) refl
+alike : (p q : Path) → TypedPath p → TypedPath q → wellFormed p ≡ true → wellFormed q ≡ true → pathTextOf p ≡ pathTextOf q ↔ componentsOf p ≡ componentsOf q
+unfolding pathTextOf
+alike p q t u e f = (
+  λ h.
+      let b = sym (record-back p t e) ∙ ap readPathText h ∙ record-back q u f in
+      let held : _≡_ {A = HeldPath} (record { flat = pathFlat p }) (record { flat = pathFlat q }) = cc in
+      ap componentsOf (sym (flat-back p t e) ∙ ap (λ (x : HeldPath). pathIn (x .flat)) held ∙ flat-back q u f),
+  λ h. rw (e, f, h),
+)
+
+-- ---- what is read is well formed
+texts-typed : (ts : List (List ℕ)) → allHex ts ≡ true → TypedComponents (map unhex ts)
+texts-typed [] h = tt
+texts-typed (t ∷ ts) h = let b = both (isHex t) (allHex ts) h in (unhex-bytes t (b .0), texts-typed ts (b .1))
+
+module _ (p : HeldPath) where
+  abbrev Well : Type 0
+  Well = TypedPath (pathIn (p .flat)) × (wellFormed (pathIn (p .flat)) ≡ true)
+
+  field-well : (cs : List (List ℕ)) → TypedComponents cs → pathOk cs ≡ true → readField (pathFrom cs) ≡ said p → Well
+  field-well cs t ok h =
+      let m = made-path cs (path-ok cs t ok) in
+      let w = formed-well (pathFrom cs) (m .well) in
+      let flat : pathFlat (pathFrom cs) ≡ p .flat = cc in
+      rw (← flat, flat-back (pathFrom cs) (m .typed) w) (m .typed, w)
+
+read-well : (s : List ℕ) (p : HeldPath) → readPathText s ≡ said p → Well p
+unfolding readPathText readComponentsText readTexts fieldOf pathOk
+read-well s p h = by-cases (sameBytes s (45 ∷ [])) (allHex (parts 47 s)) refl (pathOk (map unhex (parts 47 s))) refl h
   where
-    by-cases : (b : Bool) → wellFormed p ≡ b → length (cond b (componentsText (componentsOf p)) []) ≤ maxPathText
-    by-cases true e = let f = parts-formed e in printing.components-few (componentsOf p) (omega (arith, count-is p f, f .well .count)) (total-small p f)
-    by-cases false e = omega arith
+    by-cases : (a b : Bool) → allHex (parts 47 s) ≡ b → (c : Bool) → pathOk (map unhex (parts 47 s)) ≡ c
+        → cond a (readField (pathFrom [])) (cond b (cond c (readField (pathFrom (map unhex (parts 47 s)))) refusedField) refusedField) ≡ said p → Well p
+    by-cases true b e c f h = field-well p [] tt refl h
+    by-cases false true e true f h = field-well p (map unhex (parts 47 s)) (texts-typed (parts 47 s) e) f h
+    by-cases false true e false f h = let z : _≡_ {A = ℕ} 0 1 = cc in absurd (omega arith)
+    by-cases false false e c f h = let z : _≡_ {A = ℕ} 0 1 = cc in absurd (omega arith)
 
 path-few : (p : Path) → length (pathTextOf p) ≤ maxPathText
 unfolding pathTextOf
@@ -94,4 +106,4 @@ path-few p = by-cases (wellFormed p) refl
     by-cases false e = omega arith
 
 pub path-text-laws : PathTextLaws
-path-text-laws = record { components = components-back; path = path-back; record-back = record-back; components-few = components-few; path-few = path-few }
+path-text-laws = record { path = path-back; record-back = record-back; alike = alike; read = read-well; path-few = path-few }

@@ -4,7 +4,7 @@ use Rattle.text.specs.Parts.{parts}
 use Rattle.text.specs.Hex.{isHex, unhex, hexText, hexValue}
 use Rattle.path.specs.Limits.{maxComponentLength, maxComponentCount, pathOk}
 use Rattle.path.specs.Record.{pathFrom}
-use Rattle.path_text.specs.PathText.{tailText, componentsText, pathText, readField, refusedField, fieldOf, readTexts, readComponentsText, readPathText}
+use Rattle.path_text.specs.PathText.{tailText, pathText, readField, refusedField, fieldOf, readTexts, readComponentsText, readPathText}
 
 record Cases : Type 0 where
   dash : readPathText (45 ∷ []) ≡ readField (pathFrom [])
@@ -24,6 +24,6 @@ record Cases : Type 0 where
   print-none : pathText [] ≡ 45 ∷ []
 
 cases : Cases
-unfolding readPathText readComponentsText readTexts fieldOf pathOk parts isHex unhex hexText hexValue pathText componentsText tailText
+unfolding readPathText readComponentsText readTexts fieldOf pathOk parts isHex unhex hexText hexValue pathText tailText
 cases =
     record { dash = refl; empty = refl; slash = refl; two = refl; upper = refl; odd = refl; dash-more = refl; dash-components = refl; long = refl; most = refl; many = refl; many-most = refl; print = refl; print-one = refl; print-none = refl }

@@ -1,17 +1,16 @@
 -- Laws of printing components one after another, and how long the text is.
-use Rattle.codec.proofs.Prelude.{_≡_, refl, sym, _∙_, List, [], _∷_, _++_, Bool, true, false, cond, ℕ, suc, _+_, _-_, _*_, _≤_, _<_, arith, leb, length, take, drop, length-append, drop-of-length-le, take-at}
+use Rattle.codec.proofs.Prelude.{_≡_, refl, sym, List, [], _∷_, _++_, Bool, true, false, cond, ℕ, suc, _+_, _-_, _*_, _≤_, _<_, arith, leb, length, take, drop, length-append, drop-of-length-le, take-at}
 use Rattle.codec.specs.Format.{over}
 use Rattle.text.specs.Hex.{hexText}
 use Rattle.text.specs.Buffer.{overAt, putAt, placeAfter}
 use Rattle.text.proofs.Written.{Wrote}
 use Rattle.text.proofs.HexSteps.{hexText-long}
+use Rattle.text.proofs.Joined.{Without, without-both, hex-without}
 use Rattle.text.proofs.Buffer.{overAt-none, wrote-first, wrote-next, wrote-long, wrote-rest}
 use Rattle.path.specs.Record.{Path, componentsOf, wellFormed}
 use Rattle.path.specs.Limits.{maxComponentCount, maxPathLength, totalOf}
-use Rattle.path.proofs.Components.{Formed, parts-formed, bytesAt, count-is, component}
-use Rattle.path.specs.Flat.{pathIn, lent}
-use Rattle.path.proofs.Records.{lent-known}
-use Rattle.path_text.specs.PathText.{maxPathText, maxTailText, tailText, componentsText, pathText, componentsTextOf, pathTextOf}
+use Rattle.path.proofs.Components.{Formed, bytesAt, count-is, component}
+use Rattle.path_text.specs.PathText.{maxPathText, maxTailText, tailText, pathText, pathTextOf}
 
 -- ---- how long
 tail-long : (cs : List (List ℕ)) → length (tailText cs) ≡ length cs + 2 * totalOf cs
@@ -22,21 +21,21 @@ tail-long (c ∷ cs) = rw length-append (omega (arith, hexText-long c, tail-long
 pub tail-few : (cs : List (List ℕ)) → length cs ≤ maxComponentCount → totalOf cs ≤ maxPathLength → length (tailText cs) ≤ maxTailText
 tail-few cs n t = omega (arith, tail-long cs)
 
--- the text of components is that with a `/` before each, without the first
-pub after-first : (cs : List (List ℕ)) → drop 1 (tailText cs) ≡ componentsText cs
-unfolding tailText componentsText
-after-first [] = refl
-after-first (c ∷ cs) = refl
-
-pub components-few : (cs : List (List ℕ)) → length cs ≤ maxComponentCount → totalOf cs ≤ maxPathLength → length (componentsText cs) ≤ maxPathText
-unfolding componentsText
-components-few [] n t = omega arith
-components-few (c ∷ cs) n t = rw length-append (omega (arith, hexText-long c, tail-long cs))
-
 pub path-few : (cs : List (List ℕ)) → length cs ≤ maxComponentCount → totalOf cs ≤ maxPathLength → length (pathText cs) ≤ maxPathText
 unfolding pathText
 path-few [] n t = omega arith
-path-few (c ∷ cs) n t = components-few (c ∷ cs) n t
+path-few (c ∷ cs) n t = rw length-append (omega (arith, hexText-long c, tail-long cs))
+
+-- ---- there is no tab
+tail-without : (cs : List (List ℕ)) → Without 9 (tailText cs)
+unfolding tailText
+tail-without [] = tt
+tail-without (c ∷ cs) = (refl, without-both 9 (hexText c) (tailText cs) (hex-without 9 (omega arith) c) (tail-without cs))
+
+pub text-without : (cs : List (List ℕ)) → Without 9 (pathText cs)
+unfolding pathText
+text-without [] = (refl, tt)
+text-without (c ∷ cs) = without-both 9 (hexText c) (tailText cs) (hex-without 9 (omega arith) c) (tail-without cs)
 
 -- ---- one component more, after a `/`
 module _ (l l1 l2 : List ℕ) (place slash q : ℕ) (c rest : List ℕ) (fit : place + length ((47 ∷ hexText c) ++ rest) ≤ length l)
@@ -77,10 +76,6 @@ part-text (b ∷ t) l =
     let e : suc (length t) - 1 ≡ length t = omega arith in
     rw e (take-at t _ (length t) refl)
 
-pub no-length : {A : Type 0} (t : List A) → length t ≡ 0 → t ≡ []
-no-length [] h = refl
-no-length (b ∷ t) h = absurd (omega arith)
-
 pub put-none : (at : ℕ) (l : List ℕ) → (at ≡ placeAfter at [] l) × (l ≡ putAt at [] l)
 unfolding placeAfter putAt
 put-none at l = rw overAt-none (place (leb (at + 0) (length l)), buffer (leb (at + 0) (length l)))
@@ -93,37 +88,23 @@ put-none at l = rw overAt-none (place (leb (at + 0) (length l)), buffer (leb (at
     buffer true = refl
     buffer false = refl
 
--- ---- the text of a record
+-- ---- the text of a path: that with a `/` before each component, without the first; `-` where there is none
+pub some-path : (cs : List (List ℕ)) → (length (tailText cs) ≡ 0 → ⊥) → drop 1 (tailText cs) ≡ pathText cs
+unfolding tailText pathText
+some-path [] some = absurd (some refl)
+some-path (c ∷ cs) some = refl
+
+pub no-path : (cs : List (List ℕ)) → length (tailText cs) ≡ 0 → 45 ∷ [] ≡ pathText cs
+unfolding tailText pathText
+no-path [] none = refl
+no-path (c ∷ cs) none = absurd (omega arith)
+
+-- ---- of a record
 module _ (p : Path) where
-  pub ill-components : wellFormed p ≡ false → componentsTextOf p ≡ []
-  unfolding componentsTextOf
-  ill-components e = rw e
+  pub well-path : wellFormed p ≡ true → pathText (componentsOf p) ≡ pathTextOf p
+  unfolding pathTextOf
+  well-path e = rw e
 
   pub ill-path : wellFormed p ≡ false → pathTextOf p ≡ []
   unfolding pathTextOf
   ill-path e = rw e
-
-  pub well-components : wellFormed p ≡ true → drop 1 (tailText (componentsOf p)) ≡ componentsTextOf p
-  unfolding componentsTextOf
-  well-components e = rw e (after-first (componentsOf p))
-
--- by the count of a lent record
-module _ (s : List ℕ) (n : ℕ) (count : n ≡ lent 0 (λ p. p .count) s) where
-  counted : wellFormed (pathIn s) ≡ true → n ≡ length (componentsOf (pathIn s))
-  counted e = let f = parts-formed e in count ∙ lent-known s f 0 (λ p. p .count) ∙ sym (count-is (pathIn s) f)
-
-  pub no-components : wellFormed (pathIn s) ≡ true → n ≡ 0 → 45 ∷ [] ≡ pathTextOf (pathIn s)
-  unfolding pathTextOf pathText
-  no-components e z = rw (e, no-length (componentsOf (pathIn s)) (sym (counted e) ∙ z))
-
-  pub some-components : (n ≡ 0 → ⊥) → componentsTextOf (pathIn s) ≡ pathTextOf (pathIn s)
-  unfolding componentsTextOf pathTextOf pathText
-  some-components z = by-cases (wellFormed (pathIn s)) refl
-    where
-      some : (cs : List (List ℕ)) → n ≡ length cs → componentsText cs ≡ pathText cs
-      some [] e = absurd (z e)
-      some (c ∷ cs) e = refl
-
-      by-cases : (b : Bool) → wellFormed (pathIn s) ≡ b → cond b (componentsText (componentsOf (pathIn s))) [] ≡ cond b (pathText (componentsOf (pathIn s))) []
-      by-cases true e = some (componentsOf (pathIn s)) (counted e)
-      by-cases false e = refl

@@ -30,20 +30,11 @@ unfoldable pub tailText : List (List ℕ) → List ℕ
 tailText [] = []
 tailText (c ∷ cs) = (47 ∷ hexText c) ++ tailText cs
 
--- one or more components
-unfoldable pub componentsText : List (List ℕ) → List ℕ
-componentsText [] = []
-componentsText (c ∷ cs) = hexText c ++ tailText cs
-
--- a path
 unfoldable pub pathText : List (List ℕ) → List ℕ
 pathText [] = ascii "-"
-pathText (c ∷ cs) = componentsText (c ∷ cs)
+pathText (c ∷ cs) = hexText c ++ tailText cs
 
 -- the same of a record: no bytes where it is not well formed
-unfoldable pub componentsTextOf : Path → List ℕ
-componentsTextOf p = cond (wellFormed p) (componentsText (componentsOf p)) []
-
 unfoldable pub pathTextOf : Path → List ℕ
 pathTextOf p = cond (wellFormed p) (pathText (componentsOf p)) []
 

@@ -7,7 +7,7 @@ ghost use Rattle.codec.specs.Format.{over};
 ghost use Rattle.text.specs.Buffer.{putAt, placeAfter};
 ghost use Rattle.path.specs.Record.{componentsOf, wellFormed};
 ghost use Rattle.path.specs.Flat.{pathIn};
-ghost use Rattle.path_text.specs.PathText.{maxTailText, tailText, componentsTextOf, pathTextOf, refusedField, Finds, readComponentsText, readPathText};
+ghost use Rattle.path_text.specs.PathText.{maxTailText, tailText, pathTextOf, refusedField, Finds, readComponentsText, readPathText};
 ghost use Rattle.path_text.specs.inside.PathText.{AppendsText};
 use path::Appended;
 use path::Growth;
@@ -115,9 +115,9 @@ fn fill(path: &[u8], out: &mut [u8]) -> usize
     place
 }
 
-// Puts the components of a path, as `text::put_bytes` does; nothing where there are none or the record is not well formed.
-pub fn put_components(out: &mut [u8], at: usize, path: &[u8]) -> usize
-    ensures { λ r. ⌜ (r ≡ placeAfter at (componentsTextOf (pathIn (now (path .entry)))) (now (out .entry))) × (now (out .exit) ≡ putAt at (componentsTextOf (pathIn (now (path .entry)))) (now (out .entry))) ⌝ }
+// Puts a path, as `text::put_bytes` does; nothing where the record is not well formed.
+pub fn put_path(out: &mut [u8], at: usize, path: &[u8]) -> usize
+    ensures { λ r. ⌜ (r ≡ placeAfter at (pathTextOf (pathIn (now (path .entry)))) (now (out .entry))) × (now (out .exit) ≡ putAt at (pathTextOf (pathIn (now (path .entry)))) (now (out .entry))) ⌝ }
 {
     if !path::lent::well_formed(path) {
         return at;
@@ -125,20 +125,7 @@ pub fn put_components(out: &mut [u8], at: usize, path: &[u8]) -> usize
     let mut texts = [0u8; MAX_TAIL];
     let n = fill(path, &mut texts);
     if n == 0 {
-        return at;
+        return text::put_bytes(out, at, b"-");
     }
     text::put_bytes(out, at, &texts[1..n])
-}
-
-// Puts a path, as `text::put_bytes` does; nothing where the record is not well formed.
-pub fn put_path(out: &mut [u8], at: usize, path: &[u8]) -> usize
-    ensures { λ r. ⌜ (r ≡ placeAfter at (pathTextOf (pathIn (now (path .entry)))) (now (out .entry))) × (now (out .exit) ≡ putAt at (pathTextOf (pathIn (now (path .entry)))) (now (out .entry))) ⌝ }
-{
-    if path::lent::count(path) != 0 {
-        return put_components(out, at, path);
-    }
-    if !path::lent::well_formed(path) {
-        return at;
-    }
-    text::put_bytes(out, at, b"-")
 }

@@ -1,6 +1,7 @@
 -- Laws of bytes in hex at one place of a text, for the loops that read and print them; how long they are.
-use Rattle.codec.proofs.Prelude.{_≡_, refl, sym, _∙_, List, [], _∷_, Bool, true, false, cond, ℕ, suc, _+_, _*_, _/_, _%_, _≤_, _<_, add-one, arith, ltb, ltb-true, ltb-false, length, drop, getD, drop-of-length-le, drop-cons}
+use Rattle.codec.proofs.Prelude.{_≡_, refl, sym, _∙_, List, [], _∷_, Bool, true, false, cond, ℕ, zero, suc, _+_, _*_, _/_, _%_, _≤_, _<_, add-one, arith, ltb, ltb-true, ltb-false, length, drop, getD, drop-of-length-le, drop-cons}
 use Rattle.io.specs.Digits.{glyph}
+use Rattle.codec.specs.Answers.{AllBytes}
 use Rattle.text.specs.Hex.{hexValue, isHex, unhex, hexText}
 use Rattle.text.proofs.Tests.{both}
 
@@ -48,6 +49,15 @@ isHex-even (a ∷ b ∷ s) h =
     let x = both (ltb (hexValue a) 16) _ h in
     let y = both (ltb (hexValue b) 16) _ (x .1) in
     omega (arith, isHex-even s (y .1))
+
+pub unhex-bytes : (s : List ℕ) → isHex s ≡ true → AllBytes (unhex s)
+unfolding isHex unhex
+unhex-bytes [] h i = omega arith
+unhex-bytes (a ∷ []) h i = omega arith
+unhex-bytes (a ∷ b ∷ s) h zero =
+    let x = both (ltb (hexValue a) 16) _ h in
+    omega (arith, ltb-true (hexValue a) 16 (x .0), ltb-true (hexValue b) 16 (both (ltb (hexValue b) 16) _ (x .1) .0))
+unhex-bytes (a ∷ b ∷ s) h (suc i) = unhex-bytes s (both (ltb (hexValue b) 16) _ (both (ltb (hexValue a) 16) _ h .1) .1) i
 
 -- a text in hex that has not ended has two digits there
 pub record TwoDigits (s : List ℕ) (i : ℕ) : Type 0 where

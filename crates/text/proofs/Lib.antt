@@ -7,3 +7,4 @@ pub mod DecimalPrinted
 pub mod Back
 pub mod IdSteps
 pub mod Written
+pub mod Joined

@@ -7,10 +7,12 @@ use Rattle.case_text.specs.declared.Asked.{Asked}
 use Rattle.case_text.specs.Texts.{readText}
 use Rattle.case_text.specs.Fields.{field, Says, opOf}
 use Rattle.case_text.specs.Asking.{asking, Asks}
+use Rattle.case_text.proofs.Puts.{puts-first}
 use Rattle.case_text.proofs.Steps.{read-inside, value-inside}
 use Rattle.case_text.proofs.Ways.{Left, says-not, printed, record-left, left-against, left-read, left-value, left-refused}
-use Rattle.case_areas.specs.Lines.{areaText, areaField, againstLine, areaLine}
-use Rattle.case_areas.proofs.Falls.{area-falls}
+use Rattle.area_text.specs.AreaText.{areaText, areaField}
+use Rattle.area_text.proofs.Falls.{area-falls}
+use Rattle.case_areas.specs.Lines.{againstLine, areaLine}
 use Rattle.case_areas.proofs.area.Statement.{statement}
 use Rattle.case_areas.proofs.area.Tie as tie
 
@@ -34,10 +36,10 @@ area-spec =
     (λ c κs. search needs) (λ c κs. search needs) (λ c κs. search needs) (λ c. search needs)
     (λ c κs. let x : tie.After-asked3 = search in let q : tie.After-asked = search in value-inside (q .asked .ensures) (x .asked3 .given .1))
     (λ c. search needs) (λ c κs. search needs) (λ c. search needs)
-    (λ c. let p : tie.After-print = search in let d : tie.After-relative-decode = search in let x : tie.After-asked2 = search in let q : tie.After-asked = search in
+    (λ c. let p : tie.After-print-area = search in let d : tie.After-relative-decode = search in let x : tie.After-asked2 = search in let q : tie.After-asked = search in
     let e : tie.Else1 = search in let r : tie.After-read-area = search in let s : tie.Start = search in
     left-read (left (now (s .args .line)) (r .read-area .ensures .0) (e .if1 .left) (q .asked .ensures)) (x .asked2 .given .1)
-    (printed areaText (d .relative-decode .result .answer) (areaWith (d .relative-decode .result .head) (pathIn _)) (d .relative-decode .ensures .answer) (p .print .ensures) search))
+    (printed areaText (d .relative-decode .result .answer) (areaWith (d .relative-decode .result .head) (pathIn _)) (d .relative-decode .ensures .answer) (puts-first (p .print-area .ensures)) search))
     (λ c. search needs)
     (λ c. let x : tie.After-asked3 = search in let q : tie.After-asked = search in let e : tie.Else1 = search in let r : tie.After-read-area = search in let s : tie.Start = search in
     left-value (left (now (s .args .line)) (r .read-area .ensures .0) (e .if1 .left) (q .asked .ensures)) (x .asked3 .given .1) search)

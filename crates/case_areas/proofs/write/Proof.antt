@@ -3,7 +3,7 @@ use Rattle.area_area.specs.Records.{againstArea}
 use Rattle.case_text.specs.inside.Values.{valueText}
 use Rattle.case_text.proofs.Steps.{lent-inside}
 use Rattle.case_text.proofs.Ways.{says-not, value-written, value-measured}
-use Rattle.case_areas.specs.Lines.{areaField, fieldArea}
+use Rattle.area_text.specs.AreaText.{areaField, fieldArea}
 use Rattle.case_areas.proofs.write.Statement.{statement}
 use Rattle.case_areas.proofs.write.Tie as tie
 

@@ -12,7 +12,7 @@ use Rattle.case_text.specs.Asking.{asking, Asks}
 use Rattle.case_text.proofs.Puts.{puts-first}
 use Rattle.case_text.proofs.Steps.{field-says, read-inside, value-inside}
 use Rattle.case_text.proofs.Ways.{Left, says-not, says-so, printed, record-left, left-against, left-read, left-value, left-refused}
-use Rattle.case_areas.specs.Lines.{areaField}
+use Rattle.area_text.specs.AreaText.{areaField}
 use Rattle.case_entry_text.specs.Fields.{entryText, entryField}
 use Rattle.case_entry_text.proofs.Falls.{entry-falls}
 use Rattle.case_entries.specs.Lines.{againstLine, onNamespace, entryLine}

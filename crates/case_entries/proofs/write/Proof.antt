@@ -1,6 +1,6 @@
 use Rattle.codec.proofs.Prelude.{sym, ⊎-elim, length-take-le, needs}
 use Rattle.entry_area.specs.Records.{againstNamespaceArea}
-use Rattle.case_areas.specs.Lines.{fieldArea}
+use Rattle.area_text.specs.AreaText.{fieldArea}
 use Rattle.case_entry_text.specs.Fields.{entryField}
 use Rattle.case_text.specs.inside.Values.{valueText}
 use Rattle.case_text.proofs.Steps.{lent-inside}

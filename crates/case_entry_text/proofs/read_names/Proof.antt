@@ -20,12 +20,12 @@ module _ (i : ℕ) (line : List ℕ) {s1 : List ℕ} {x1 : IdField} (read1 : x1 
     no-subspace : (a : Names) → not (x2 .ok) ≡ true → Says (namesField i line) false a
     no-subspace a e = record { said = λ k. rw (← part1, ← read1, not-false (x1 .ok) ok1, ← part2, ← read2, not-true (x2 .ok) e) }
 
-    module _ (ok2 : not (x2 .ok) ≡ false) {s3 : List ℕ} {x3 : PathField} (read3 : Finds x3 (readPathText s3)) (part3 : s3 ≡ field (i + 2) line) where
+    module _ (ok2 : not (x2 .ok) ≡ false) {x3 : PathField} (read3 : Finds x3 (readPathText (field (i + 2) line))) where
       no-path : (a : Names) → x3 .found ≡ found.Refused → Says (namesField i line) false a
-      no-path a e = record { said = λ k. rw (← part1, ← read1, not-false (x1 .ok) ok1, ← part2, ← read2, not-false (x2 .ok) ok2, ← part3, ← (read3 .answer), e) }
+      no-path a e = record { said = λ k. rw (← part1, ← read1, not-false (x1 .ok) ok1, ← part2, ← read2, not-false (x2 .ok) ok2, ← (read3 .answer), e) }
 
       all-read : (ok3 : x3 .found ≡ found.Read) → Says (namesField i line) true (record { «namespace_id» = x1 .id; «subspace_id» = x2 .id; path = pathIn (x3 .path .flat) })
-      all-read ok3 = record { said = λ k. rw (← part1, ← read1, not-false (x1 .ok) ok1, ← part2, ← read2, not-false (x2 .ok) ok2, ← part3, ← (read3 .answer), ok3) }
+      all-read ok3 = record { said = λ k. rw (← part1, ← read1, not-false (x1 .ok) ok1, ← part2, ← read2, not-false (x2 .ok) ok2, ← (read3 .answer), ok3) }
 
 pub read-names-spec : {M : Type 1} → statement M
 unfolding noNames
@@ -37,8 +37,8 @@ read-names-spec =
     (λ c. search needs) (λ c κs. search needs) (λ c κs. search needs) (λ c κs. search needs)
     (λ c. let b : tie.After-read-id2 = search in let a : tie.After-read-id = search in
     rw (c .no-names2 .ensures) (no-subspace _ _ (a .read-id .ensures) (search) (search) (b .read-id2 .ensures) (search) _ (search)))
-    (λ c. search needs) (λ c κs. search needs) (λ c κs. search needs) (λ c. search needs) (λ c. search needs) (λ c κs. search needs)
-    (λ c. let d : tie.After-read-path = search in let b : tie.After-read-id2 = search in let a : tie.After-read-id = search in
-    rw (c .no-names3 .ensures) (no-path _ _ (a .read-id .ensures) (search) (search) (b .read-id2 .ensures) (search) (search) (d .read-path .ensures) (search) _ (search)))
-    (λ c. let d : tie.After-read-path = search in let b : tie.After-read-id2 = search in let a : tie.After-read-id = search in
-    all-read _ _ (a .read-id .ensures) (search) (search) (b .read-id2 .ensures) (search) (search) (d .read-path .ensures) (search) (search)))
+    (λ c. search needs) (λ c κs. search needs) (λ c. search needs) (λ c. search needs) (λ c κs. search needs)
+    (λ c. let d : tie.After-path = search in let b : tie.After-read-id2 = search in let a : tie.After-read-id = search in
+    rw (c .no-names3 .ensures) (no-path _ _ (a .read-id .ensures) (search) (search) (b .read-id2 .ensures) (search) (search) (d .path .ensures) _ (search)))
+    (λ c. let d : tie.After-path = search in let b : tie.After-read-id2 = search in let a : tie.After-read-id = search in
+    all-read _ _ (a .read-id .ensures) (search) (search) (b .read-id2 .ensures) (search) (search) (d .path .ensures) (search)))

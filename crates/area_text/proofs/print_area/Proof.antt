@@ -4,13 +4,13 @@ use Rattle.text.proofs.DecimalPrinted.{decimal-few}
 use Rattle.path.specs.Flat.{pathIn}
 use Rattle.path_text.specs.PathText.{pathTextOf}
 use Rattle.path_text.proofs.Back.{path-text-laws}
 use Rattle.area_text.specs.AreaText.{subspaceText, endText}
 use Rattle.grouping.proofs.Typed.{typed-id}
 use Rattle.case_text.specs.Texts.{afterTab}
-use Rattle.case_text.proofs.Puts.{puts-tab, puts-fits, puts-first}
+use Rattle.case_text.proofs.Puts.{puts-tab, puts-fits}
 use Rattle.area_text.proofs.Short.{subspace-few, end-few}
-use Rattle.case_areas.proofs.print.Statement.{statement}
-use Rattle.case_areas.proofs.print.Tie as tie
+use Rattle.area_text.proofs.print_area.Statement.{statement}
+use Rattle.area_text.proofs.print_area.Tie as tie
 
 returns : tie.Need-returns
 returns c =
@@ -31,17 +31,16 @@ returns c =
     let ef = end-few (a .times .end) in
     let sp = length-append s (afterTab p) in
     let spd = length-append (s ++ afterTab p) (afterTab d) in
-    puts-first
-    (puts-tab
+    puts-tab
     (puts-tab
     (puts-tab
     (puts-fits s (omega arith) (after-put-subspace .put-subspace .ensures))
     p (omega arith) (after-put-bytes .put-bytes .ensures) (after-put-path .put-path .ensures))
     d (omega arith) (after-put-bytes2 .put-bytes2 .ensures) (after-put-decimal .put-decimal .ensures))
-    e (omega arith) (c .before .before .put-bytes3 .ensures) (c .put-end .ensures))
+    e (omega arith) (c .before .before .put-bytes3 .ensures) (c .put-end .ensures)
 
-pub print-spec : {M : Type 1} → statement M
-print-spec =
+pub print-area-spec : {M : Type 1} → statement M
+print-area-spec =
     tie.close
     (tie.spec
     (λ c κs. search needs) (λ c. search needs) (λ c κs. search needs) (λ c κs. search needs) (λ c. search needs) (λ c κs. search needs)

@@ -1,9 +1,8 @@
 -- The fields of an area, after which everything is answered 6.
 use Rattle.codec.proofs.Prelude.{List, ℕ, _+_}
-use Rattle.area_text.specs.AreaText.{readSubspaceText, readEndText}
+use Rattle.area_text.specs.AreaText.{readSubspaceText, readEndText, areaField}
 use Rattle.case_text.specs.Fields.{field}
 use Rattle.case_text.proofs.Falls.{Falls, field-falls, path-falls, decimal-falls}
-use Rattle.case_areas.specs.Lines.{areaField}
 
 pub area-falls : (i : ℕ) (line : List ℕ) → Falls (areaField i line)
 area-falls i line k h =

@@ -1,7 +1,7 @@
-use Rattle.case_areas.specs.Lines.{noArea}
+use Rattle.area_text.specs.AreaText.{noArea}
 use Rattle.codec.proofs.Prelude.{needs}
-use Rattle.case_areas.proofs.no_area.Statement.{statement}
-use Rattle.case_areas.proofs.no_area.Tie as tie
+use Rattle.area_text.proofs.no_area.Statement.{statement}
+use Rattle.area_text.proofs.no_area.Tie as tie
 
 returns : tie.Need-returns
 unfolding noArea
