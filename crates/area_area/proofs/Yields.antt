@@ -5,9 +5,9 @@ use Rattle.codec.specs.Reader.{mapped, onFormed}
 use Rattle.codec.specs.Reads.{Yields}
 use Rattle.codec.proofs.Tests.{and-right}
 use Rattle.codec.proofs.Yields.{yields-as, then-yields, guard-yields, mapped-yields}
-use Rattle.path.specs.Record.{pathFrom, wellFormed, TypedPath}
+use Rattle.path.specs.Record.{wellFormed, TypedPath}
 use Rattle.path.specs.Limits.{PathOk}
-use Rattle.path.proofs.Record.{well-formed, formed-well, apart-path, made-path}
+use Rattle.path.proofs.Record.{well-formed, apart-path, well-made}
 use Rattle.path_relative.proofs.Yields.{extension-yields}
 use Rattle.grouping.specs.Record.{Area, areaOf, areaFrom, wellFormedSubspace, wellFormedArea}
 use Rattle.grouping.specs.Area.{AreaValue}
@@ -30,7 +30,7 @@ PathWell a = TypedPath (a .path) × (wellFormed (a .path) ≡ true)
 
 value-well : (v : AreaValue) → PathOk (v .path) → PathWell (areaFrom v)
 unfolding areaFrom
-value-well v ok = let m = made-path (v .path) ok in (m .typed, formed-well (pathFrom (v .path)) (m .well))
+value-well v ok = well-made (v .path) ok
 
 pub area-yields : (r : Area) → TypedPath (r .path) → (canonic : Bool) → Yields (readAgainstArea canonic r) PathWell
 unfolding readAgainstArea wellFormedArea

@@ -1,4 +1,4 @@
--- How long the text of an area's fields is.
+-- How long the text of an area's fields is, and that a subspace's has no tab.
 use Rattle.codec.proofs.Prelude.{_≡_, refl, Bool, true, false, cond, _≤_, arith, length}
 use Rattle.grouping.specs.declared.RangeEnd.{RangeEnd}
 use Rattle.grouping.specs.declared.RangeEnd.the-variants.{Closed, Open}

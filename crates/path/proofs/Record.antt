@@ -141,3 +141,7 @@ made-path cs h =
         bytes = rw (tl, sum-lengths cs, db) (all-zeros (maxPathLength - totalOf cs));
       };
     }
+
+-- what every reader of a path gives
+pub well-made : (cs : List (List ℕ)) → PathOk cs → TypedPath (pathFrom cs) × (wellFormed (pathFrom cs) ≡ true)
+well-made cs ok = let m = made-path cs ok in (m .typed, formed-well (pathFrom cs) (m .well))

@@ -8,7 +8,7 @@ use Rattle.path.specs.Record.{Path, componentsOf, pathFrom, wellFormed, TypedPa
 use Rattle.path.specs.Limits.{totalOf, limits, Component, PathOk}
 use Rattle.path.specs.Prefix.{shared}
 use Rattle.path.proofs.Limits.{total-append, all-append, all-take, limits-total, limits-count}
-use Rattle.path.proofs.Record.{well-formed, formed-well, apart-path, made-path}
+use Rattle.path.proofs.Record.{well-formed, apart-path, well-made}
 use Rattle.path_suffix.proofs.Yields.{suffix-yields}
 use Rattle.path_relative.specs.Against.{joinOk, readAgainst}
 use Rattle.path_relative.specs.Extension.{readExtension}
@@ -41,9 +41,6 @@ extension-yields r wf canonic =
     record { total = limits-total (totalOf p) (length p) (y .0); count = limits-count (totalOf p) (length p) (y .0); all = y .1 })
 
 module _ (r : Path) (t : TypedPath r) (w : wellFormed r ≡ true) (canonic : Bool) where
-  well-of : (cs : List (List ℕ)) → PathOk cs → TypedPath (pathFrom cs) × (wellFormed (pathFrom cs) ≡ true)
-  well-of cs ok = let m = made-path cs ok in (m .typed, formed-well (pathFrom cs) (m .well))
-
   pub against-path-yields : Yields (readAgainstPath canonic r) (λ p. TypedPath p × (wellFormed p ≡ true))
   unfolding readAgainstPath
-  against-path-yields = rw w (mapped-yields pathFrom _ _ (yields-as _ _ _ (against-yields (componentsOf r) (apart-path r t (well-formed r w) .ok) canonic) well-of))
+  against-path-yields = rw w (mapped-yields pathFrom _ _ (yields-as _ _ _ (against-yields (componentsOf r) (apart-path r t (well-formed r w) .ok) canonic) well-made))

@@ -1,4 +1,4 @@
--- There and back: what was printed is read as it was.
+-- There and back: what was printed is read as it was; what is read is well formed.
 use Rattle.codec.proofs.Prelude.{_≡_, refl, sym, ap, _∙_, _↔_, List, [], _∷_, _++_, map, append-nil, Bool, true, false, cond, ℕ, _/_, _≤_, arith, length}
 use Rattle.codec.specs.Answers.{said}
 use Rattle.codec.specs.Writings.{All}
@@ -14,7 +14,7 @@ use Rattle.path.specs.Record.{Path, componentsOf, pathFrom, wellFormed, TypedPa
 use Rattle.path.specs.Limits.{pathOk, Component, PathOk, TypedComponents}
 use Rattle.path.specs.Flat.{pathFlat, pathIn}
 use Rattle.path.proofs.Limits.{path-ok, ok-path}
-use Rattle.path.proofs.Record.{apart-path, well-formed, formed-well, made-path}
+use Rattle.path.proofs.Record.{apart-path, well-formed, well-made}
 use Rattle.path.proofs.Loads.{flat-back}
 use Rattle.path.proofs.Components.{parts-formed, count-is, total-small}
 use Rattle.path_text.specs.PathText.{maxPathText, tailText, pathText, pathTextOf, readField, refusedField, allHex, fieldOf, readTexts, readComponentsText, readPathText}
@@ -81,10 +81,9 @@ module _ (p : HeldPath) where
 
   field-well : (cs : List (List ℕ)) → TypedComponents cs → pathOk cs ≡ true → readField (pathFrom cs) ≡ said p → Well
   field-well cs t ok h =
-      let m = made-path cs (path-ok cs t ok) in
-      let w = formed-well (pathFrom cs) (m .well) in
+      let w = well-made cs (path-ok cs t ok) in
       let flat : pathFlat (pathFrom cs) ≡ p .flat = cc in
-      rw (← flat, flat-back (pathFrom cs) (m .typed) w) (m .typed, w)
+      rw (← flat, flat-back (pathFrom cs) (w .0) (w .1)) w
 
 read-well : (s : List ℕ) (p : HeldPath) → readPathText s ≡ said p → Well p
 unfolding readPathText readComponentsText readTexts fieldOf pathOk
