@@ -1,6 +1,6 @@
 -- What proofs take of the kit: its names in one module, so that a file of proofs/ imports them in one line.
 pub use Prim.Native.Nat.{◌%◌, ◌*◌, ◌+◌, ◌-◌, ◌/◌, ◌<◌, ◌^◌, ◌≤◌, min, suc, zero, ℕ}
-pub use mathlib.Core.Bool.{Bool, beq as Bool·beq, ◌&&◌, ◌||◌, and_false, and-true, cond, false, false≢true, not, true, true≢false}
+pub use mathlib.Core.Bool.{Bool, beq as Bool·beq, ◌&&◌, ◌||◌, and-false, and-true, cond, false, false≢true, not, true, true≢false}
 pub use mathlib.Core.List.{List, [], ◌++◌, ◌∷◌, append_assoc, append-nil, flatten, map, map-append}
 pub use mathlib.Core.Logic.{◌↔◌, ◌⊎◌, inl, inr, ⊎_elim}
 pub use mathlib.Core.Option.{Option, none, some}

@@ -1,6 +1,8 @@
 // What all layers share: the answers of readers and writers, whose numbers stand in specs/Answers.antt. Definitions and laws; byte_codec has
 // functions on bytes.
 
+#![tactic(auto)]
+
 // What a reader says of a record: how many bytes it took, or why it gives no value.
 #[derive(Drop)]
 pub enum Decoded {

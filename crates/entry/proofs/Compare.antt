@@ -1,5 +1,5 @@
 -- What comparing an entry with a namespace and an area says, test by test.
-use Rattle.codec.proofs.Prelude.{◌≡◌, refl, sym, List, Bool, true, false, ◌&&◌, and_false, and-true, some, ℕ}
+use Rattle.codec.proofs.Prelude.{◌≡◌, refl, sym, List, Bool, true, false, ◌&&◌, and-false, and-true, some, ℕ}
 use Rattle.codec.specs.Bytes.{same_bytes}
 use Rattle.path.specs.Record.{Path, components_of, sized, well_formed}
 use Rattle.path.specs.Prefix.{is_prefix}
@@ -22,8 +22,8 @@ inside_by n h f q p = go (same_bytes n f.namespace_id) (includes_subspace (subsp
   where
     go : (a b c : Bool) → (a && (b && (c && includes_time h.times f.timestamp))) ≡ (c && (a && (b && includes_time h.times f.timestamp)))
     go true true c = refl
-    go true false c = sym (and_false c)
-    go false b c = sym (and_false c)
+    go true false c = sym (and-false c)
+    go false b c = sym (and-false c)
 
 module _ (n : List ℕ) (h : AreaHead) (f : EntryFields) (q p : Path) where
   pub malformed_area : well_formed_area (area_with h q) ≡ false → says_entry_inside n (area_with h q) (entry_with f p) ≡ unsaid 5
@@ -32,12 +32,12 @@ module _ (n : List ℕ) (h : AreaHead) (f : EntryFields) (q p : Path) where
 
   pub malformed_entry : well_formed p ≡ false → says_entry_inside n (area_with h q) (entry_with f p) ≡ unsaid 5
   unfolding says_entry_inside well_formed_entry
-  malformed_entry e = rw (e, and_false (well_formed_area (area_with h q)))
+  malformed_entry e = rw (e, and-false (well_formed_area (area_with h q)))
 
   module _ (w : well_formed_area (area_with h q) ≡ true) (v : well_formed p ≡ true) where
     pub fields_outside : fields_lie_inside n h f ≡ false → says_entry_inside n (area_with h q) (entry_with f p) ≡ said false
     unfolding says_entry_inside well_formed_entry
-    fields_outside e = rw (w, v, inside_by n h f q p, e, and_false (is_prefix (components_of q) (components_of p)))
+    fields_outside e = rw (w, v, inside_by n h f q p, e, and-false (is_prefix (components_of q) (components_of p)))
 
     -- comparing the paths
     pub prefix_decides : fields_lie_inside n h f ≡ true → (x : Said Bool) → x ≡ said_if (sized q && sized p) (is_prefix (components_of q) (components_of p)) → x ≡ says_entry_inside n (area_with h q) (entry_with f p)

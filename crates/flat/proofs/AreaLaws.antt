@@ -1,5 +1,5 @@
 -- Areas as flat bytes: there and back.
-use Rattle.codec.proofs.Prelude.{◌≡◌, refl, sym, ap, ◌∙◌, List, [], ◌∷◌, ◌++◌, Bool, true, false, true≢false, ◌&&◌, and_false, ℕ, suc, ◌≤◌, arith, leb, length, take, drop, get_or, length-append, length-drop, take_at, drop_at, leb-true}
+use Rattle.codec.proofs.Prelude.{◌≡◌, refl, sym, ap, ◌∙◌, List, [], ◌∷◌, ◌++◌, Bool, true, false, true≢false, ◌&&◌, and-false, ℕ, suc, ◌≤◌, arith, leb, length, take, drop, get_or, length-append, length-drop, take_at, drop_at, leb-true}
 use Rattle.codec.specs.Answers.{AllBytes}
 use Rattle.codec.proofs.Bytes.{AllBytes-drop}
 use Rattle.codec.proofs.Tests.{and_left, and_right}
@@ -86,5 +86,5 @@ areas_unmarked s t e = go (area_marked s) (area_marked t) refl refl e
   where
     go : (a b : Bool) → area_marked s ≡ a → area_marked t ≡ b → (a && b) ≡ false → (well_formed_area (area_in s) && well_formed_area (area_in t)) ≡ false
     go true true f g e = absurd (true≢false e)
-    go true false f g e = rw (area_unmarked t g) (and_false (well_formed_area (area_in s)))
+    go true false f g e = rw (area_unmarked t g) (and-false (well_formed_area (area_in s)))
     go false b f g e = rw (area_unmarked s f)

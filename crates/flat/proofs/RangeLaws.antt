@@ -1,5 +1,5 @@
 -- 3d ranges as flat bytes: there and back.
-use Rattle.codec.proofs.Prelude.{◌≡◌, refl, sym, ◌∙◌, List, ◌∷◌, ◌++◌, append_assoc, Bool, true, false, true≢false, ◌&&◌, and_false, ℕ, suc, ◌+◌, ◌≤◌, ◌<◌, arith, leb, length, take, drop, get_or, length-append, length-drop, take_at, drop_at, drop-drop, take-add, drop-cons, get_or-drop, leb-true}
+use Rattle.codec.proofs.Prelude.{◌≡◌, refl, sym, ◌∙◌, List, ◌∷◌, ◌++◌, append_assoc, Bool, true, false, true≢false, ◌&&◌, and-false, ℕ, suc, ◌+◌, ◌≤◌, ◌<◌, arith, leb, length, take, drop, get_or, length-append, length-drop, take_at, drop_at, drop-drop, take-add, drop-cons, get_or-drop, leb-true}
 use Rattle.codec.specs.Answers.{AllBytes}
 use Rattle.codec.specs.Header.{bit}
 use Rattle.codec.proofs.Bytes.{AllBytes-drop}
@@ -173,5 +173,5 @@ ranges_unmarked s t e = go (range_marked s) (range_marked t) refl refl e
   where
     go : (a b : Bool) → range_marked s ≡ a → range_marked t ≡ b → (a && b) ≡ false → (well_formed_range3d (range_in s) && well_formed_range3d (range_in t)) ≡ false
     go true true f g e = absurd (true≢false e)
-    go true false f g e = rw (range_unmarked t g) (and_false (well_formed_range3d (range_in s)))
+    go true false f g e = rw (range_unmarked t g) (and-false (well_formed_range3d (range_in s)))
     go false b f g e = rw (range_unmarked s f)

@@ -1,5 +1,5 @@
 -- The invariant: `clear` says whether the first i are zero.
-use Rattle.codec.proofs.Prelude.{◌≤◌, ◌-◌, ◌≡◌, ◌∙◌, sym, ◌&&◌, and-true, and_false, ⊎_elim, now, arith, lt-leb, le-leb, length, drop}
+use Rattle.codec.proofs.Prelude.{◌≤◌, ◌-◌, ◌≡◌, ◌∙◌, sym, ◌&&◌, and-true, and-false, ⊎_elim, now, arith, lt-leb, le-leb, length, drop}
 use Rattle.path.specs.Record.{all_at_most}
 use Rattle.path.proofs.Lists.{at_most_next, at_most_end}
 use Rattle.path.proofs.all_zero.Statement.{statement}
@@ -23,7 +23,7 @@ loop-again c =
     let e = at_most_next 0 (now a.s) l.i (omega arith) in (
       omega arith,
       l.inv.1 ∙ ⊎_elim
-          (λ w. rw (e, lt-leb _ _ w.0.taken, w.1, and_false))
+          (λ w. rw (e, lt-leb _ _ w.0.taken, w.1, and-false))
           (λ w. rw (e, le-leb _ _ w.0.left, w.1))
           c.if1.branch,
     )

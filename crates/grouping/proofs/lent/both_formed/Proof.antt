@@ -1,4 +1,4 @@
-use Rattle.codec.proofs.Prelude.{sym, ◌&&◌, and_false, now, not-true, not-false, needs}
+use Rattle.codec.proofs.Prelude.{sym, ◌&&◌, and-false, now, not-true, not-false, needs}
 use Rattle.path.specs.Record.{well_formed}
 use Rattle.path.specs.Flat.{path_in}
 use Rattle.grouping.specs.Record.{well_formed_subspace, well_formed_area}
@@ -14,7 +14,7 @@ unfolding well_formed_area
 returns-2 c =
     let s : tie.Start = search in
     rw (← c.before.well-formed2.ensures, not-true c.before.well-formed2.result c.if2.taken)
-    (sym (and_false (well_formed_subspace s.args.area.subspace && well_formed (path_in (now s.args.path)))))
+    (sym (and-false (well_formed_subspace s.args.area.subspace && well_formed (path_in (now s.args.path)))))
 
 returns-3 : tie.Need-returns-3
 unfolding well_formed_area

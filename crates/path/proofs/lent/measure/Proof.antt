@@ -1,5 +1,5 @@
 -- The invariant: the lengths from i on that are left, with the total so far, make the sum, and `short` says whether those before are short.
-use Rattle.codec.proofs.Prelude.{◌≡◌, sym, ◌∙◌, ◌+◌, ◌-◌, ◌*◌, ◌≤◌, ◌&&◌, and-true, and_false, ⊎_elim, sub-zero, now, arith, lt-leb, le-leb, take, drop}
+use Rattle.codec.proofs.Prelude.{◌≡◌, sym, ◌∙◌, ◌+◌, ◌-◌, ◌*◌, ◌≤◌, ◌&&◌, and-true, and-false, ⊎_elim, sub-zero, now, arith, lt-leb, le-leb, take, drop}
 use Rattle.path.specs.Limits.{max_component_length}
 use Rattle.path.specs.Record.{sum_of, all_at_most}
 use Rattle.path.specs.Flat.{path_in}
@@ -52,7 +52,7 @@ loop-again c =
       omega (arith, l.inv.1, len.1),
       omega (arith, span_next p l.i n (omega (arith, s.pre.1)) (omega arith), len.0, l.inv.2),
       l.inv.3 ∙ ⊎_elim
-          (λ w. rw (e, ← len.0, lt-leb _ _ w.0.taken, w.1, and_false))
+          (λ w. rw (e, ← len.0, lt-leb _ _ w.0.taken, w.1, and-false))
           (λ w. rw (e, ← len.0, le-leb _ _ w.0.left, w.1))
           c.if1.branch,
     )

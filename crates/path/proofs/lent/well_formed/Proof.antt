@@ -1,4 +1,4 @@
-use Rattle.codec.proofs.Prelude.{◌≡◌, sym, ◌∙◌, ◌&&◌, and_false, now, arith, not-true, not-false, leb, lt-leb, le-leb, drop, needs}
+use Rattle.codec.proofs.Prelude.{◌≡◌, sym, ◌∙◌, ◌&&◌, and-false, now, arith, not-true, not-false, leb, lt-leb, le-leb, drop, needs}
 use Rattle.path.specs.Limits.{max_component_count, max_path_length}
 use Rattle.path.specs.Record.{all_at_most, well_formed}
 use Rattle.path.specs.Flat.{path_in}
@@ -43,7 +43,7 @@ returns-3 c =
 returns-4 : tie.Need-returns-4
 returns-4 c =
     let measured : tie.After-measure = search in
-    sym (left measured ∙ rw (lt-leb measured.measure.result.total max_path_length c.if4.true) (and_false measured.measure.result.short))
+    sym (left measured ∙ rw (lt-leb measured.measure.result.total max_path_length c.if4.true) (and-false measured.measure.result.short))
 
 -- past the tests of the sizes
 zeros : (c : tie.Else4) → let m = c.before.before.before.before in let p = path_in (now m.before.before.before.before.before.before.args.path) in
