@@ -1,10 +1,13 @@
 // Areas against an area: docs/FORMAT.md, "Areas". The definitions and their laws; the
 // crates area_area_decode and area_area_encode have the functions.
+
+#![tactic(auto)]
+
 use codec::Decoded;
 use grouping::AreaSubspace;
 
 // A subspace beside the answer.
-#[derive(Drop)]
+#[derive(Clone, Copy)]
 pub struct DecodedSubspace {
     pub answer: Decoded,
     pub subspace: AreaSubspace,

@@ -1,4 +1,7 @@
 // Reading areas against an area: docs/FORMAT.md, "Areas". A port of relative_encodings/area_area.rs.
+
+#![tactic(auto)]
+
 ghost use Rattle.std.specs.Prelude.{◌≡◌, [], true, ◌+◌, ◌<◌, ◌^◌, length, drop};
 ghost use Rattle.codec.specs.Reader.{shift, mapped};
 ghost use Rattle.path.specs.Record.{path_from};

@@ -1,4 +1,7 @@
 // Writing areas against an area: docs/FORMAT.md, "Areas". A port of relative_encodings/area_area.rs.
+
+#![tactic(auto)]
+
 ghost use Rattle.std.specs.Prelude.{◌≡◌};
 ghost use Rattle.codec.specs.Answers.{outcome_of};
 ghost use Rattle.codec.specs.Format.{length_answer, WritesInto};

@@ -1,4 +1,7 @@
 // Answers the lines of standard input: docs/LISTING.md.
+
+#![tactic(auto)]
+
 use line_program::Program;
 
 fn main() {

@@ -1,4 +1,7 @@
 // The fields of an area in a line, read and printed: docs/CASES.md.
+
+#![tactic(auto)]
+
 ghost use Rattle.std.specs.Prelude.{◌≡◌, cond};
 ghost use Rattle.path.specs.Flat.{path_in};
 ghost use Rattle.grouping.specs.Record.{area_with};
@@ -14,13 +17,13 @@ use path::Path;
 use path_text::Found;
 
 // A subspace that a field says; where the field is not in its form, one that no field says.
-#[derive(Drop)]
+#[derive(Clone, Copy)]
 pub struct SubspaceField {
     pub ok: bool,
     pub subspace: AreaSubspace,
 }
 
-#[derive(Drop)]
+#[derive(Clone, Copy)]
 pub struct EndField {
     pub ok: bool,
     pub end: RangeEnd,

@@ -1,4 +1,7 @@
 // The times of an area against those of another, and the header byte: docs/FORMAT.md, "Areas". Part of a port of relative_encodings/area_area.rs.
+
+#![tactic(auto)]
+
 ghost use Rattle.std.specs.Prelude.{◌≡◌, ◌≤◌, length, drop};
 ghost use Rattle.codec.specs.Answers.{outcome_of, Gives};
 ghost use Rattle.codec.specs.Format.{allowed, put_answer, put_buffer};
@@ -14,7 +17,7 @@ use grouping::{DecodedEnd, DecodedTimes, RangeEnd, TimeRange};
 pub mod area_header;
 
 // What the header byte says.
-#[derive(Drop)]
+#[derive(Clone, Copy)]
 pub struct AreaHeader {
     pub id_written: bool,
     pub end_open: bool,

@@ -1,4 +1,7 @@
 // Bytes read and written as they are: what the codecs of all layers call.
+
+#![tactic(auto)]
+
 ghost use Rattle.std.specs.Prelude.{◌≡◌, ◌≤◌, length, drop};
 ghost use Rattle.codec.specs.Answers.{outcome_of, Gives};
 ghost use Rattle.codec.specs.Bytes.{same_bytes, zero_id};

@@ -31,7 +31,7 @@ encodes_of f er ev e t = rw (er, ev) at (encodes {f = f _} {v = _} e t)
 
 -- ---- reading
 module _ {A B : Type 0} (store : A → B) (a : A) {lent : B} where
-  pub stores_refused : (d : Decoded) → OneOf (1 ∷ 2 ∷ 3 ∷ []) (declared.tag_of Rattle.codec.specs.contracts.Decoded.the_type d) → {r : ℕ}
+  pub stores_refused : (d : Decoded) → ((n : ℕ) → d ≡ decoded.Consumed n → ⊥) → {r : ℕ}
       → r ≡ read_code (answer_of {A = ℕ} d 0) → Stores store (answer_of d a) lent lent r 0
   stores_refused d h e = let v = no_value d h in record { code = e ∙ rw (v.beside a, v.beside {A = ℕ} 0); count = rw (v.beside a); value = rw (v.beside a) }
 

@@ -1,4 +1,7 @@
 // Answers as a caller in another language gets them: 0 or a refusal's number, and a count, which is 0 beside a refusal.
+
+#![tactic(auto)]
+
 ghost use Rattle.std.specs.Prelude.{◌≡◌, ℕ, length};
 ghost use Rattle.codec.specs.Answers.{outcome_of, answer_of};
 ghost use Rattle.path.specs.Flat.{path_size, path_flat, path_in};

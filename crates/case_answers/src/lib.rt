@@ -1,4 +1,7 @@
 // Answers to case lines: docs/CASES.md.
+
+#![tactic(auto)]
+
 ghost use Rattle.std.specs.Prelude.{◌≡◌};
 ghost use Rattle.case_text.specs.Limits.{max_answer};
 ghost use Rattle.case_text.specs.Answers.{PutsWithin};
@@ -6,7 +9,7 @@ ghost use Rattle.case_answers.specs.Lines.{record_kind, kind_of, answer_to};
 
 use case_paths::Encoding;
 
-#[derive(Drop)]
+#[derive(Clone, Copy)]
 enum Kind {
     Number,
     Standalone,

@@ -1,4 +1,7 @@
 // Case lines of areas against an area: docs/CASES.md. A line is answered where MAX_ANSWER bytes are free; elsewhere nothing changes.
+
+#![tactic(auto)]
+
 ghost use Rattle.std.specs.Prelude.{length};
 ghost use Rattle.area_area.specs.Records.{against_area};
 ghost use Rattle.case_text.specs.Limits.{max_answer};

@@ -1,4 +1,7 @@
 // Case lines of entries against an entry: docs/CASES.md. A line is answered where MAX_ANSWER bytes are free; elsewhere nothing changes.
+
+#![tactic(auto)]
+
 ghost use Rattle.std.specs.Prelude.{length};
 ghost use Rattle.entry_entry.specs.Records.{against_entry};
 ghost use Rattle.case_text.specs.Limits.{max_answer};

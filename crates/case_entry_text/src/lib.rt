@@ -1,4 +1,7 @@
 // The fields of an entry in a case line: docs/CASES.md.
+
+#![tactic(auto)]
+
 ghost use Rattle.std.specs.Prelude.{◌≡◌, cond, length};
 ghost use Rattle.path.specs.Flat.{path_in};
 ghost use Rattle.entry.specs.Record.{entry_with};

@@ -1,4 +1,7 @@
 // Answers the case lines of standard input: docs/CASES.md.
+
+#![tactic(auto)]
+
 use line_program::Program;
 
 fn main() {

@@ -1,4 +1,7 @@
 // Case lines of compact numbers: docs/CASES.md. A line is answered where MAX_ANSWER bytes are free; elsewhere nothing changes.
+
+#![tactic(auto)]
+
 ghost use Rattle.std.specs.Prelude.{◌≡◌, List, [], ◌∷◌, ℕ, ◌≤◌, ◌^◌, length};
 ghost use Rattle.compact_u64.specs.Number.{standalone};
 ghost use Rattle.compact_u64.specs.Answers.{bits};
@@ -17,7 +20,7 @@ use compact_u64::TagWidth;
 use decimal::Decimal;
 
 // The width of a number's tag.
-#[derive(Drop)]
+#[derive(Clone, Copy)]
 enum WidthField {
     Width(TagWidth),
     Refused,

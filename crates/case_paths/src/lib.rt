@@ -1,4 +1,7 @@
 // Case lines of paths: docs/CASES.md. A line is answered where MAX_ANSWER bytes are free; elsewhere nothing changes.
+
+#![tactic(auto)]
+
 ghost use Rattle.std.specs.Prelude.{◌≡◌, [], ◌≤◌, length, take, drop};
 ghost use Rattle.codec.specs.Answers.{outcome_of, Gives};
 ghost use Rattle.codec.specs.Format.{length_answer, WritesInto};
@@ -21,7 +24,7 @@ use path_text::Found;
 pub mod raw;
 
 // The encodings of a path.
-#[derive(Drop)]
+#[derive(Clone, Copy)]
 pub enum Encoding {
     Plain,
     Against,
@@ -29,7 +32,7 @@ pub enum Encoding {
 }
 
 // The lengths of a path record; all zero where the field is not in its form.
-#[derive(Drop)]
+#[derive(Clone, Copy)]
 pub struct Lengths {
     pub ok: bool,
     pub lengths: [usize; Path::MAX_COMPONENT_COUNT],

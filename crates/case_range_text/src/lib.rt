@@ -1,4 +1,7 @@
 // The fields of a 3d range in a case line: docs/CASES.md.
+
+#![tactic(auto)]
+
 ghost use Rattle.std.specs.Prelude.{◌≡◌, cond, ◌≤◌, length};
 ghost use Rattle.path.specs.Flat.{path_in};
 ghost use Rattle.range_3d.specs.Record.{range_with};
@@ -17,7 +20,7 @@ use path_text::Found;
 use range_3d::{Range3dHead, SubspaceRange};
 
 // Subspaces that two fields say; where they are not in their form, some in which no subspace lies.
-#[derive(Drop)]
+#[derive(Clone, Copy)]
 pub struct SubspacesField {
     pub ok: bool,
     pub subspaces: SubspaceRange,
@@ -43,7 +46,7 @@ pub struct PathsField {
     pub end: PathEnd,
 }
 
-#[derive(Drop)]
+#[derive(Clone, Copy)]
 pub struct TimesField {
     pub ok: bool,
     pub times: TimeRange,

@@ -1,4 +1,7 @@
 // Case lines of 3d ranges against a 3d range: docs/CASES.md. A line is answered where MAX_ANSWER bytes are free; elsewhere nothing changes.
+
+#![tactic(auto)]
+
 ghost use Rattle.std.specs.Prelude.{length};
 ghost use Rattle.range3d_range3d.specs.Records.{against_range};
 ghost use Rattle.case_text.specs.Limits.{max_answer};

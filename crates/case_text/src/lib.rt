@@ -1,9 +1,12 @@
 // What case lines share: the fields that they are read from, the texts that answer them (docs/CASES.md).
+
+#![tactic(auto)]
+
 pub mod fields;
 pub mod put;
 
 // The operation that a line asks for.
-#[derive(Drop)]
+#[derive(Clone, Copy)]
 pub enum Op {
     Strict,
     Lenient,
@@ -13,21 +16,21 @@ pub enum Op {
 }
 
 // How many bytes a field in hex put into a buffer.
-#[derive(Drop)]
+#[derive(Clone, Copy)]
 pub enum HexField {
     Bytes(usize),
     Refused,
 }
 
 // What becomes of a value: it is written into a lent buffer of so many bytes, or measured.
-#[derive(Drop)]
+#[derive(Clone, Copy)]
 pub enum Output {
     Buffer(usize),
     Length,
 }
 
 // What a line asks for: a message read (strictly or not, from which byte on, how many bytes it has), or a value written or measured.
-#[derive(Drop)]
+#[derive(Clone, Copy)]
 pub enum Asked {
     Read(bool, usize, usize),
     Value(Output),

@@ -1,6 +1,5 @@
 -- What stands beside a reader's answer, at its exits, and after bytes that were read before.
-use Rattle.codec.proofs.Prelude.{◌≡◌, refl, sym, ◌∙◌, [], ◌∷◌, ⊎_elim, ℕ, ◌+◌, arith, OneOf}
-use denote.Enum.Declared as declared
+use Rattle.codec.proofs.Prelude.{◌≡◌, refl, sym, ◌∙◌, ℕ, ◌+◌}
 use Rattle.codec.specs.declared.Decoded.{Decoded}
 use Rattle.codec.specs.declared.Decoded.TheVariants as decoded
 use Rattle.codec.specs.Answers.{Answer, accepted, refused, answer_of, Gives}
@@ -26,16 +25,16 @@ module _ {A : Type 0} {blank a : A} {x : Answer A} (n : ℕ) where
       let e : accepted a m ≡ x = rw told at g.answer in
       gives_accepted (rw (← e))
 
-  pub later_refused : (d : Decoded) → OneOf (1 ∷ 2 ∷ 3 ∷ []) (declared.tag_of Rattle.codec.specs.contracts.Decoded.the_type d) → Gives blank d a x → Gives blank d a (shift n x)
-  later_refused (decoded.Consumed m) h g = absurd (⊎_elim (λ e. omega arith) (⊎_elim (λ e. omega arith) (λ e. omega arith)) h)
+  pub later_refused : (d : Decoded) → ((n : ℕ) → d ≡ decoded.Consumed n → ⊥) → Gives blank d a x → Gives blank d a (shift n x)
+  later_refused (decoded.Consumed m) h g = absurd (h m refl)
   later_refused decoded.EndOfInput h g = rw (unmoved n 1 g.answer) g
   later_refused decoded.TheirFault h g = rw (unmoved n 2 g.answer) g
   later_refused decoded.Malformed h g = rw (unmoved n 5 g.answer) g
 
 -- a refusal is the same, whatever was to come after a value
-pub bind_refused : {A : Type 0} {blank a : A} {x : Answer A} (f : A → ℕ → Answer A) (d : Decoded) → OneOf (1 ∷ 2 ∷ 3 ∷ []) (declared.tag_of Rattle.codec.specs.contracts.Decoded.the_type d)
+pub bind_refused : {A : Type 0} {blank a : A} {x : Answer A} (f : A → ℕ → Answer A) (d : Decoded) → ((n : ℕ) → d ≡ decoded.Consumed n → ⊥)
     → Gives blank d a x → Gives blank d a (bind x f)
-bind_refused f (decoded.Consumed m) h g = absurd (⊎_elim (λ e. omega arith) (⊎_elim (λ e. omega arith) (λ e. omega arith)) h)
+bind_refused f (decoded.Consumed m) h g = absurd (h m refl)
 bind_refused f decoded.EndOfInput h g = rw (stays f 1 g.answer) g
 bind_refused f decoded.TheirFault h g = rw (stays f 2 g.answer) g
 bind_refused f decoded.Malformed h g = rw (stays f 5 g.answer) g
@@ -45,8 +44,8 @@ pub record NoValue (d : Decoded) : Type 1 where
   pub why : ℕ
   pub beside : {A : Type 0} (a : A) → answer_of d a ≡ refused why
 
-pub no_value : (d : Decoded) → OneOf (1 ∷ 2 ∷ 3 ∷ []) (declared.tag_of Rattle.codec.specs.contracts.Decoded.the_type d) → NoValue d
-no_value (decoded.Consumed m) h = absurd (⊎_elim (λ e. omega arith) (⊎_elim (λ e. omega arith) (λ e. omega arith)) h)
+pub no_value : (d : Decoded) → ((n : ℕ) → d ≡ decoded.Consumed n → ⊥) → NoValue d
+no_value (decoded.Consumed m) h = absurd (h m refl)
 no_value decoded.EndOfInput h = record { why = 1; beside = λ a. refl }
 no_value decoded.TheirFault h = record { why = 2; beside = λ a. refl }
 no_value decoded.Malformed h = record { why = 5; beside = λ a. refl }

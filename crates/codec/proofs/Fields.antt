@@ -2,7 +2,6 @@
 use Rattle.codec.proofs.Prelude.{◌≡◌, refl, ◌∙◌, List, ◌++◌, Bool, true, false, ℕ}
 use Rattle.codec.specs.Reader.{Reader, and_then, mapped}
 use Rattle.codec.specs.Reads.{Reads, Relaxes, Bounded}
-use Rattle.codec.proofs.Relations.{Mapped, Joined}
 use Rattle.codec.proofs.Readers.{reads_as, then_reads, mapped_reads}
 use Rattle.codec.proofs.Relaxes.{then_relaxes, mapped_relaxes}
 use Rattle.codec.proofs.Bounded.{then_bounded, mapped_bounded}

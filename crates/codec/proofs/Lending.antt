@@ -1,6 +1,5 @@
 -- Laws of writing into a lent buffer, for the proofs of writers: the exits of a writer, and one writing after another.
-use Rattle.codec.proofs.Prelude.{◌≡◌, refl, sym, ap, ◌∙◌, List, [], ◌∷◌, ◌++◌, append_assoc, append-nil, Bool, true, false, cond, ℕ, suc, ◌+◌, ◌-◌, ◌≤◌, ◌<◌, arith, leb, le-leb, lt-leb, leb-true, put_mid, add-one, length, take, drop, get_or, set, length-set, length-append, length-drop, drop_of_length-le, take-append-drop, take_all, take_at, take-suc, drop_at, drop-cons, drop-drop, set_at, length-take-le, take-append-add, drop-append-add, ⊎_elim, OneOf}
-use denote.Enum.Declared as declared
+use Rattle.codec.proofs.Prelude.{◌≡◌, refl, sym, ap, ◌∙◌, List, [], ◌∷◌, ◌++◌, append_assoc, append-nil, Bool, true, false, cond, ℕ, suc, ◌+◌, ◌-◌, ◌≤◌, ◌<◌, arith, leb, le-leb, lt-leb, leb-true, put_mid, add-one, length, take, drop, get_or, set, length-set, length-append, length-drop, drop_of_length-le, take-append-drop, take_all, take_at, take-suc, drop_at, drop-cons, drop-drop, set_at, length-take-le, take-append-add, drop-append-add}
 use Rattle.codec.specs.declared.Encoded.{Encoded}
 use Rattle.codec.specs.declared.Encoded.TheVariants as encoded
 use Rattle.codec.specs.Answers.{Outcome, wrote, refused_writing, outcome_of}
@@ -106,8 +105,8 @@ pub writes_into : {A : Type 0} {f : Format A} {v : A} {e : Encoded} {lent left :
 writes_into x = record { answer = x.0; buffer = x.1 }
 
 -- a writer's answer that is no length
-pub no_length : (x : Encoded) → OneOf (1 ∷ 2 ∷ 3 ∷ []) (declared.tag_of Rattle.codec.specs.contracts.Encoded.the_type x) → NoLength x
-no_length (encoded.Length n) h = absurd (⊎_elim (λ e. omega arith) (⊎_elim (λ e. omega arith) (λ e. omega arith)) h)
+pub no_length : (x : Encoded) → ((n : ℕ) → x ≡ encoded.Length n → ⊥) → NoLength x
+no_length (encoded.Length n) h = absurd (h n refl)
 no_length encoded.Outside h = record { why = 3; is = refl }
 no_length encoded.NoRoom h = record { why = 4; is = refl }
 no_length encoded.Malformed h = record { why = 5; is = refl }

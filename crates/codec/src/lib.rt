@@ -4,7 +4,7 @@
 #![tactic(auto)]
 
 // What a reader says of a record: how many bytes it took, or why it gives no value.
-#[derive(Drop)]
+#[derive(Clone, Copy)]
 pub enum Decoded {
     Consumed(usize),
     EndOfInput,
@@ -13,7 +13,7 @@ pub enum Decoded {
 }
 
 // What a writer says: how many bytes it wrote, or why it changed none.
-#[derive(Drop)]
+#[derive(Clone, Copy)]
 pub enum Encoded {
     Length(usize),
     Outside,
@@ -22,7 +22,7 @@ pub enum Encoded {
 }
 
 // An id or a digest beside the answer; beside a refusal it is zero.
-#[derive(Drop)]
+#[derive(Clone, Copy)]
 pub struct DecodedId {
     pub answer: Decoded,
     pub id: [u8; 32],

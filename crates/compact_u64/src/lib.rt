@@ -1,4 +1,7 @@
 // Compact numbers: docs/FORMAT.md, "Compact numbers". Names follow the crate compact_u64 that willow-rs uses.
+
+#![tactic(auto)]
+
 ghost use Rattle.std.specs.Prelude.{◌≡◌, ◌++◌, ◌+◌, ◌≤◌, ◌<◌, ◌^◌, length, drop};
 ghost use Rattle.codec.specs.Answers.{answer_of, outcome_of};
 ghost use Rattle.codec.specs.Format.{allowed, put_answer, put_buffer, write_answer, write_buffer};
@@ -10,7 +13,7 @@ ghost use Rattle.compact_u64.specs.Answers.{bits, number_answer};
 use codec::{Decoded, Encoded};
 
 // How many bits a tag has.
-#[derive(Drop)]
+#[derive(Clone, Copy)]
 pub enum TagWidth {
     Two = 2,
     Three = 3,
@@ -22,7 +25,7 @@ pub enum TagWidth {
 }
 
 // What reading a number finds: the value and the bytes consumed; too few bytes; or a form that is refused.
-#[derive(Drop)]
+#[derive(Clone, Copy)]
 pub enum DecodedU64 {
     Value(u64, usize),
     EndOfInput,

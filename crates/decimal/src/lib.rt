@@ -1,9 +1,12 @@
 // Numbers in decimal, read.
+
+#![tactic(auto)]
+
 ghost use Rattle.std.specs.Prelude.{◌≡◌};
 ghost use Rattle.decimal.specs.Decimal.{decimal_value, read_decimal, decimal_answer};
 
 // What reading a number finds. Refused: no digits, another byte, a leading zero, or 2^64 and above.
-#[derive(Drop)]
+#[derive(Clone, Copy)]
 pub enum Decimal {
     Value(u64),
     Refused,

@@ -1,4 +1,7 @@
 // Entries: docs/FORMAT.md, "Entries". A port of entry.rs, as far as the codecs use it.
+
+#![tactic(auto)]
+
 ghost use Rattle.std.specs.Prelude.{◌≡◌};
 ghost use Rattle.entry.specs.Record.{fields_lie_inside};
 ghost use Rattle.entry.specs.Answers.{fields_refusal};
@@ -9,7 +12,7 @@ use grouping::{AreaHead, AreaSubspace};
 pub mod lent;
 
 // What an entry has beside its path, whose record is lent.
-#[derive(Drop)]
+#[derive(Clone, Copy)]
 pub struct EntryFields {
     pub namespace_id: [u8; 32],
     pub subspace_id: [u8; 32],
@@ -19,7 +22,7 @@ pub struct EntryFields {
 }
 
 // What an entry has beside its path, which is read into a lent record, beside the answer; beside a refusal all of it is zero.
-#[derive(Drop)]
+#[derive(Clone, Copy)]
 pub struct DecodedFields {
     pub answer: Decoded,
     pub fields: EntryFields,

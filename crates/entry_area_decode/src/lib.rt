@@ -1,4 +1,7 @@
 // Reading entries against a namespace and an area: docs/FORMAT.md, "Entries". A port of relative_encodings/entry_area.rs.
+
+#![tactic(auto)]
+
 ghost use Rattle.std.specs.Prelude.{◌≡◌, [], true, ◌+◌, ◌<◌, ◌^◌, length, drop};
 ghost use Rattle.codec.specs.Answers.{answer_of};
 ghost use Rattle.codec.specs.Reader.{shift, mapped};

@@ -1,5 +1,8 @@
 // The fields after the path of an entry in an area, and the header byte: docs/FORMAT.md, "Entries". Part of a port of
 // relative_encodings/entry_area.rs.
+
+#![tactic(auto)]
+
 ghost use Rattle.std.specs.Prelude.{◌≡◌, ◌≤◌, length};
 ghost use Rattle.codec.specs.Answers.{outcome_of, Gives};
 ghost use Rattle.codec.specs.Format.{allowed, put_answer, put_buffer};
@@ -13,7 +16,7 @@ use grouping::TimeRange;
 pub mod entry_header;
 
 // What the header byte says; `spare` are the bits that must be zero.
-#[derive(Drop)]
+#[derive(Clone, Copy)]
 pub struct EntryAreaHeader {
     pub id_written: bool,
     pub time_added: bool,
@@ -23,7 +26,7 @@ pub struct EntryAreaHeader {
 }
 
 // The fields after the path.
-#[derive(Drop)]
+#[derive(Clone, Copy)]
 pub struct End {
     pub timestamp: u64,
     pub payload_length: u64,
@@ -31,7 +34,7 @@ pub struct End {
 }
 
 // Fields beside the answer; beside a refusal they are all zero.
-#[derive(Drop)]
+#[derive(Clone, Copy)]
 pub struct DecodedEnd {
     pub answer: Decoded,
     pub end: End,

@@ -1,28 +1,31 @@
 // Entries against an entry: docs/FORMAT.md, "Entries against an entry". The definitions and their laws; the
 // crates entry_entry_decode and entry_entry_encode have the functions.
+
+#![tactic(auto)]
+
 use codec::Decoded;
 use entry_numbers::Numbers;
 
-#[derive(Drop)]
+#[derive(Clone, Copy)]
 pub struct Ids {
     pub namespace_id: [u8; 32],
     pub subspace_id: [u8; 32],
 }
 
-#[derive(Drop)]
+#[derive(Clone, Copy)]
 pub struct DecodedIds {
     pub answer: Decoded,
     pub ids: Ids,
 }
 
 // What comes before the path.
-#[derive(Drop)]
+#[derive(Clone, Copy)]
 pub struct Head {
     pub ids: Ids,
     pub numbers: Numbers,
 }
 
-#[derive(Drop)]
+#[derive(Clone, Copy)]
 pub struct DecodedHead {
     pub answer: Decoded,
     pub head: Head,

@@ -1,4 +1,7 @@
 // Reading entries against an entry: docs/FORMAT.md, "Entries against an entry". A port of relative_encodings/entry_entry.rs.
+
+#![tactic(auto)]
+
 ghost use Rattle.std.specs.Prelude.{◌≡◌, [], true, drop};
 ghost use Rattle.path.specs.Record.{path_from, well_formed};
 ghost use Rattle.path.specs.Flat.{path_in};

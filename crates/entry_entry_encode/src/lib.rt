@@ -1,4 +1,7 @@
 // Writing entries against an entry: docs/FORMAT.md, "Entries against an entry". A port of relative_encodings/entry_entry.rs.
+
+#![tactic(auto)]
+
 ghost use Rattle.std.specs.Prelude.{◌≡◌};
 ghost use Rattle.codec.specs.Answers.{outcome_of};
 ghost use Rattle.codec.specs.Format.{length_answer, WritesInto};

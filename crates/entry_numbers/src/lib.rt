@@ -1,5 +1,8 @@
 // The time and the payload length of an entry against an entry, and the header byte: docs/FORMAT.md, "Entries against an entry". Part of a port of
 // relative_encodings/entry_entry.rs.
+
+#![tactic(auto)]
+
 ghost use Rattle.std.specs.Prelude.{◌≡◌, ◌≤◌, length};
 ghost use Rattle.codec.specs.Answers.{outcome_of, Gives};
 ghost use Rattle.codec.specs.Format.{allowed, put_answer, put_buffer};
@@ -14,7 +17,7 @@ use grouping::RangeEnd;
 pub mod entry_header;
 
 // What the header byte says.
-#[derive(Drop)]
+#[derive(Clone, Copy)]
 pub struct EntryHeader {
     pub namespace_written: bool,
     pub subspace_written: bool,
@@ -24,14 +27,14 @@ pub struct EntryHeader {
 }
 
 // The time and the payload length.
-#[derive(Drop)]
+#[derive(Clone, Copy)]
 pub struct Numbers {
     pub timestamp: u64,
     pub payload_length: u64,
 }
 
 // Numbers beside the answer; beside a refusal both are zero.
-#[derive(Drop)]
+#[derive(Clone, Copy)]
 pub struct DecodedNumbers {
     pub answer: Decoded,
     pub numbers: Numbers,

@@ -1,4 +1,7 @@
 // Records as flat bytes, for callers in other languages: docs/ABI.md.
+
+#![tactic(auto)]
+
 ghost use Rattle.std.specs.Prelude.{◌≡◌, ◌+◌, ◌≤◌, length, take, drop};
 ghost use Rattle.compact_u64.specs.BigEndian.{value_of};
 ghost use Rattle.path.specs.Flat.{path_size};

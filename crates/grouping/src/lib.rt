@@ -1,4 +1,7 @@
 // Groupings of entries: ranges of times, and areas: docs/FORMAT.md, "Areas". A port of grouping/range.rs and grouping/area.rs.
+
+#![tactic(auto)]
+
 ghost use Rattle.std.specs.Prelude.{◌≡◌};
 ghost use Rattle.codec.specs.Answers.{Gives};
 ghost use Rattle.codec.specs.Reader.{named};
@@ -15,49 +18,49 @@ pub mod lent;
 mod range;
 
 // Where a range of times ends: before a time, or nowhere.
-#[derive(Drop)]
+#[derive(Clone, Copy)]
 pub enum RangeEnd {
     Closed(u64),
     Open,
 }
 
 // The times from a start on, before an end.
-#[derive(Drop)]
+#[derive(Clone, Copy)]
 pub struct TimeRange {
     pub start: u64,
     pub end: RangeEnd,
 }
 
 // Times beside the answer; beside a refusal no time lies in them.
-#[derive(Drop)]
+#[derive(Clone, Copy)]
 pub struct DecodedTimes {
     pub answer: Decoded,
     pub times: TimeRange,
 }
 
 // An end beside the answer; beside a refusal it is open.
-#[derive(Drop)]
+#[derive(Clone, Copy)]
 pub struct DecodedEnd {
     pub answer: Decoded,
     pub end: RangeEnd,
 }
 
 // One subspace, or any: then the id is zero.
-#[derive(Drop)]
+#[derive(Clone, Copy)]
 pub struct AreaSubspace {
     pub any: bool,
     pub id: [u8; 32],
 }
 
 // What an area has beside its path, whose record is lent.
-#[derive(Drop)]
+#[derive(Clone, Copy)]
 pub struct AreaHead {
     pub subspace: AreaSubspace,
     pub times: TimeRange,
 }
 
 // What an area has beside its path, which is read into a lent record, beside the answer; beside a refusal that of the empty area.
-#[derive(Drop)]
+#[derive(Clone, Copy)]
 pub struct DecodedAreaHead {
     pub answer: Decoded,
     pub head: AreaHead,

@@ -11,7 +11,7 @@ use codec::Encoded;
 use compact_u64::{DecodedU64, TagWidth};
 
 // A tag's width by its bits.
-#[derive(Drop)]
+#[derive(Clone, Copy)]
 enum NumberWidth {
     Bits(TagWidth),
     Malformed,

@@ -1,4 +1,7 @@
 // A program that answers the lines of standard input: docs/LISTING.md, docs/CASES.md. A failed read or write ends it with a line on standard error.
+
+#![tactic(auto)]
+
 ghost use Rattle.std.specs.Prelude.{◌≡◌, true, false, ◌≤◌, ◌<◌, length, take};
 ghost use Rattle.codec.specs.Format.{over};
 ghost use Rattle.lines.specs.Lines.{span, answers, whole_lines, fitting_lines};
@@ -10,14 +13,14 @@ ghost use Rattle.line_program.specs.Programs.{answer_to, limit_of};
 use case_text::MAX_ANSWER;
 use libc::{STDERR_FILENO, STDIN_FILENO, STDOUT_FILENO};
 
-#[derive(Drop)]
+#[derive(Clone, Copy)]
 pub enum Program {
     Listing,
     CaseLines,
 }
 
 // What was answered: the bytes of the lines, and those of the answers.
-#[derive(Drop)]
+#[derive(Clone, Copy)]
 pub struct Answered {
     pub taken: usize,
     pub put: usize,
@@ -67,7 +70,7 @@ pub fn answer_lines(program: Program, s: &[u8], out: &mut [u8]) -> Answered
 }
 
 // How many bytes the lines take whose answers were written, and whether every write went well.
-#[derive(Drop)]
+#[derive(Clone, Copy)]
 struct Drained {
     taken: usize,
     ok: bool,
@@ -100,7 +103,7 @@ fn drain(program: Program, s: &[u8], out: &mut [u8]) -> Drained
 }
 
 // How many bytes the buffer holds, and whether there may be more to read. Nothing is held at the end of the input, or once a read or a write failed.
-#[derive(Drop)]
+#[derive(Clone, Copy)]
 pub struct Held {
     pub have: usize,
     pub more: bool,

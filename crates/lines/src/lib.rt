@@ -1,4 +1,7 @@
 // The lines of a stream in bounded memory: what of a buffer is kept for the next reading.
+
+#![tactic(auto)]
+
 ghost use Rattle.std.specs.Prelude.{◌≡◌, ◌+◌, ◌≤◌, min, length, take, drop};
 ghost use Rattle.codec.specs.Format.{over};
 ghost use Rattle.lines.specs.Stream.{kept};

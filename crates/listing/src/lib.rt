@@ -1,4 +1,7 @@
 // The area listing: the answer to one of its lines, docs/LISTING.md. A line is answered where MAX_ANSWER bytes are free; elsewhere nothing changes.
+
+#![tactic(auto)]
+
 ghost use Rattle.case_text.specs.Limits.{max_answer};
 ghost use Rattle.case_text.specs.Texts.{ended};
 ghost use Rattle.case_text.specs.Answers.{PutsWithin};

@@ -17,7 +17,7 @@ pub const LENGTHS: usize = 1;
 pub const BYTES: usize = LENGTHS + 2 * Path::MAX_COMPONENT_COUNT;
 
 // Of some components: their bytes in all, and whether none is too long.
-#[derive(Drop)]
+#[derive(Clone, Copy)]
 pub struct Lengths {
     pub total: usize,
     pub short: bool,

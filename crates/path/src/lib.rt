@@ -1,4 +1,7 @@
 // Paths: docs/FORMAT.md, "Paths", and what the codecs ask of them. A port of path/mod.rs.
+
+#![tactic(auto)]
+
 ghost use Rattle.std.specs.Prelude.{◌≡◌, [], ◌&&◌};
 ghost use Rattle.path.specs.Record.{components_of, path_from, all_at_most, well_formed};
 ghost use Rattle.path.specs.Flat.{path_in, path_flat};
@@ -22,7 +25,7 @@ pub struct PathBuilder {
 }
 
 // Whether a builder grew, or why it did not.
-#[derive(Drop)]
+#[derive(Clone, Copy)]
 pub enum Appended {
     Grown,
     Outside,
@@ -37,14 +40,14 @@ pub struct Growth {
 }
 
 // A number of components.
-#[derive(Drop)]
+#[derive(Clone, Copy)]
 pub enum ComponentCount {
     Components(usize),
     Malformed,
 }
 
 // Where a component's bytes start among those of all components, and how many they are.
-#[derive(Drop)]
+#[derive(Clone, Copy)]
 pub enum ComponentBytes {
     At(usize, usize),
     Outside,
@@ -52,7 +55,7 @@ pub enum ComponentBytes {
 }
 
 // What comparing two paths says.
-#[derive(Drop)]
+#[derive(Clone, Copy)]
 pub enum Compared {
     Yes,
     No,

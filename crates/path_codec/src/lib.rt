@@ -1,4 +1,7 @@
 // Plain paths as bytes: docs/FORMAT.md, "Paths". A port of path/codec.rs.
+
+#![tactic(auto)]
+
 ghost use Rattle.std.specs.Prelude.{◌≡◌, [], drop};
 ghost use Rattle.codec.specs.Answers.{outcome_of, Gives};
 ghost use Rattle.codec.specs.Format.{length_answer, WritesInto};

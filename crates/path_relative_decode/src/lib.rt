@@ -1,4 +1,7 @@
 // Reading paths against a path, and extensions of a path: docs/FORMAT.md, "Paths". A port of path/codec.rs.
+
+#![tactic(auto)]
+
 ghost use Rattle.std.specs.Prelude.{[], drop};
 ghost use Rattle.codec.specs.Answers.{Gives};
 ghost use Rattle.path.specs.Record.{path_from};

@@ -1,4 +1,7 @@
 // Writing paths against a path, and extensions of a path: docs/FORMAT.md, "Paths". A port of path/codec.rs.
+
+#![tactic(auto)]
+
 ghost use Rattle.std.specs.Prelude.{◌≡◌};
 ghost use Rattle.codec.specs.Answers.{outcome_of};
 ghost use Rattle.codec.specs.Format.{length_answer, WritesInto};

@@ -11,7 +11,7 @@ use compact_u64::DecodedU64;
 use path::{Path, PathBuilder};
 
 // Where a component's bytes start and end in the message; beside a refusal both are zero.
-#[derive(Drop)]
+#[derive(Clone, Copy)]
 struct DecodedComponent {
     answer: Decoded,
     begin: usize,

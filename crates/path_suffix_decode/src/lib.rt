@@ -1,4 +1,7 @@
 // Reading a suffix: docs/FORMAT.md, "Paths". Its sizes, then its components, into a lent record.
+
+#![tactic(auto)]
+
 ghost use Rattle.std.specs.Prelude.{◌≡◌, [], drop};
 ghost use Rattle.codec.specs.Answers.{Gives};
 ghost use Rattle.path.specs.Record.{path_from};
@@ -16,7 +19,7 @@ use path_suffix_encode::suffix_header::{COUNT_WIDTH, HEADER_LENGTH, TOTAL_WIDTH}
 mod components;
 
 // Total length and component count beside the answer; beside a refusal they are zero.
-#[derive(Drop)]
+#[derive(Clone, Copy)]
 pub struct DecodedSizes {
     pub answer: Decoded,
     pub total: u64,

@@ -1,4 +1,7 @@
 // Writing a suffix: docs/FORMAT.md, "Paths". Its sizes, then its components, every one but the last after its length.
+
+#![tactic(auto)]
+
 ghost use Rattle.std.specs.Prelude.{◌≡◌, ◌≤◌, length};
 ghost use Rattle.codec.specs.Format.{over};
 ghost use Rattle.path_suffix.specs.Suffix.{sizes_from, sized_bytes, sizes_bytes};

@@ -1,4 +1,7 @@
 // A path in a field of a line: its components in hex, parted by `/`; `-` is the path of no components.
+
+#![tactic(auto)]
+
 ghost use Rattle.std.specs.Prelude.{◌≡◌, true, ◌≤◌, length};
 ghost use Rattle.codec.specs.Format.{over};
 ghost use Rattle.text.specs.Buffer.{put_at, place_after};
@@ -14,7 +17,7 @@ use text::Hex;
 const MAX_TAIL: usize = 2 * Path::MAX_PATH_LENGTH + Path::MAX_COMPONENT_COUNT;
 
 // Whether a field is a path's text.
-#[derive(Drop)]
+#[derive(Clone, Copy)]
 pub enum Found {
     Read,
     Refused,

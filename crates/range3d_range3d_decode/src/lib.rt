@@ -1,4 +1,7 @@
 // Reading 3d ranges against a 3d range: docs/FORMAT.md, "3d ranges". A port of relative_encodings/range3d_range3d.rs.
+
+#![tactic(auto)]
+
 ghost use Rattle.std.specs.Prelude.{◌≡◌, true, ◌+◌, ◌<◌, ◌^◌, leb, length, drop, replicate};
 ghost use Rattle.codec.specs.Answers.{Gives};
 ghost use Rattle.codec.specs.Reader.{shift, mapped};

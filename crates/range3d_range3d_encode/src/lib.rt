@@ -1,4 +1,7 @@
 // Writing 3d ranges against a 3d range: docs/FORMAT.md, "3d ranges". A port of relative_encodings/range3d_range3d.rs.
+
+#![tactic(auto)]
+
 ghost use Rattle.std.specs.Prelude.{◌≡◌};
 ghost use Rattle.codec.specs.Answers.{outcome_of};
 ghost use Rattle.codec.specs.Format.{length_answer, WritesInto};

@@ -1,4 +1,7 @@
 // Ranges of subspaces and of paths, and 3d ranges: docs/FORMAT.md, "3d ranges". A port of grouping/range_3d.rs, as far as the codecs use it.
+
+#![tactic(auto)]
+
 ghost use Rattle.std.specs.Prelude.{◌≡◌};
 ghost use Rattle.range_3d.specs.Record.{well_formed_subspaces};
 ghost use Rattle.range_3d.specs.Answers.{head_refusal};
@@ -9,7 +12,7 @@ use grouping::{RangeEnd, TimeRange};
 pub mod lent;
 
 // The subspaces from a start on, before an end; beside an open end the id is zero.
-#[derive(Drop)]
+#[derive(Clone, Copy)]
 pub struct SubspaceRange {
     pub start: [u8; 32],
     pub end_open: bool,
@@ -17,7 +20,7 @@ pub struct SubspaceRange {
 }
 
 // What a 3d range has beside its two paths, whose records are lent; beside the mark of an open end the second is empty.
-#[derive(Drop)]
+#[derive(Clone, Copy)]
 pub struct Range3dHead {
     pub subspaces: SubspaceRange,
     pub end_open: bool,
@@ -25,7 +28,7 @@ pub struct Range3dHead {
 }
 
 // That beside the answer; the paths are read into lent records. Beside a refusal nothing lies in the range.
-#[derive(Drop)]
+#[derive(Clone, Copy)]
 pub struct DecodedRange3dHead {
     pub answer: Decoded,
     pub head: Range3dHead,

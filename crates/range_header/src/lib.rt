@@ -1,11 +1,14 @@
 // The first header byte of a 3d range: docs/FORMAT.md, "3d ranges". Part of a port of relative_encodings/range3d_range3d.rs.
+
+#![tactic(auto)]
+
 ghost use Rattle.std.specs.Prelude.{◌≡◌, ◌<◌, ◌^◌};
 ghost use Rattle.range_header.specs.Header.{source_width, source_from, source_bits, unpack_header, pack_header};
 
 use range_subspaces::IdSource;
 
 // What the first header byte says; the second is that of the times.
-#[derive(Drop)]
+#[derive(Clone, Copy)]
 pub struct Range3dHeader {
     pub subspace_start: IdSource,
     pub subspace_end: IdSource,

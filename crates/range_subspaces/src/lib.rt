@@ -1,4 +1,7 @@
 // The subspaces of a 3d range against those of another: docs/FORMAT.md, "3d ranges". Part of a port of relative_encodings/range3d_range3d.rs.
+
+#![tactic(auto)]
+
 ghost use Rattle.std.specs.Prelude.{◌≡◌, ◌≤◌, length};
 ghost use Rattle.codec.specs.Answers.{answer_of, outcome_of, Gives};
 ghost use Rattle.codec.specs.Format.{allowed, over, put_answer, put_buffer};
@@ -11,7 +14,7 @@ use codec::{Decoded, DecodedId, Encoded};
 use range_3d::SubspaceRange;
 
 // Where an id is taken from: nowhere, the reference's start, its end, or the bytes.
-#[derive(Drop)]
+#[derive(Clone, Copy)]
 pub enum IdSource {
     Nowhere,
     Start,
@@ -19,14 +22,14 @@ pub enum IdSource {
     Written,
 }
 
-#[derive(Drop)]
+#[derive(Clone, Copy)]
 pub struct Sources {
     pub start: IdSource,
     pub end: IdSource,
 }
 
 // Subspaces beside the answer; beside a refusal start and end are both zero.
-#[derive(Drop)]
+#[derive(Clone, Copy)]
 pub struct DecodedSubspaces {
     pub answer: Decoded,
     pub subspaces: SubspaceRange,

@@ -1,4 +1,7 @@
 // The times of a 3d range against those of another: docs/FORMAT.md, "3d ranges". Part of a port of relative_encodings/range3d_range3d.rs.
+
+#![tactic(auto)]
+
 ghost use Rattle.std.specs.Prelude.{◌≡◌, ◌≤◌, length, drop};
 ghost use Rattle.codec.specs.Answers.{outcome_of, Gives};
 ghost use Rattle.codec.specs.Format.{allowed, put_answer, put_buffer};
@@ -16,7 +19,7 @@ use times_header::{END_TAG_WIDTH, START_TAG_WIDTH};
 mod times_header;
 
 // What the header byte of the times says.
-#[derive(Drop)]
+#[derive(Clone, Copy)]
 pub struct RangeTimesHeader {
     pub start_from_start: bool,
     pub start_added: bool,

@@ -1,4 +1,7 @@
 // Fields of a line of text: finding, reading and printing them.
+
+#![tactic(auto)]
+
 ghost use Rattle.std.specs.Prelude.{◌≡◌, true, ◌+◌, ◌*◌, ◌≤◌, ◌<◌, length};
 ghost use Rattle.io.specs.Digits.{hex_digit_ascii};
 ghost use Rattle.codec.specs.Format.{over};
@@ -11,7 +14,7 @@ ghost use Rattle.text.specs.Fields.{read_hex, hex_answer, hex_buffer};
 pub mod ids;
 
 // What reading bytes in hex finds: how many were put into the buffer, or why it is as it was.
-#[derive(Drop)]
+#[derive(Clone, Copy)]
 pub enum Hex {
     Bytes(usize),
     NoHex,
@@ -19,7 +22,7 @@ pub enum Hex {
 }
 
 // An id of 32 bytes; all zero where the field is not one.
-#[derive(Drop)]
+#[derive(Clone, Copy)]
 pub struct IdField {
     pub ok: bool,
     pub id: [u8; 32],

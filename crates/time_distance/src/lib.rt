@@ -1,4 +1,7 @@
 // A time against a time, and against the nearer of a range's start and end: docs/FORMAT.md, "Distances".
+
+#![tactic(auto)]
+
 ghost use Rattle.std.specs.Prelude.{◌≡◌, drop};
 ghost use Rattle.compact_u64.specs.Answers.{bits, number_answer};
 ghost use Rattle.time_distance.specs.Distance.{distance, distance_to, nearest_of, end_nearest, read_from};
@@ -7,7 +10,7 @@ use compact_u64::{DecodedU64, TagWidth};
 use grouping::{RangeEnd, TimeRange};
 
 // Which of a range's start and end a time is nearer to, whether it is at or after that, and how far away.
-#[derive(Drop)]
+#[derive(Clone, Copy)]
 pub struct TimeDistance {
     pub from_start: bool,
     pub added: bool,

@@ -1,4 +1,7 @@
 // A time against a range of times: docs/FORMAT.md, "Times".
+
+#![tactic(auto)]
+
 ghost use Rattle.std.specs.Prelude.{◌≡◌, true, cond, ◌&&◌, not, ◌-◌, ◌≤◌, drop};
 ghost use Rattle.compact_u64.specs.Answers.{bits, number_answer};
 ghost use Rattle.time_relative.specs.Difference.{difference_of, end_difference, reach_of, time_at, is_nearest, read_time, read_included};
@@ -8,7 +11,7 @@ use compact_u64::{DecodedU64, TagWidth};
 use grouping::{RangeEnd, TimeRange};
 
 // The smaller of the differences from a range's start, to which it is added, and to the range's end.
-#[derive(Drop)]
+#[derive(Clone, Copy)]
 pub struct TimeDifference {
     pub added: bool,
     pub difference: u64,

@@ -1,1 +1,3 @@
 // The worked examples of docs/FORMAT.md that are proved: specs/Cases.antt.
+
+#![tactic(auto)]
