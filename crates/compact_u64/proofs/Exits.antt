@@ -109,8 +109,8 @@ pub standalone_some : (canonic : Bool) (s : List ℕ) (i : ℕ) → i < length s
 standalone_some canonic s i h = rw (drop-cons s i 0 h, add-one i)
 
 -- a refusal is the same, one byte later
-pub refusal_shifted : (x : DecodedU64) (k : ℕ) → OneOf (1 ∷ 2 ∷ []) (declared.tag_of Rattle.compact_u64.specs.contracts.DecodedU64.the_type x) → shift k (number_answer x) ≡ number_answer x
-refusal_shifted (decoded.Value n u) k h = absurd (⊎_elim (λ e. omega arith) (λ e. omega arith) h)
+pub refusal_shifted : (x : DecodedU64) (k : ℕ) → ((v n : ℕ) → x ≡ decoded.Value v n → ⊥) → shift k (number_answer x) ≡ number_answer x
+refusal_shifted (decoded.Value n u) k h = absurd (h n u refl)
 refusal_shifted decoded.EndOfInput k h = refl
 refusal_shifted decoded.TheirFault k h = refl
 
@@ -120,8 +120,8 @@ pub record Refused (x : DecodedU64) : Type 1 where
   pub number : number_answer x ≡ refused why
   pub whole : {A : Type 0} (a : A) (d : Decoded) → answer_of d tt ≡ unvalued (number_answer x) → answer_of d a ≡ refused why
 
-pub refused_number : (x : DecodedU64) → OneOf (1 ∷ 2 ∷ []) (declared.tag_of Rattle.compact_u64.specs.contracts.DecodedU64.the_type x) → Refused x
-refused_number (decoded.Value n u) h = absurd (⊎_elim (λ e. omega arith) (λ e. omega arith) h)
+pub refused_number : (x : DecodedU64) → ((v n : ℕ) → x ≡ decoded.Value v n → ⊥) → Refused x
+refused_number (decoded.Value n u) h = absurd (h n u refl)
 refused_number decoded.EndOfInput h = record { why = 1; number = refl; whole = λ a d e. unvalued_refused a d 1 e }
 refused_number decoded.TheirFault h = record { why = 2; number = refl; whole = λ a d e. unvalued_refused a d 2 e }
 
