@@ -8,12 +8,12 @@ use Rattle.text.specs.declared.Hex.{Hex}
 use Rattle.text.specs.declared.Hex.TheVariants.{Bytes, NoHex, NoRoom}
 
 -- an answer other than bytes: no hex, or no room
-no_bytes : (x : Hex) → OneOf (1 ∷ 2 ∷ []) (tag_of Rattle.text.specs.contracts.Hex.the_type x) → (n : ℕ) → hex_answer x ≡ said n → ⊥
-no_bytes (Bytes m) k n e = ⊎_elim (λ q. omega arith) (λ q. omega arith) k
+no_bytes : (x : Hex) → ((m : ℕ) → x ≡ Bytes m → ⊥) → (n : ℕ) → hex_answer x ≡ said n → ⊥
+no_bytes (Bytes m) k n e = k m refl
 no_bytes NoHex k n e = let z : ◌≡◌ {A = ℕ} 0 1 = cc in omega arith
 no_bytes NoRoom k n e = let z : ◌≡◌ {A = ℕ} 0 1 = cc in omega arith
 
-pub hex_refused : (a : List ℕ) (room : ℕ) (x : Hex) → hex_answer x ≡ read_hex a room → OneOf (1 ∷ 2 ∷ []) (tag_of Rattle.text.specs.contracts.Hex.the_type x)
+pub hex_refused : (a : List ℕ) (room : ℕ) (x : Hex) → hex_answer x ≡ read_hex a room → ((m : ℕ) → x ≡ Bytes m → ⊥)
     → cond (is_hex a) (ltb room (length (unhex a))) true ≡ true
 unfolding read_hex
 hex_refused a room x e k = by_cases (is_hex a) (ltb room (length (unhex a))) e
