@@ -11,7 +11,7 @@ use Rattle.codec.proofs.Lending.{no_length}
 use Rattle.calls.specs.Calls.{code_of, Told, Encodes, read_code, Stores}
 
 -- ---- writing
-pub told_refused_writing : (x : Encoded) → OneOf (1 ∷ 2 ∷ 3 ∷ []) (declared.tag_of Rattle.codec.specs.contracts.Encoded.the_type x) → {r : ℕ} → r ≡ code_of (outcome_of x) → Told (outcome_of x) r 0
+pub told_refused_writing : (x : Encoded) → ((n : ℕ) → x ≡ encoded.Length n → ⊥) → {r : ℕ} → r ≡ code_of (outcome_of x) → Told (outcome_of x) r 0
 told_refused_writing x h e = record { code = e; count = rw (no_length x h).is }
 
 pub told_as : {x y : Outcome} {r n : ℕ} → Told x r n → x ≡ y → Told y r n

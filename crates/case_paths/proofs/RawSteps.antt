@@ -142,7 +142,7 @@ module _ (line : List ℕ) {m : ℕ} (counted : m ≡ length (parts 9 line)) whe
         unfolding raw_line
         bytes_left = fields_are line counted 4 _ many ∙ count _ ∙ rw (lengths_ok_lem true ok)
 
-        pub raw_bytes : (x : Hex) → hex_answer x ≡ read_hex (field 3 line) max_path_length → OneOf (1 ∷ 2 ∷ []) (tag_of Rattle.text.specs.contracts.Hex.the_type x) → raw_line line ≡ six
+        pub raw_bytes : (x : Hex) → hex_answer x ≡ read_hex (field 3 line) max_path_length → ((n : ℕ) → x ≡ Bytes n → ⊥) → raw_line line ≡ six
         raw_bytes x e k = bytes_left ∙ hex_none 3 line max_path_length x e k told
 
         pub raw_answer : (x : Hex) (b : ℕ) → hex_answer x ≡ read_hex (field 3 line) max_path_length → x ≡ Bytes b → {bytes : List ℕ} → bytes ≡ hex_buffer (field 3 line) (replicate max_path_length 0)

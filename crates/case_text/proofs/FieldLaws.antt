@@ -14,13 +14,13 @@ use Rattle.case_text.specs.Answers.{ReadsHex}
 use Rattle.case_text.specs.Asking.{Rest, Asks}
 
 -- an answer other than bytes
-no_bytes : (x : Hex) → OneOf (1 ∷ 2 ∷ []) (tag_of Rattle.text.specs.contracts.Hex.the_type x) → (k : ℕ → List ℕ) → on_said (hex_answer x) k ≡ six
-no_bytes (text.Bytes n) o k = absurd (⊎_elim (λ q. omega arith) (λ q. omega arith) o)
+no_bytes : (x : Hex) → ((n : ℕ) → x ≡ text.Bytes n → ⊥) → (k : ℕ → List ℕ) → on_said (hex_answer x) k ≡ six
+no_bytes (text.Bytes n) o k = absurd (o n refl)
 no_bytes text.NoHex o k = refl
 no_bytes text.NoRoom o k = refl
 
 module _ (i : ℕ) (line : List ℕ) where
-  pub hex_none : (room : ℕ) (x : Hex) → hex_answer x ≡ read_hex (field i line) room → OneOf (1 ∷ 2 ∷ []) (tag_of Rattle.text.specs.contracts.Hex.the_type x)
+  pub hex_none : (room : ℕ) (x : Hex) → hex_answer x ≡ read_hex (field i line) room → ((n : ℕ) → x ≡ text.Bytes n → ⊥)
       → (k : List ℕ → List ℕ) → hex_field_in room i line k ≡ six
   hex_none room x e o k = rw (← e) (no_bytes x o _)
 
@@ -29,7 +29,7 @@ module _ (i : ℕ) (line : List ℕ) where
 
   -- read into a buffer
   module _ (buffer : List ℕ) where
-    pub hex_left : (x : Hex) → hex_answer x ≡ read_hex (field i line) (length buffer) → OneOf (1 ∷ 2 ∷ []) (tag_of Rattle.text.specs.contracts.Hex.the_type x)
+    pub hex_left : (x : Hex) → hex_answer x ≡ read_hex (field i line) (length buffer) → ((n : ℕ) → x ≡ text.Bytes n → ⊥)
         → (l : List ℕ) → ReadsHex (length buffer) i line l hex.Refused
     hex_left x e o l = record { text = λ k. sym (hex_none (length buffer) x e o k); inside = tt }
 

@@ -75,9 +75,9 @@ module _ {room at : ℕ} {t l : List ℕ} where
     within_puts p h = record { place = rw (le-leb _ _ h) at p.place; buffer = rw (le-leb _ _ h) at p.buffer }
 
 -- a number's refused writing has no tag
-pub refused_number : (a : Encoded) (tag : ℕ) (buffer : List ℕ) → OneOf (1 ∷ 2 ∷ 3 ∷ []) (tag_of Rattle.codec.specs.contracts.Encoded.the_type a)
+pub refused_number : (a : Encoded) (tag : ℕ) (buffer : List ℕ) → ((n : ℕ) → a ≡ encoded.Length n → ⊥)
     → written_text (outcome_of a) buffer ≡ written_number_text (outcome_of a) tag buffer
-refused_number (encoded.Length n) tag buffer k = absurd (⊎_elim (λ q. omega arith) (⊎_elim (λ q. omega arith) (λ q. omega arith)) k)
+refused_number (encoded.Length n) tag buffer k = absurd (k n refl)
 refused_number encoded.Outside tag buffer k = refl
 refused_number encoded.NoRoom tag buffer k = refl
 refused_number encoded.Malformed tag buffer k = refl

@@ -1,14 +1,14 @@
 -- What the language says of a record, from what owning one tells.
-use Rattle.codec.proofs.Prelude.{◌≡◌, List, ℕ, length, Val, Is, length_unmapped}
+use Rattle.codec.proofs.Prelude.{◌≡◌, List, ℕ, length, Val, Is}
 use denote.Struct.Declared as struct
 use Rattle.entry.specs.declared.EntryFields.{EntryFields}
 
 -- ids of an entry's fields
 pub namespace_long : (f : EntryFields) {vs : List Val} → Is (struct.row Rattle.entry.specs.contracts.EntryFields.the_type) f vs → length f.namespace_id ≡ 32
-namespace_long f g = length_unmapped ℕ f.namespace_id 32 g.1.1.0.1.0.1
+namespace_long f g = g.1.1.0.1.0.1
 
 pub digest_long : (f : EntryFields) {vs : List Val} → Is (struct.row Rattle.entry.specs.contracts.EntryFields.the_type) f vs → length f.payload_digest ≡ 32
-digest_long f g = length_unmapped ℕ f.payload_digest 32 g.1.1.1.1.1.1.0.1.0.1
+digest_long f g = g.1.1.1.1.1.1.0.1.0.1
 
 pub subspace_long : (f : EntryFields) {vs : List Val} → Is (struct.row Rattle.entry.specs.contracts.EntryFields.the_type) f vs → length f.subspace_id ≡ 32
-subspace_long f g = length_unmapped ℕ f.subspace_id 32 g.1.1.1.0.1.0.1
+subspace_long f g = g.1.1.1.0.1.0.1

@@ -1,5 +1,5 @@
 -- What the language says of a record, from what owning one tells.
-use Rattle.codec.proofs.Prelude.{◌≡◌, List, ℕ, ◌≤◌, arith, length, Val, shadow, Is, length_unmapped}
+use Rattle.codec.proofs.Prelude.{◌≡◌, List, ℕ, ◌≤◌, arith, length, Val, shadow, Is}
 use denote.Struct.Declared as struct
 use Rattle.grouping.specs.declared.RangeEnd.{RangeEnd}
 use Rattle.grouping.specs.declared.RangeEnd.TheVariants.{Closed, Open}
@@ -20,4 +20,4 @@ typed_range t g = record { start = omega (arith, g.1.1.0.1); end = typed_end t.s
 pub typed_id : (s : AreaSubspace) {vs : List Val} → Is (struct.row Rattle.grouping.specs.contracts.AreaSubspace.the_type) s vs → (length s.id ≡ 32) × AllBytes s.id
 typed_id s g =
     let id = g.1.1.1.0 in
-    (length_unmapped ℕ s.id 32 id.1.0.1, each_byte s.id id.0 id.1.1)
+    (id.1.0.1, each_byte s.id id.0 id.1.1)

@@ -43,9 +43,9 @@ module _ {canonic : Bool} {r p : Path} {k : ℕ} (t : ToldShared canonic r p k) 
   pub compared_prefix : compared_answer compared.Yes ≡ said_if (sized r && sized p) (is_prefix (components_of r) (components_of p)) → is_prefix (components_of r) (components_of p) ≡ true
   compared_prefix e = (said_known (sized r && sized p) _ _ e).1
 
-  pub compared_other : (x : Compared) → OneOf (1 ∷ 2 ∷ []) (declared.tag_of Rattle.path.specs.contracts.Compared.the_type x)
+  pub compared_other : (x : Compared) → (x ≡ compared.Yes → ⊥)
       → compared_answer x ≡ said_if (sized r && sized p) (is_prefix (components_of r) (components_of p)) → is_prefix (components_of r) (components_of p) ≡ false
-  compared_other compared.Yes h e = absurd (⊎_elim (λ z. omega arith) (λ z. omega arith) h)
+  compared_other compared.Yes h e = absurd (h refl)
   compared_other compared.No h e = (said_known (sized r && sized p) _ _ e).1
   compared_other compared.Malformed h e = let z : true ≡ false = sym both ∙ (unsaid_known (sized r && sized p) _ _ e).0 in cc
 

@@ -128,8 +128,8 @@ refused_value_by k false i e = record { test = refl; beside = λ x y. refl }
 refused_value_by k true false e = record { test = refl; beside = λ x y. refl }
 refused_value_by k true true e = let z : ◌≡◌ {A = ℕ} 0 1 = cc in absurd (omega arith)
 
-pub not_grown : (a : Appended) → OneOf (1 ∷ 2 ∷ []) (declared.tag_of Rattle.path.specs.contracts.Appended.the_type a) → (formed inside : Bool) → appended_verdict a ≡ verdict_by formed inside → NotGrown formed inside
-not_grown appended.Grown h f i e = absurd (⊎_elim (λ e. omega arith) (λ e. omega arith) h)
+pub not_grown : (a : Appended) → (a ≡ appended.Grown → ⊥) → (formed inside : Bool) → appended_verdict a ≡ verdict_by formed inside → NotGrown formed inside
+not_grown appended.Grown h f i e = absurd (h refl)
 not_grown appended.Outside h f i e = refused_value_by 3 f i e
 not_grown appended.Malformed h f i e = refused_value_by 5 f i e
 

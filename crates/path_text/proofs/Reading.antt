@@ -115,8 +115,8 @@ push_refused b t s h = rw (refused_value_so (is_hex t) h) (record { answer = ref
     refused_value_so true h = rw (lt-leb (length (unhex t)) max_component_length (ltb-true max_component_length (length (unhex t)) h))
     refused_value_so false h = refl
 
-not_grown : (x : Appended) → OneOf (1 ∷ 2 ∷ []) (tag_of Rattle.path.specs.contracts.Appended.the_type x) → appended_verdict x ≡ allowed → ⊥
-not_grown appended.Grown k e = ⊎_elim (λ z. omega arith) (λ z. omega arith) k
+not_grown : (x : Appended) → (x ≡ appended.Grown → ⊥) → appended_verdict x ≡ allowed → ⊥
+not_grown appended.Grown k e = k refl
 not_grown appended.Outside k e = let z : ◌≡◌ {A = ℕ} 0 1 = cc in omega arith
 not_grown appended.Malformed k e = let z : ◌≡◌ {A = ℕ} 0 1 = cc in omega arith
 
@@ -130,7 +130,7 @@ module _ {b : PathBuilder} {s : List ℕ} (cs : List (List ℕ)) (e : built b s 
       let grows : Appends b (unhex t) s g left = rw h at a in
       record { hex = h; fits = fit; made = appends_built cs e (unhex t) grows fit.short fit.few fit.fits }
 
-  pub not_took : OneOf (1 ∷ 2 ∷ []) (tag_of Rattle.path.specs.contracts.Appended.the_type g.answer) → is_hex t ≡ true → Fitting (total_of cs) (length cs) (length (unhex t)) → ⊥
+  pub not_took : (g.answer ≡ appended.Grown → ⊥) → is_hex t ≡ true → Fitting (total_of cs) (length cs) (length (unhex t)) → ⊥
   not_took k h f =
       let fits = fits_after_lem b.total b.count (length (unhex t)) f.short (omega (arith, built_count cs e, f.few)) (omega (arith, built_total cs e, f.fits)) in
       not_grown g.answer k (rw (h, fits) at a.answer)

@@ -1,5 +1,5 @@
 -- What the language says of a record, from what owning one tells.
-use Rattle.codec.proofs.Prelude.{List, ℕ, Val, Is, length_unmapped}
+use Rattle.codec.proofs.Prelude.{List, ℕ, Val, Is}
 use denote.Struct.Declared as struct
 use Rattle.path.proofs.Typed.{each_byte}
 use Rattle.grouping.specs.Range.{TypedRange}
@@ -13,8 +13,8 @@ typed_subspaces s g =
     let start = g.1.1.0 in
     let end = g.1.1.1.1.0 in
     record {
-      start = (length_unmapped ℕ s.start 32 start.1.0.1, each_byte s.start start.0 start.1.1);
-      end = (length_unmapped ℕ s.end 32 end.1.0.1, each_byte s.end end.0 end.1.1);
+      start = (start.1.0.1, each_byte s.start start.0 start.1.1);
+      end = (end.1.0.1, each_byte s.end end.0 end.1.1);
     }
 
 pub typed_head : (h : Range3dHead) {vs : List Val} → Is (struct.row Rattle.range_3d.specs.contracts.Range3dHead.the_type) h vs → TypedSubspaces h.subspaces × TypedRange h.times

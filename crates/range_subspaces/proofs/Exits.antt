@@ -11,15 +11,15 @@ use Rattle.range_subspaces.specs.declared.Sources.{Sources}
 use Rattle.range_subspaces.specs.Subspaces.{source_of, is_written, id_bytes, end_bytes, subspaces_bytes, read_id, read_end, subspaces_up_to, read_subspaces}
 
 -- ---- sources by their numbers
-pub not_written : (x : IdSource) → OneOf (0 ∷ 1 ∷ 2 ∷ []) (declared.tag_of Rattle.range_subspaces.specs.contracts.IdSource.the_type x) → is_written x ≡ false
+pub not_written : (x : IdSource) → (x ≡ Written → ⊥) → is_written x ≡ false
 not_written Nowhere h = refl
 not_written Start h = refl
 not_written End h = refl
-not_written Written h = absurd (⊎_elim (λ e. omega arith) (⊎_elim (λ e. omega arith) (λ e. omega arith)) h)
+not_written Written h = absurd (h refl)
 
 some_end : (r : Range (List ℕ)) (x : IdSource) (s : List ℕ)
-    → OneOf (1 ∷ 2 ∷ 3 ∷ []) (declared.tag_of Rattle.range_subspaces.specs.contracts.IdSource.the_type x) → read_end r x s ≡ mapped some (read_id r x) s
-some_end r Nowhere s h = absurd (⊎_elim (λ e. omega arith) (⊎_elim (λ e. omega arith) (λ e. omega arith)) h)
+    → (x ≡ Nowhere → ⊥) → read_end r x s ≡ mapped some (read_id r x) s
+some_end r Nowhere s h = absurd (h refl)
 some_end r Start s h = refl
 some_end r End s h = refl
 some_end r Written s h = refl
@@ -47,7 +47,7 @@ module _ (r : Range (List ℕ)) (x : Sources) (s : List ℕ) where
     unfolding read_subspaces
     end_open f = rw (e, f, add-zero)
 
-    module _ (h : OneOf (1 ∷ 2 ∷ 3 ∷ []) (declared.tag_of Rattle.range_subspaces.specs.contracts.IdSource.the_type x.end)) where
+    module _ (h : x.end ≡ Nowhere → ⊥) where
       pub end_refused : (k : ℕ) → read_id r x.end (drop a s) ≡ refused k → mapped subspaces_from (read_subspaces r x) s ≡ refused k
       unfolding read_subspaces
       end_refused k f = rw (e, some_end r x.end (drop a s) h, f)

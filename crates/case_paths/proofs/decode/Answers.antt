@@ -1,0 +1,10 @@
+use Rattle.case_paths.proofs.decode.Goals as goal
+
+pub returns-in-Plain : goal.returns-in-Plain
+returns-in-Plain c = rw c.in-Plain.is c.decode.ensures
+
+pub returns-in-Against : goal.returns-in-Against
+returns-in-Against c = rw c.in-Against.is c.relative_decode.ensures
+
+pub returns-in-Extends : goal.returns-in-Extends
+returns-in-Extends c = rw c.in-Extends.is c.decode_path_extends_path.ensures

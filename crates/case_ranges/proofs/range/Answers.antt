@@ -1,0 +1,48 @@
+use Rattle.codec.proofs.Prelude.{◌≡◌, sym, List, Bool, not, false, cond, ℕ, drop, length-take-le}
+use Rattle.range_3d.specs.Record.{Range3d}
+use Rattle.range3d_range3d.specs.Records.{against_range, read_against_range}
+use Rattle.case_text.specs.Limits.{max_bytes}
+use Rattle.case_text.specs.declared.Asked.{Asked}
+use Rattle.case_text.specs.Texts.{six, read_text}
+use Rattle.case_text.specs.Fields.{field, Says, op_of}
+use Rattle.case_text.specs.Asking.{asking, Asks}
+use Rattle.case_text.proofs.Puts.{puts_first}
+use Rattle.case_text.proofs.Steps.{read_inside, value_inside}
+use Rattle.case_text.proofs.Ways.{Left, says_not, printed, leniently, lenient_left, left_against, left_read, left_value, left_refused}
+use Rattle.case_range_text.specs.Fields.{range_text, range_field}
+use Rattle.case_range_text.proofs.Falls.{range_falls}
+use Rattle.case_ranges.specs.Lines.{against_line, range_line}
+use Rattle.case_ranges.proofs.range.Goals as goal
+
+-- the reference was read, and what the line asks for
+left : (line : List ℕ) {ok : Bool} {a : Range3d} → Says (range_field 2 line) ok a → not ok ≡ false → {buffer : List ℕ} {x : Asked} → Asks (asking max_bytes 8 14 (op_of (field 1 line)) line) buffer x
+    → Left (λ canonic start message. cond canonic six (read_text range_text (read_against_range a (drop start message)))) range_field (against_range a) 8 line buffer x (range_line line)
+left line {a = a} s e asks =
+    left_against s e (λ a. against_line a (op_of (field 1 line)) line)
+    (lenient_left range_field range_text (against_range a) 8 14 line (range_falls 8 line) asks (read_against_range a))
+
+pub returns-then-not-reference : goal.returns-then-not-reference
+returns-then-not-reference c = says_not range_field 2 _ (λ a. against_line a (op_of (field 1 c.args.line.now)) c.args.line.now) c.read_range-reference.ensures.0 (search) search
+
+pub returns-then-canonic : goal.returns-then-canonic
+returns-then-canonic c = left_read (left c.args.line.now c.read_range-reference.ensures.0 c.if-not-reference.false c.asked-asked.ensures) c.in-Read.is (rw c.if-canonic.true search)
+
+pub slice_bounds-bytes-end : goal.slice_bounds-bytes-end
+slice_bounds-bytes-end c = read_inside c.asked-asked.ensures c.in-Read.is
+
+pub slice_bounds-relative_decode-end : goal.slice_bounds-relative_decode-end
+slice_bounds-relative_decode-end c = sym (length-take-le _ _ (read_inside c.asked-asked.ensures c.in-Read.is))
+
+pub write-requires : goal.write-requires
+write-requires c = value_inside c.asked-asked.ensures c.in-Value.is
+
+pub returns-else-canonic : goal.returns-else-canonic
+returns-else-canonic c = let f = lenient in let x = f.before.before in let q = x.before.before.before in let e = q.before.before in let r = e.before in let s = r.before.before.before in
+    left_read (left s.args.line.now r.read_range.ensures.0 e.if1.left q.asked.ensures) x.asked2.given.1
+    (leniently _ f.if2.left (printed range_text c.relative_decode-read.result.answer _ c.relative_decode-read.ensures.answer (puts_first c.print_range-k.ensures) search))
+
+pub returns-in-Value : goal.returns-in-Value
+returns-in-Value c = left_value (left c.args.line.now c.read_range-reference.ensures.0 c.if-not-reference.false c.asked-asked.ensures) c.in-Value.is search
+
+pub returns-in-Refused : goal.returns-in-Refused
+returns-in-Refused c = left_refused (left c.args.line.now c.read_range-reference.ensures.0 c.if-not-reference.false c.asked-asked.ensures) c.in-Refused.is search

@@ -1,0 +1,22 @@
+use Rattle.codec.proofs.Prelude.{arith}
+use Rattle.case_text.specs.Texts.{ok_text}
+use Rattle.case_text.proofs.Puts.{puts_then, within_full, within_fits}
+use Rattle.case_text.proofs.put.number.Goals as goal
+
+pub returns-then-free-lt-MAX_ANSWER : goal.returns-then-free-lt-MAX_ANSWER
+returns-then-free-lt-MAX_ANSWER c = within_full (omega arith)
+
+pub returns-in-Value : goal.returns-in-Value
+unfolding ok_text
+returns-in-Value c =
+    let ok = c.worded-p.ensures.0 in
+    let value = c.worded-q.ensures.0 in
+    rw c.in-Value.is (within_fits (puts_then (omega arith) (puts_then (omega arith) ok value) c.end.ensures) (omega arith))
+
+pub returns-in-EndOfInput : goal.returns-in-EndOfInput
+returns-in-EndOfInput c =
+    rw c.in-EndOfInput.is (within_fits c.no.ensures (omega arith))
+
+pub returns-in-TheirFault : goal.returns-in-TheirFault
+returns-in-TheirFault c =
+    rw c.in-TheirFault.is (within_fits c.no-in-TheirFault.ensures (omega arith))

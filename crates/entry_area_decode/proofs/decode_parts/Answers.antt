@@ -1,0 +1,282 @@
+use Rattle.codec.proofs.Prelude.{◌≡◌, sym, ap, ◌∙◌, [], ◌+◌, ◌≤◌, arith, length, drop, length-drop, drop-drop}
+use Rattle.codec.specs.Answers.{accepted, answer_of, value_in}
+use Rattle.codec.specs.Reader.{shift, mapped}
+use Rattle.codec.specs.declared.Decoded.{Decoded}
+use Rattle.codec.proofs.Answers.{gives_accepted, no_value}
+use Rattle.codec.proofs.Lending.{to_end}
+use Rattle.path.specs.Record.{Path, components_of, path_from, sized}
+use Rattle.path.specs.Flat.{path_in}
+use Rattle.path.proofs.Growing.{in_empty}
+use Rattle.path_relative.specs.Records.{read_within_by}
+use Rattle.grouping.specs.Record.{Area, subspace_of, area_of, area_with}
+use Rattle.entry.specs.Record.{entry_from}
+use Rattle.entry_area_end.specs.Header.{header_length}
+use Rattle.entry_area_end.specs.End.{read_after_path}
+use Rattle.entry_area.specs.Entry.{read_id, read_rest, read_parts}
+use Rattle.entry_area.proofs.DecodeExits.{reads_refused, parts-id, id_inside, parts_rest, within_refused, within_inside, within_end, within_whole, within_read}
+use Rattle.entry_area_decode.proofs.decode_parts.Goals as goal
+
+pub returns-in_default : goal.returns-in_default
+returns-in_default c =
+    let told2_told : goal.In-Consumed = c in
+    let id_is : let a = c.args in read_id (subspace_of a.reference.subspace) a.header.id_written a.message.now ≡ accepted c.decode_id-first.result.id c.in-Consumed.a = let r = c.decode_id-first in sym r.ensures ∙ ap (λ (d : Decoded). answer_of d r.result.id) c.in-Consumed.is in
+    let id_in : c.in-Consumed.a ≤ length c.args.message.now = id_inside c.args.canonic c.args.namespace area c.args.header c.args.message.now _ _ id_is in
+    let path : Path = path_in c.decode_path_within-path_answer.new.start.1.1.1.0 in
+    let path_is : let t = told2_told in let s = told_start t in read_within_by sized s.args.canonic (area s).path (drop t.before.answer.given.0.0 s.args.message.now) ≡ accepted path c.in-Consumed-path_answer.b = sym c.decode_path_within-path_answer.ensures.answer ∙ ap (λ (d : Decoded). answer_of d path) c.in-Consumed-path_answer.is in
+    let path_in : let t = told2_told in t.before.answer.given.0.0 + c.in-Consumed-path_answer.b ≤ length (told_start t).args.message.now = let t = told2_told in
+    let s = told_start t in
+    omega (
+      arith,
+      within_inside s.args.canonic s.args.namespace t.before.before.before.decode_id.result.id (area s).path s.pre.1 s.args.reference.times s.args.header
+          (drop t.before.answer.given.0.0 s.args.message.now) _ _ path_is,
+      length-drop t.before.answer.given.0.0 s.args.message.now,
+      id_in t,
+    ) in
+    let area : Area = area_with c.args.reference (path_in c.args.reference_path.now) in
+    let r = c.decode_id-first in
+    let x = no_value r.result.answer c.in_default.not-Consumed in
+    rw c.refuse_fields.ensures (reads_refused _ _ x.why (x.beside _) c.requires.2
+    (rw (parts-id c.args.canonic c.args.namespace area c.args.header c.args.message.now x.why (sym r.ensures ∙ x.beside _))))
+
+pub returns-in_default-path_answer : goal.returns-in_default-path_answer
+returns-in_default-path_answer c =
+    let told2_told : goal.In-Consumed = c in
+    let id_is : let a = c.args in read_id (subspace_of a.reference.subspace) a.header.id_written a.message.now ≡ accepted c.decode_id-first.result.id c.in-Consumed.a = let r = c.decode_id-first in sym r.ensures ∙ ap (λ (d : Decoded). answer_of d r.result.id) c.in-Consumed.is in
+    let id_in : c.in-Consumed.a ≤ length c.args.message.now = id_inside c.args.canonic c.args.namespace area c.args.header c.args.message.now _ _ id_is in
+    let path : Path = path_in c.decode_path_within-path_answer.new.start.1.1.1.0 in
+    let path_is : let t = told2_told in let s = told_start t in read_within_by sized s.args.canonic (area s).path (drop t.before.answer.given.0.0 s.args.message.now) ≡ accepted path c.in-Consumed-path_answer.b = sym c.decode_path_within-path_answer.ensures.answer ∙ ap (λ (d : Decoded). answer_of d path) c.in-Consumed-path_answer.is in
+    let path_in : let t = told2_told in t.before.answer.given.0.0 + c.in-Consumed-path_answer.b ≤ length (told_start t).args.message.now = let t = told2_told in
+    let s = told_start t in
+    omega (
+      arith,
+      within_inside s.args.canonic s.args.namespace t.before.before.before.decode_id.result.id (area s).path s.pre.1 s.args.reference.times s.args.header
+          (drop t.before.answer.given.0.0 s.args.message.now) _ _ path_is,
+      length-drop t.before.answer.given.0.0 s.args.message.now,
+      id_in t,
+    ) in
+    let area : Area = area_with c.args.reference (path_in c.args.reference_path.now) in
+    let rest_at : let a = c.args in shift header_length (mapped entry_from (read_parts a.canonic a.namespace (area_of area) a.header) a.message.now) ≡ shift (header_length + c.in-Consumed.a) (mapped entry_from (read_rest a.canonic a.namespace c.decode_id-first.result.id (components_of area.path) a.reference.times a.header) (drop c.in-Consumed.a a.message.now)) = parts_rest c.args.canonic c.args.namespace area c.args.header c.args.message.now _ _ id_is in
+    let t = c in
+    let s = told_start t in
+    let x = no_value c.decode_path_within-path_answer.result c.in_default-path_answer.not-Consumed-path_answer in
+    let e = sym c.decode_path_within-path_answer.ensures.answer ∙ x.beside _ in
+    rw c.refuse_fields-in_default-path_answer.ensures (reads_refused _ _ x.why (x.beside _) (c.decode_path_within-path_answer.ensures.value ∙ ap (value_in (path_from [])) e)
+    (rest_at t ∙ rw (within_refused s.args.canonic s.args.namespace t.before.before.before.decode_id.result.id (area s).path s.pre.1 s.args.reference.times s.args.header
+    (drop t.before.answer.given.0.0 s.args.message.now) x.why e)))
+
+pub overflow_add-at : goal.overflow_add-at
+overflow_add-at c =
+    let area : Area = area_with c.args.reference (path_in c.args.reference_path.now) in
+    let told2_told : goal.In-Consumed = c in
+    let id_is : let a = c.args in read_id (subspace_of a.reference.subspace) a.header.id_written a.message.now ≡ accepted c.decode_id-first.result.id c.in-Consumed.a = let r = c.decode_id-first in sym r.ensures ∙ ap (λ (d : Decoded). answer_of d r.result.id) c.in-Consumed.is in
+    let id_in : c.in-Consumed.a ≤ length c.args.message.now = id_inside c.args.canonic c.args.namespace area c.args.header c.args.message.now _ _ id_is in
+    let path : Path = path_in c.decode_path_within-path_answer.new.start.1.1.1.0 in
+    let path_is : let t = told2_told in let s = told_start t in read_within_by sized s.args.canonic (area s).path (drop t.before.answer.given.0.0 s.args.message.now) ≡ accepted path c.in-Consumed-path_answer.b = sym c.decode_path_within-path_answer.ensures.answer ∙ ap (λ (d : Decoded). answer_of d path) c.in-Consumed-path_answer.is in
+    let path_in : let t = told2_told in t.before.answer.given.0.0 + c.in-Consumed-path_answer.b ≤ length (told_start t).args.message.now = let t = told2_told in
+    let s = told_start t in
+    omega (
+      arith,
+      within_inside s.args.canonic s.args.namespace t.before.before.before.decode_id.result.id (area s).path s.pre.1 s.args.reference.times s.args.header
+          (drop t.before.answer.given.0.0 s.args.message.now) _ _ path_is,
+      length-drop t.before.answer.given.0.0 s.args.message.now,
+      id_in t,
+    ) in
+    omega (arith, path_in, c.requires.0)
+
+pub slice_bounds-relative_decode-count : goal.slice_bounds-relative_decode-count
+slice_bounds-relative_decode-count c =
+    let area : Area = area_with c.args.reference (path_in c.args.reference_path.now) in
+    let told2_told : goal.In-Consumed = c in
+    let id_is : let a = c.args in read_id (subspace_of a.reference.subspace) a.header.id_written a.message.now ≡ accepted c.decode_id-first.result.id c.in-Consumed.a = let r = c.decode_id-first in sym r.ensures ∙ ap (λ (d : Decoded). answer_of d r.result.id) c.in-Consumed.is in
+    let id_in : c.in-Consumed.a ≤ length c.args.message.now = id_inside c.args.canonic c.args.namespace area c.args.header c.args.message.now _ _ id_is in
+    let path : Path = path_in c.decode_path_within-path_answer.new.start.1.1.1.0 in
+    let path_is : let t = told2_told in let s = told_start t in read_within_by sized s.args.canonic (area s).path (drop t.before.answer.given.0.0 s.args.message.now) ≡ accepted path c.in-Consumed-path_answer.b = sym c.decode_path_within-path_answer.ensures.answer ∙ ap (λ (d : Decoded). answer_of d path) c.in-Consumed-path_answer.is in
+    let path_in : let t = told2_told in t.before.answer.given.0.0 + c.in-Consumed-path_answer.b ≤ length (told_start t).args.message.now = let t = told2_told in
+    let s = told_start t in
+    omega (
+      arith,
+      within_inside s.args.canonic s.args.namespace t.before.before.before.decode_id.result.id (area s).path s.pre.1 s.args.reference.times s.args.header
+          (drop t.before.answer.given.0.0 s.args.message.now) _ _ path_is,
+      length-drop t.before.answer.given.0.0 s.args.message.now,
+      id_in t,
+    ) in
+    path_in
+
+pub slice_bounds-relative_decode-start : goal.slice_bounds-relative_decode-start
+slice_bounds-relative_decode-start c =
+    let area : Area = area_with c.args.reference (path_in c.args.reference_path.now) in
+    let told2_told : goal.In-Consumed = c in
+    let id_is : let a = c.args in read_id (subspace_of a.reference.subspace) a.header.id_written a.message.now ≡ accepted c.decode_id-first.result.id c.in-Consumed.a = let r = c.decode_id-first in sym r.ensures ∙ ap (λ (d : Decoded). answer_of d r.result.id) c.in-Consumed.is in
+    let id_in : c.in-Consumed.a ≤ length c.args.message.now = id_inside c.args.canonic c.args.namespace area c.args.header c.args.message.now _ _ id_is in
+    let path : Path = path_in c.decode_path_within-path_answer.new.start.1.1.1.0 in
+    let path_is : let t = told2_told in let s = told_start t in read_within_by sized s.args.canonic (area s).path (drop t.before.answer.given.0.0 s.args.message.now) ≡ accepted path c.in-Consumed-path_answer.b = sym c.decode_path_within-path_answer.ensures.answer ∙ ap (λ (d : Decoded). answer_of d path) c.in-Consumed-path_answer.is in
+    let path_in : let t = told2_told in t.before.answer.given.0.0 + c.in-Consumed-path_answer.b ≤ length (told_start t).args.message.now = let t = told2_told in
+    let s = told_start t in
+    omega (
+      arith,
+      within_inside s.args.canonic s.args.namespace t.before.before.before.decode_id.result.id (area s).path s.pre.1 s.args.reference.times s.args.header
+          (drop t.before.answer.given.0.0 s.args.message.now) _ _ path_is,
+      length-drop t.before.answer.given.0.0 s.args.message.now,
+      id_in t,
+    ) in
+    omega (arith, path_in)
+
+pub returns-in_default-last_answer : goal.returns-in_default-last_answer
+returns-in_default-last_answer c =
+    let told2_told : goal.In-Consumed = c in
+    let id_is : let a = c.args in read_id (subspace_of a.reference.subspace) a.header.id_written a.message.now ≡ accepted c.decode_id-first.result.id c.in-Consumed.a = let r = c.decode_id-first in sym r.ensures ∙ ap (λ (d : Decoded). answer_of d r.result.id) c.in-Consumed.is in
+    let id_in : c.in-Consumed.a ≤ length c.args.message.now = id_inside c.args.canonic c.args.namespace area c.args.header c.args.message.now _ _ id_is in
+    let path : Path = path_in c.decode_path_within-path_answer.new.start.1.1.1.0 in
+    let path_is : let t = told2_told in let s = told_start t in read_within_by sized s.args.canonic (area s).path (drop t.before.answer.given.0.0 s.args.message.now) ≡ accepted path c.in-Consumed-path_answer.b = sym c.decode_path_within-path_answer.ensures.answer ∙ ap (λ (d : Decoded). answer_of d path) c.in-Consumed-path_answer.is in
+    let path_in : let t = told2_told in t.before.answer.given.0.0 + c.in-Consumed-path_answer.b ≤ length (told_start t).args.message.now = let t = told2_told in
+    let s = told_start t in
+    omega (
+      arith,
+      within_inside s.args.canonic s.args.namespace t.before.before.before.decode_id.result.id (area s).path s.pre.1 s.args.reference.times s.args.header
+          (drop t.before.answer.given.0.0 s.args.message.now) _ _ path_is,
+      length-drop t.before.answer.given.0.0 s.args.message.now,
+      id_in t,
+    ) in
+    let area : Area = area_with c.args.reference (path_in c.args.reference_path.now) in
+    let rest_at : let a = c.args in shift header_length (mapped entry_from (read_parts a.canonic a.namespace (area_of area) a.header) a.message.now) ≡ shift (header_length + c.in-Consumed.a) (mapped entry_from (read_rest a.canonic a.namespace c.decode_id-first.result.id (components_of area.path) a.reference.times a.header) (drop c.in-Consumed.a a.message.now)) = parts_rest c.args.canonic c.args.namespace area c.args.header c.args.message.now _ _ id_is in
+    let end_told : let t = told2_told in let a = (told_start t).args in answer_of c.relative_decode-last.result.answer c.relative_decode-last.result.end ≡ read_after_path a.canonic a.reference.times a.header (drop c.in-Consumed-path_answer.b (drop t.before.answer.given.0.0 a.message.now)) = let t = told2_told in
+    let a = (told_start t).args in
+    rw drop-drop (rw (to_end (t.before.answer.given.0.0 + c.in-Consumed-path_answer.b) a.message.now) at c.relative_decode-last.ensures.answer) in
+    let u = c in
+    let t = told2_told u in
+    let s = told_start t in
+    let x = no_value c.relative_decode-last.result.answer c.in_default-last_answer.not-Consumed-last_answer in
+    rw c.refuse_fields-in_default-last_answer.ensures (reads_refused _ _ x.why (x.beside _) (ap path_in c.clear.ensures ∙ in_empty)
+    (rest_at t ∙ rw (within_end s.args.canonic s.args.namespace t.before.before.before.decode_id.result.id (area s).path s.pre.1 s.args.reference.times s.args.header
+    (drop t.before.answer.given.0.0 s.args.message.now) _ _ (path_is u) x.why (sym end_told ∙ x.beside _))))
+
+pub overflow_add-result : goal.overflow_add-result
+overflow_add-result c =
+    let told2_told : goal.In-Consumed = c in
+    let told3_start : goal.Start = told_start told2_told in
+    let id_is : let a = c.args in read_id (subspace_of a.reference.subspace) a.header.id_written a.message.now ≡ accepted c.decode_id-first.result.id c.in-Consumed.a = let r = c.decode_id-first in sym r.ensures ∙ ap (λ (d : Decoded). answer_of d r.result.id) c.in-Consumed.is in
+    let id_in : c.in-Consumed.a ≤ length c.args.message.now = id_inside c.args.canonic c.args.namespace area c.args.header c.args.message.now _ _ id_is in
+    let path : Path = path_in c.decode_path_within-path_answer.new.start.1.1.1.0 in
+    let path_is : let t = told2_told in let s = told_start t in read_within_by sized s.args.canonic (area s).path (drop t.before.answer.given.0.0 s.args.message.now) ≡ accepted path c.in-Consumed-path_answer.b = sym c.decode_path_within-path_answer.ensures.answer ∙ ap (λ (d : Decoded). answer_of d path) c.in-Consumed-path_answer.is in
+    let path_in : let t = told2_told in t.before.answer.given.0.0 + c.in-Consumed-path_answer.b ≤ length (told_start t).args.message.now = let t = told2_told in
+    let s = told_start t in
+    omega (
+      arith,
+      within_inside s.args.canonic s.args.namespace t.before.before.before.decode_id.result.id (area s).path s.pre.1 s.args.reference.times s.args.header
+          (drop t.before.answer.given.0.0 s.args.message.now) _ _ path_is,
+      length-drop t.before.answer.given.0.0 s.args.message.now,
+      id_in t,
+    ) in
+    let area : Area = area_with c.args.reference (path_in c.args.reference_path.now) in
+    let end_told : let t = told2_told in let a = (told_start t).args in answer_of c.relative_decode-last.result.answer c.relative_decode-last.result.end ≡ read_after_path a.canonic a.reference.times a.header (drop c.in-Consumed-path_answer.b (drop t.before.answer.given.0.0 a.message.now)) = let t = told2_told in
+    let a = (told_start t).args in
+    rw drop-drop (rw (to_end (t.before.answer.given.0.0 + c.in-Consumed-path_answer.b) a.message.now) at c.relative_decode-last.ensures.answer) in
+    let end_is : let u = c in let t = told2_told u in let a = (told_start t).args in read_after_path a.canonic a.reference.times a.header (drop u.before.path_answer.given.0.0 (drop t.before.answer.given.0.0 a.message.now)) ≡ accepted c.relative_decode-last.result.end c.in-Consumed-last_answer.c = sym end_told ∙ ap (λ (d : Decoded). answer_of d c.relative_decode-last.result.end) c.in-Consumed-last_answer.is in
+    let inside : let u = c in let t = told2_told u in t.before.answer.given.0.0 + (u.before.path_answer.given.0.0 + c.in-Consumed-last_answer.c) ≤ length (told_start t).args.message.now = let u = c in
+    let t = told2_told u in
+    let s = told_start t in
+    omega (
+      arith,
+      within_whole s.args.canonic s.args.namespace t.before.before.before.decode_id.result.id (area s).path s.pre.1 s.args.reference.times s.args.header
+          (drop t.before.answer.given.0.0 s.args.message.now) _ _ (path_is u) _ _ end_is,
+      length-drop t.before.answer.given.0.0 s.args.message.now,
+      id_in t,
+    ) in
+    omega (arith, inside, told3_start.pre.0)
+
+pub overflow_add-result-2 : goal.overflow_add-result-2
+overflow_add-result-2 c =
+    let told2_told : goal.In-Consumed = c in
+    let told3_start : goal.Start = told_start told2_told in
+    let id_is : let a = c.args in read_id (subspace_of a.reference.subspace) a.header.id_written a.message.now ≡ accepted c.decode_id-first.result.id c.in-Consumed.a = let r = c.decode_id-first in sym r.ensures ∙ ap (λ (d : Decoded). answer_of d r.result.id) c.in-Consumed.is in
+    let id_in : c.in-Consumed.a ≤ length c.args.message.now = id_inside c.args.canonic c.args.namespace area c.args.header c.args.message.now _ _ id_is in
+    let path : Path = path_in c.decode_path_within-path_answer.new.start.1.1.1.0 in
+    let path_is : let t = told2_told in let s = told_start t in read_within_by sized s.args.canonic (area s).path (drop t.before.answer.given.0.0 s.args.message.now) ≡ accepted path c.in-Consumed-path_answer.b = sym c.decode_path_within-path_answer.ensures.answer ∙ ap (λ (d : Decoded). answer_of d path) c.in-Consumed-path_answer.is in
+    let path_in : let t = told2_told in t.before.answer.given.0.0 + c.in-Consumed-path_answer.b ≤ length (told_start t).args.message.now = let t = told2_told in
+    let s = told_start t in
+    omega (
+      arith,
+      within_inside s.args.canonic s.args.namespace t.before.before.before.decode_id.result.id (area s).path s.pre.1 s.args.reference.times s.args.header
+          (drop t.before.answer.given.0.0 s.args.message.now) _ _ path_is,
+      length-drop t.before.answer.given.0.0 s.args.message.now,
+      id_in t,
+    ) in
+    let area : Area = area_with c.args.reference (path_in c.args.reference_path.now) in
+    let end_told : let t = told2_told in let a = (told_start t).args in answer_of c.relative_decode-last.result.answer c.relative_decode-last.result.end ≡ read_after_path a.canonic a.reference.times a.header (drop c.in-Consumed-path_answer.b (drop t.before.answer.given.0.0 a.message.now)) = let t = told2_told in
+    let a = (told_start t).args in
+    rw drop-drop (rw (to_end (t.before.answer.given.0.0 + c.in-Consumed-path_answer.b) a.message.now) at c.relative_decode-last.ensures.answer) in
+    let end_is : let u = c in let t = told2_told u in let a = (told_start t).args in read_after_path a.canonic a.reference.times a.header (drop u.before.path_answer.given.0.0 (drop t.before.answer.given.0.0 a.message.now)) ≡ accepted c.relative_decode-last.result.end c.in-Consumed-last_answer.c = sym end_told ∙ ap (λ (d : Decoded). answer_of d c.relative_decode-last.result.end) c.in-Consumed-last_answer.is in
+    let inside : let u = c in let t = told2_told u in t.before.answer.given.0.0 + (u.before.path_answer.given.0.0 + c.in-Consumed-last_answer.c) ≤ length (told_start t).args.message.now = let u = c in
+    let t = told2_told u in
+    let s = told_start t in
+    omega (
+      arith,
+      within_whole s.args.canonic s.args.namespace t.before.before.before.decode_id.result.id (area s).path s.pre.1 s.args.reference.times s.args.header
+          (drop t.before.answer.given.0.0 s.args.message.now) _ _ (path_is u) _ _ end_is,
+      length-drop t.before.answer.given.0.0 s.args.message.now,
+      id_in t,
+    ) in
+    omega (arith, inside, told3_start.pre.0)
+
+pub overflow_add-result-3 : goal.overflow_add-result-3
+overflow_add-result-3 c =
+    let told2_told : goal.In-Consumed = c in
+    let told3_start : goal.Start = told_start told2_told in
+    let id_is : let a = c.args in read_id (subspace_of a.reference.subspace) a.header.id_written a.message.now ≡ accepted c.decode_id-first.result.id c.in-Consumed.a = let r = c.decode_id-first in sym r.ensures ∙ ap (λ (d : Decoded). answer_of d r.result.id) c.in-Consumed.is in
+    let id_in : c.in-Consumed.a ≤ length c.args.message.now = id_inside c.args.canonic c.args.namespace area c.args.header c.args.message.now _ _ id_is in
+    let path : Path = path_in c.decode_path_within-path_answer.new.start.1.1.1.0 in
+    let path_is : let t = told2_told in let s = told_start t in read_within_by sized s.args.canonic (area s).path (drop t.before.answer.given.0.0 s.args.message.now) ≡ accepted path c.in-Consumed-path_answer.b = sym c.decode_path_within-path_answer.ensures.answer ∙ ap (λ (d : Decoded). answer_of d path) c.in-Consumed-path_answer.is in
+    let path_in : let t = told2_told in t.before.answer.given.0.0 + c.in-Consumed-path_answer.b ≤ length (told_start t).args.message.now = let t = told2_told in
+    let s = told_start t in
+    omega (
+      arith,
+      within_inside s.args.canonic s.args.namespace t.before.before.before.decode_id.result.id (area s).path s.pre.1 s.args.reference.times s.args.header
+          (drop t.before.answer.given.0.0 s.args.message.now) _ _ path_is,
+      length-drop t.before.answer.given.0.0 s.args.message.now,
+      id_in t,
+    ) in
+    let area : Area = area_with c.args.reference (path_in c.args.reference_path.now) in
+    let end_told : let t = told2_told in let a = (told_start t).args in answer_of c.relative_decode-last.result.answer c.relative_decode-last.result.end ≡ read_after_path a.canonic a.reference.times a.header (drop c.in-Consumed-path_answer.b (drop t.before.answer.given.0.0 a.message.now)) = let t = told2_told in
+    let a = (told_start t).args in
+    rw drop-drop (rw (to_end (t.before.answer.given.0.0 + c.in-Consumed-path_answer.b) a.message.now) at c.relative_decode-last.ensures.answer) in
+    let end_is : let u = c in let t = told2_told u in let a = (told_start t).args in read_after_path a.canonic a.reference.times a.header (drop u.before.path_answer.given.0.0 (drop t.before.answer.given.0.0 a.message.now)) ≡ accepted c.relative_decode-last.result.end c.in-Consumed-last_answer.c = sym end_told ∙ ap (λ (d : Decoded). answer_of d c.relative_decode-last.result.end) c.in-Consumed-last_answer.is in
+    let inside : let u = c in let t = told2_told u in t.before.answer.given.0.0 + (u.before.path_answer.given.0.0 + c.in-Consumed-last_answer.c) ≤ length (told_start t).args.message.now = let u = c in
+    let t = told2_told u in
+    let s = told_start t in
+    omega (
+      arith,
+      within_whole s.args.canonic s.args.namespace t.before.before.before.decode_id.result.id (area s).path s.pre.1 s.args.reference.times s.args.header
+          (drop t.before.answer.given.0.0 s.args.message.now) _ _ (path_is u) _ _ end_is,
+      length-drop t.before.answer.given.0.0 s.args.message.now,
+      id_in t,
+    ) in
+    omega (arith, inside, told3_start.pre.0)
+
+pub returns : goal.returns
+returns c =
+    let told2_told : goal.In-Consumed = c in
+    let id_is : let a = c.args in read_id (subspace_of a.reference.subspace) a.header.id_written a.message.now ≡ accepted c.decode_id-first.result.id c.in-Consumed.a = let r = c.decode_id-first in sym r.ensures ∙ ap (λ (d : Decoded). answer_of d r.result.id) c.in-Consumed.is in
+    let id_in : c.in-Consumed.a ≤ length c.args.message.now = id_inside c.args.canonic c.args.namespace area c.args.header c.args.message.now _ _ id_is in
+    let path : Path = path_in c.decode_path_within-path_answer.new.start.1.1.1.0 in
+    let path_is : let t = told2_told in let s = told_start t in read_within_by sized s.args.canonic (area s).path (drop t.before.answer.given.0.0 s.args.message.now) ≡ accepted path c.in-Consumed-path_answer.b = sym c.decode_path_within-path_answer.ensures.answer ∙ ap (λ (d : Decoded). answer_of d path) c.in-Consumed-path_answer.is in
+    let path_in : let t = told2_told in t.before.answer.given.0.0 + c.in-Consumed-path_answer.b ≤ length (told_start t).args.message.now = let t = told2_told in
+    let s = told_start t in
+    omega (
+      arith,
+      within_inside s.args.canonic s.args.namespace t.before.before.before.decode_id.result.id (area s).path s.pre.1 s.args.reference.times s.args.header
+          (drop t.before.answer.given.0.0 s.args.message.now) _ _ path_is,
+      length-drop t.before.answer.given.0.0 s.args.message.now,
+      id_in t,
+    ) in
+    let area : Area = area_with c.args.reference (path_in c.args.reference_path.now) in
+    let rest_at : let a = c.args in shift header_length (mapped entry_from (read_parts a.canonic a.namespace (area_of area) a.header) a.message.now) ≡ shift (header_length + c.in-Consumed.a) (mapped entry_from (read_rest a.canonic a.namespace c.decode_id-first.result.id (components_of area.path) a.reference.times a.header) (drop c.in-Consumed.a a.message.now)) = parts_rest c.args.canonic c.args.namespace area c.args.header c.args.message.now _ _ id_is in
+    let end_told : let t = told2_told in let a = (told_start t).args in answer_of c.relative_decode-last.result.answer c.relative_decode-last.result.end ≡ read_after_path a.canonic a.reference.times a.header (drop c.in-Consumed-path_answer.b (drop t.before.answer.given.0.0 a.message.now)) = let t = told2_told in
+    let a = (told_start t).args in
+    rw drop-drop (rw (to_end (t.before.answer.given.0.0 + c.in-Consumed-path_answer.b) a.message.now) at c.relative_decode-last.ensures.answer) in
+    let end_is : let u = c in let t = told2_told u in let a = (told_start t).args in read_after_path a.canonic a.reference.times a.header (drop u.before.path_answer.given.0.0 (drop t.before.answer.given.0.0 a.message.now)) ≡ accepted c.relative_decode-last.result.end c.in-Consumed-last_answer.c = sym end_told ∙ ap (λ (d : Decoded). answer_of d c.relative_decode-last.result.end) c.in-Consumed-last_answer.is in
+    let u = c in
+    let t = told2_told u in
+    let s = told_start t in
+    gives_accepted (rest_at t ∙ ap (shift (header_length + t.before.answer.given.0.0))
+    (within_read s.args.canonic s.args.namespace t.before.before.before.decode_id.result.id (area s).path s.pre.1 s.args.reference.times s.args.header
+    (drop t.before.answer.given.0.0 s.args.message.now) _ _ (path_is u) _ _ end_is))

@@ -1,0 +1,10 @@
+use Rattle.codec.proofs.Prelude.{ap, ◌∙◌}
+use Rattle.entry_area_end.specs.Header.{pack_header}
+use Rattle.entry_area_end.proofs.HeaderLayout.{header_fits}
+use Rattle.entry_area_end.proofs.header_byte.Goals as goal
+
+pub pack-requires : goal.pack-requires
+pack-requires c = rw c.header_of.ensures (header_fits c.args.id_written c.args.times c.args.time c.args.size)
+
+pub returns : goal.returns
+returns c = c.pack.ensures ∙ ap pack_header c.header_of.ensures

@@ -1,0 +1,12 @@
+use Rattle.codec.proofs.Prelude.{arith}
+use Rattle.range_times.proofs.Exits.{times_open, times_closed}
+use Rattle.range_times.proofs.relative_len_of_encoding.Goals as goal
+
+pub returns-in_default : goal.returns-in_default
+returns-in_default c =
+    let n = c.relative_len_of_encoding.ensures in
+    (rw (times_open c.args.reference c.args.times c.in_default.is, ← c.nearest-first.ensures) n.0, omega (arith, n.1))
+
+pub returns : goal.returns
+returns c =
+    rw (times_closed c.args.reference c.args.times _ c.in-Closed.is, ← c.nearest-first.ensures, ← c.nearest-last.ensures) c.relative_len_of_pair.ensures
