@@ -56,3 +56,27 @@ shape_of-buffer c =
     let n = c.relative_len_of_encoding-a in
     let inside : header_length + n.result ≤ length first = omega (arith, first_long, room, n.ensures.0) in
     put_end_long (header_length + n.result) first c.relative_encode-2.new.buffer inside c.relative_encode-2.auto.buffer ∙ first_long
+
+pub returns : goal.returns
+returns c =
+    let headed : List ℕ = set c.args.buffer.now 0 c.pack_tags.result in
+    let first : List ℕ = put_mid header_length (length headed - header_length) headed c.relative_encode.new.buffer in
+    let room : header_length + (length (number_bytes total_width c.args.total) + length (number_bytes count_width c.args.count)) ≤ length c.args.buffer.now = omega (arith, sizes_long (sizes_from c.args.total c.args.count), c.requires) in
+    let first_is : first ≡ over (pack_tags (tags_of (sizes_from c.args.total c.args.count)) ∷ number_bytes total_width c.args.total) c.args.buffer.now = let a = c.args in
+    let w = c.relative_encode in
+    let number = rw (to_end header_length headed) at w.ensures.1 in
+    let tags : c.pack_tags.result
+    ≡ pack_tags (tags_of (sizes_from a.total a.count)) = c.pack_tags.ensures
+    ∙ rw (c.min_tag.ensures, c.min_tag-2.ensures) in
+    put_end header_length headed w.new.buffer ∙ rw (number, ← tags)
+    (cons_put a.buffer.now (number_bytes total_width a.total) c.pack_tags.result
+    (omega (arith, room))) in
+    let a = c.args in
+    let n = c.relative_len_of_encoding-a in
+    let m = c.relative_len_of_encoding in
+    let at = header_length + n.result in
+    let w = c.relative_encode-2 in
+    let second = rw (to_end at first) at w.ensures.1 in (
+      omega (arith, sizes_long (sizes_from a.total a.count), n.ensures.0, m.ensures.0),
+      put_end at first w.new.buffer ∙ rw (second, first_is) (sizes_put a.buffer.now a.total a.count at (omega (arith, n.ensures.0)) c.requires),
+    )

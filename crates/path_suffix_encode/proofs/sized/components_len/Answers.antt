@@ -26,11 +26,38 @@ overflow_add-i c =
     let few : c.count-n.result ≤ max_component_count = omega (arith, c.loop-i.invariant.0, here.well.count) in
     omega (arith, few)
 
+pub overflow_add-t : goal.overflow_add-t
+overflow_add-t c =
+    let here : Formed (path_in c.args.path.now) = sized_formed c.requires.fits in
+    let len_is : c.component_len-len.result ≡ length_at (path_in c.args.path.now) c.loop-i.i = c.component_len-len.ensures ∙ lent_known _ here 0 (λ p. length_at p c.loop-i.i) in
+    let turn : c.loop-i.t + (c.len_of_encoding.result + c.component_len-len.result) + length (component_bytes (drop (c.loop-i.i + 1) (components_of (path_in c.args.path.now)))) ≡ length (component_bytes (drop c.args.k (components_of (path_in c.args.path.now)))) = let l = c.loop-i in
+    let one = one_more_long (path_in c.args.path.now) here l.i (omega (arith, l.invariant.0)) (omega (arith, c.loop-i-test.true, l.invariant.0)) in
+    omega (arith, rw (← len_is) at one, c.len_of_encoding.ensures.0, l.invariant.2) in
+    omega (arith, turn, some_short _ here c.args.k)
+
+pub overflow_add-t-in-loop-i : goal.overflow_add-t-in-loop-i
+overflow_add-t-in-loop-i c =
+    let here : Formed (path_in c.args.path.now) = sized_formed c.requires.fits in
+    let len_is : c.component_len-len.result ≡ length_at (path_in c.args.path.now) c.loop-i.i = c.component_len-len.ensures ∙ lent_known _ here 0 (λ p. length_at p c.loop-i.i) in
+    let turn : c.loop-i.t + (c.len_of_encoding.result + c.component_len-len.result) + length (component_bytes (drop (c.loop-i.i + 1) (components_of (path_in c.args.path.now)))) ≡ length (component_bytes (drop c.args.k (components_of (path_in c.args.path.now)))) = let l = c.loop-i in
+    let one = one_more_long (path_in c.args.path.now) here l.i (omega (arith, l.invariant.0)) (omega (arith, c.loop-i-test.true, l.invariant.0)) in
+    omega (arith, rw (← len_is) at one, c.len_of_encoding.ensures.0, l.invariant.2) in
+    omega (arith, turn, some_short _ here c.args.k)
+
 pub overflow_add-i-in-loop-i : goal.overflow_add-i-in-loop-i
 overflow_add-i-in-loop-i c =
     let here : Formed (path_in c.args.path.now) = sized_formed c.requires.fits in
     let few : c.count-n.result ≤ max_component_count = omega (arith, c.loop-i.invariant.0, here.well.count) in
     omega (arith, few)
+
+pub loop-i-preserved : goal.loop-i-preserved
+loop-i-preserved c =
+    let here : Formed (path_in c.args.path.now) = sized_formed c.requires.fits in
+    let len_is : c.component_len-len.result ≡ length_at (path_in c.args.path.now) c.loop-i.i = c.component_len-len.ensures ∙ lent_known _ here 0 (λ p. length_at p c.loop-i.i) in
+    let turn : c.loop-i.t + (c.len_of_encoding.result + c.component_len-len.result) + length (component_bytes (drop (c.loop-i.i + 1) (components_of (path_in c.args.path.now)))) ≡ length (component_bytes (drop c.args.k (components_of (path_in c.args.path.now)))) = let l = c.loop-i in
+    let one = one_more_long (path_in c.args.path.now) here l.i (omega (arith, l.invariant.0)) (omega (arith, c.loop-i-test.true, l.invariant.0)) in
+    omega (arith, rw (← len_is) at one, c.len_of_encoding.ensures.0, l.invariant.2) in
+    (c.loop-i.invariant.0, omega arith, turn)
 
 pub overflow_add-result : goal.overflow_add-result
 overflow_add-result c =

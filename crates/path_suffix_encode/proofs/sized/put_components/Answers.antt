@@ -119,9 +119,9 @@ loop-i-preserved c =
       more = omega (arith, c.loop-i-test.true);
       source = l.invariant.source;
       start = omega (arith, l.invariant.start, len_is, next_start p here l.i here_more);
-      long = put_end_long l.at l.buffer w.new.0 inside w.auto.0 ∙ l.invariant.long;
+      long = put_end_long l.at l.buffer w.new.buffer inside w.auto.buffer ∙ l.invariant.long;
       room = omega (arith, n, room_turn, l.invariant.room);
-      same = l.invariant.same ∙ rw (put_end l.at l.buffer w.new.0, bytes, n, all)
+      same = l.invariant.same ∙ rw (put_end l.at l.buffer w.new.buffer, bytes, n, all)
           (over_turn l.buffer (sized_bytes (bytes_at p l.i)) (left c.args.path.now (l.i + 1)) l.at inside);
     }
 
@@ -179,4 +179,4 @@ returns c =
     let l = c.loop-i in
     let w = c.put in
     let bytes = rw (part _ len_is2, to_end l.at l.buffer) at w.ensures.1 in
-    put_end l.at l.buffer w.new.0 ∙ rw bytes (sym (l.invariant.same ∙ rw last))
+    put_end l.at l.buffer w.new.buffer ∙ rw bytes (sym (l.invariant.same ∙ rw last))

@@ -6,7 +6,7 @@ use Rattle.path.specs.Flat.{path_in}
 use Rattle.path_suffix.specs.Suffix.{component_bytes}
 use Rattle.path_suffix_encode.proofs.sized.put_components.Given as goal
 
-pub abbrev left : List ℕ → ℕ → List ℕ
+abbrev pub left : List ℕ → ℕ → List ℕ
 left path i = component_bytes (drop i (components_of (path_in path)))
 
 pub record Turn (path : List ℕ) (k n : ℕ) (bytes before after : List ℕ) (from at i : ℕ) : Type 0 where

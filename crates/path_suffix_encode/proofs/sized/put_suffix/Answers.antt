@@ -49,7 +49,7 @@ put_components-requires c =
     let first : c.put_sizes-a.result ≡ length (sizes_bytes (sizes_of suffix)) = c.put_sizes-a.ensures.0 ∙ ap (λ (h : Sizes). length (sizes_bytes h)) sizes in
     let parts : length (sizes_bytes (sizes_of suffix)) + length (component_bytes suffix) ≤ length c.args.buffer.now = omega (arith, suffix_parts suffix, c.requires.1) in
     let h = c.put_sizes-a in
-    (c.requires.0, rw (to_end h.result h.last.0, length-drop) (omega (arith, h.kept.0, first, parts)))
+    (c.requires.0, rw (to_end h.result h.new.buffer, length-drop) (omega (arith, h.auto.buffer, first, parts)))
 
 pub shape_of-buffer : goal.shape_of-buffer
 shape_of-buffer c =
@@ -60,7 +60,7 @@ shape_of-buffer c =
     let parts : length (sizes_bytes (sizes_of suffix)) + length (component_bytes suffix) ≤ length c.args.buffer.now = omega (arith, suffix_parts suffix, c.requires.1) in
     let h = c.put_sizes-a in
     let w = c.put_components in
-    put_end_long h.result h.last.0 w.new.0 (omega (arith, h.kept.0, first, parts)) w.auto.0 ∙ h.kept.0
+    put_end_long h.result h.new.buffer w.new.buffer (omega (arith, h.auto.buffer, first, parts)) w.auto.buffer ∙ h.auto.buffer
 
 pub returns : goal.returns
 returns c =
@@ -71,6 +71,6 @@ returns c =
     let l = c.args.buffer.now in
     let h = c.put_sizes-a in
     let w = c.put_components in
-    let rest = rw (to_end h.result h.last.0) at w.ensures in
+    let rest = rw (to_end h.result h.new.buffer) at w.ensures in
     let start = h.ensures.1 ∙ ap (λ (x : Sizes). over (sizes_bytes x) l) sizes in
-    put_end h.result h.last.0 w.new.0 ∙ rw (rest, start, first) (suffix_put l suffix)
+    put_end h.result h.new.buffer w.new.buffer ∙ rw (rest, start, first) (suffix_put l suffix)
