@@ -19,19 +19,12 @@ use Rattle.area_area.proofs.Subspace.{subspace_bounded}
 use Rattle.area_area.proofs.DecodeExits.{reads_refused, tested_inside, tested_subspace, tested_times, tested_path, tested_read}
 use Rattle.area_area_decode.proofs.decode_parts.Goals as goal
 
--- the reference was tested
-id_formed : (s : goal.Start) → well_formed_subspace (reference s).subspace ≡ true
-unfolding well_formed_area
-id_formed s = and_left _ (well_formed (reference s).path) s.requires.0
-
-fits : (s : goal.Start) → sized (reference s).path ≡ true
-unfolding well_formed_area
-fits s = well_sized _ (and_right (well_formed_subspace (reference s).subspace) (well_formed (reference s).path) s.requires.0)
-
 pub decode_subspace-first-requires : goal.decode_subspace-first-requires
+unfolding well_formed_area
 decode_subspace-first-requires c =
-    let s : goal.Start = search in
-    id_formed s
+    let reference : Area = area_with c.args.reference (path_in c.args.reference_path.now) in
+    let id_formed : well_formed_subspace reference.subspace ≡ true = and_left _ (well_formed reference.path) c.requires.0 in
+    id_formed
 
 pub returns-in_default : goal.returns-in_default
 returns-in_default c =
@@ -112,6 +105,7 @@ slice_bounds-rest-start c =
     omega (arith, times_inside)
 
 pub returns-in_default-answer : goal.returns-in_default-answer
+unfolding well_formed_area
 returns-in_default-answer c =
     let reference : Area = area_with c.args.reference (path_in c.args.reference_path.now) in
     let told2_start : goal.Start = c in
@@ -121,17 +115,18 @@ returns-in_default-answer c =
     let told2_bytes : ℕ = c.in-Consumed-second_answer.b in
     let times_told : let a = c.args in answer_of c.relative_decode-second.result.answer c.relative_decode-second.result.times ≡ read_times a.canonic a.reference.times a.header (drop told_bytes a.message.now) = rw (to_end told_bytes c.args.message.now) at c.relative_decode-second.ensures.answer in
     let times_are : let a = told2_start.args in read_times a.canonic a.reference.times a.header (drop told_bytes a.message.now) ≡ accepted c.relative_decode-second.result.times told2_bytes = sym times_told ∙ ap (λ (d : Decoded). answer_of d c.relative_decode-second.result.times) c.in-Consumed-second_answer.is in
+    let fits : sized reference.path ≡ true = well_sized _ (and_right (well_formed_subspace reference.subspace) (well_formed reference.path) c.requires.0) in
     let path : Path = path_in c.decode_path_extends_path-answer.new.start.1.1.1.0 in
     let path_told : let a = told2_start.args in Gives (path_from []) c.decode_path_extends_path-answer.result path (mapped path_from (read_extension a.canonic (components_of (path_in a.reference_path.now))) (drop (told_bytes + told2_bytes) a.message.now)) = let s = told2_start in
     rw (to_end (told_bytes + told2_bytes) s.args.message.now, fits s) at c.decode_path_extends_path-answer.ensures in
-    let t = c in
     let s = read_start in
     let x = no_value c.decode_path_extends_path-answer.result c.in_default-answer.not-Consumed-answer in
     let none = sym path_told.answer ∙ x.beside _ in
     rw c.refuse_head-in_default-answer.ensures (reads_refused _ _ x.why (path_told.value ∙ ap (value_in (path_from [])) none) (x.beside _)
-    (rw (tested_path s.args.canonic (reference s) s.args.header s.args.message.now _ _ (subspace_is (told2_told t)) _ _ (times_are t) x.why none)))
+    (rw (tested_path s.args.canonic (reference s) s.args.header s.args.message.now _ _ subspace_is _ _ times_are x.why none)))
 
 pub overflow_add-result : goal.overflow_add-result
+unfolding well_formed_area
 overflow_add-result c =
     let reference : Area = area_with c.args.reference (path_in c.args.reference_path.now) in
     let told_bytes : ℕ = c.in-Consumed.a in
@@ -142,18 +137,19 @@ overflow_add-result c =
     let subspace_is : let a = c.args in mapped subspace_from (read_subspace a.canonic (subspace_of a.reference.subspace) a.header.id_written) a.message.now ≡ accepted c.decode_subspace-first.result.subspace told_bytes = sym c.decode_subspace-first.ensures ∙ ap (λ (d : Decoded). answer_of d c.decode_subspace-first.result.subspace) c.in-Consumed.is in
     let times_told : let a = c.args in answer_of c.relative_decode-second.result.answer c.relative_decode-second.result.times ≡ read_times a.canonic a.reference.times a.header (drop told_bytes a.message.now) = rw (to_end told_bytes c.args.message.now) at c.relative_decode-second.ensures.answer in
     let times_are : let a = told2_start.args in read_times a.canonic a.reference.times a.header (drop told_bytes a.message.now) ≡ accepted c.relative_decode-second.result.times told2_bytes = sym times_told ∙ ap (λ (d : Decoded). answer_of d c.relative_decode-second.result.times) c.in-Consumed-second_answer.is in
+    let fits : sized reference.path ≡ true = well_sized _ (and_right (well_formed_subspace reference.subspace) (well_formed reference.path) c.requires.0) in
     let path_told : let a = told2_start.args in Gives (path_from []) c.decode_path_extends_path-answer.result path (mapped path_from (read_extension a.canonic (components_of (path_in a.reference_path.now))) (drop (told_bytes + told2_bytes) a.message.now)) = let s = told2_start in
     rw (to_end (told_bytes + told2_bytes) s.args.message.now, fits s) at c.decode_path_extends_path-answer.ensures in
-    let area_is : let t = c in let s = read_start in mapped area_from (read_parts s.args.canonic (area_of (reference s)) s.args.header) s.args.message.now ≡ accepted (area_with (record { subspace = (told2_told t).before.before.before.decode_subspace.result.subspace; times = t.before.before.before.relative_decode.result.times }) path) (told_bytes (told2_told t) + (told2_bytes t + c.in-Consumed-answer.c)) = let t = c in
-    let s = read_start in
-    tested_read s.args.canonic (reference s) s.args.header s.args.message.now _ _ (subspace_is (told2_told t)) _ _ (times_are t) _ _
+    let area_is : let s = read_start in mapped area_from (read_parts s.args.canonic (area_of (reference s)) s.args.header) s.args.message.now ≡ accepted (area_with (record { subspace = c.decode_subspace-first.result.subspace; times = c.relative_decode-second.result.times }) path) (told_bytes + (told2_bytes + c.in-Consumed-answer.c)) = let s = read_start in
+    tested_read s.args.canonic (reference s) s.args.header s.args.message.now _ _ subspace_is _ _ times_are _ _
     (sym path_told.answer ∙ ap (λ (d : Decoded). answer_of d path) c.in-Consumed-answer.is) in
-    let inside : let t = c in told_bytes (told2_told t) + (told2_bytes t + c.in-Consumed-answer.c) ≤ length read_start.args.message.now = let s = read_start in
+    let inside : told_bytes + (told2_bytes + c.in-Consumed-answer.c) ≤ length read_start.args.message.now = let s = read_start in
     tested_inside s.args.canonic (reference s) s.args.header s.args.message.now _ _ area_is in
     let small : header_length + length read_start.args.message.now < 2 ^ 64 = read_start.requires.2 in
     omega (arith, inside, small)
 
 pub overflow_add-result-2 : goal.overflow_add-result-2
+unfolding well_formed_area
 overflow_add-result-2 c =
     let reference : Area = area_with c.args.reference (path_in c.args.reference_path.now) in
     let told_bytes : ℕ = c.in-Consumed.a in
@@ -164,18 +160,19 @@ overflow_add-result-2 c =
     let subspace_is : let a = c.args in mapped subspace_from (read_subspace a.canonic (subspace_of a.reference.subspace) a.header.id_written) a.message.now ≡ accepted c.decode_subspace-first.result.subspace told_bytes = sym c.decode_subspace-first.ensures ∙ ap (λ (d : Decoded). answer_of d c.decode_subspace-first.result.subspace) c.in-Consumed.is in
     let times_told : let a = c.args in answer_of c.relative_decode-second.result.answer c.relative_decode-second.result.times ≡ read_times a.canonic a.reference.times a.header (drop told_bytes a.message.now) = rw (to_end told_bytes c.args.message.now) at c.relative_decode-second.ensures.answer in
     let times_are : let a = told2_start.args in read_times a.canonic a.reference.times a.header (drop told_bytes a.message.now) ≡ accepted c.relative_decode-second.result.times told2_bytes = sym times_told ∙ ap (λ (d : Decoded). answer_of d c.relative_decode-second.result.times) c.in-Consumed-second_answer.is in
+    let fits : sized reference.path ≡ true = well_sized _ (and_right (well_formed_subspace reference.subspace) (well_formed reference.path) c.requires.0) in
     let path_told : let a = told2_start.args in Gives (path_from []) c.decode_path_extends_path-answer.result path (mapped path_from (read_extension a.canonic (components_of (path_in a.reference_path.now))) (drop (told_bytes + told2_bytes) a.message.now)) = let s = told2_start in
     rw (to_end (told_bytes + told2_bytes) s.args.message.now, fits s) at c.decode_path_extends_path-answer.ensures in
-    let area_is : let t = c in let s = read_start in mapped area_from (read_parts s.args.canonic (area_of (reference s)) s.args.header) s.args.message.now ≡ accepted (area_with (record { subspace = (told2_told t).before.before.before.decode_subspace.result.subspace; times = t.before.before.before.relative_decode.result.times }) path) (told_bytes (told2_told t) + (told2_bytes t + c.in-Consumed-answer.c)) = let t = c in
-    let s = read_start in
-    tested_read s.args.canonic (reference s) s.args.header s.args.message.now _ _ (subspace_is (told2_told t)) _ _ (times_are t) _ _
+    let area_is : let s = read_start in mapped area_from (read_parts s.args.canonic (area_of (reference s)) s.args.header) s.args.message.now ≡ accepted (area_with (record { subspace = c.decode_subspace-first.result.subspace; times = c.relative_decode-second.result.times }) path) (told_bytes + (told2_bytes + c.in-Consumed-answer.c)) = let s = read_start in
+    tested_read s.args.canonic (reference s) s.args.header s.args.message.now _ _ subspace_is _ _ times_are _ _
     (sym path_told.answer ∙ ap (λ (d : Decoded). answer_of d path) c.in-Consumed-answer.is) in
-    let inside : let t = c in told_bytes (told2_told t) + (told2_bytes t + c.in-Consumed-answer.c) ≤ length read_start.args.message.now = let s = read_start in
+    let inside : told_bytes + (told2_bytes + c.in-Consumed-answer.c) ≤ length read_start.args.message.now = let s = read_start in
     tested_inside s.args.canonic (reference s) s.args.header s.args.message.now _ _ area_is in
     let small : header_length + length read_start.args.message.now < 2 ^ 64 = read_start.requires.2 in
     omega (arith, inside, small)
 
 pub overflow_add-result-3 : goal.overflow_add-result-3
+unfolding well_formed_area
 overflow_add-result-3 c =
     let reference : Area = area_with c.args.reference (path_in c.args.reference_path.now) in
     let told_bytes : ℕ = c.in-Consumed.a in
@@ -186,18 +183,19 @@ overflow_add-result-3 c =
     let subspace_is : let a = c.args in mapped subspace_from (read_subspace a.canonic (subspace_of a.reference.subspace) a.header.id_written) a.message.now ≡ accepted c.decode_subspace-first.result.subspace told_bytes = sym c.decode_subspace-first.ensures ∙ ap (λ (d : Decoded). answer_of d c.decode_subspace-first.result.subspace) c.in-Consumed.is in
     let times_told : let a = c.args in answer_of c.relative_decode-second.result.answer c.relative_decode-second.result.times ≡ read_times a.canonic a.reference.times a.header (drop told_bytes a.message.now) = rw (to_end told_bytes c.args.message.now) at c.relative_decode-second.ensures.answer in
     let times_are : let a = told2_start.args in read_times a.canonic a.reference.times a.header (drop told_bytes a.message.now) ≡ accepted c.relative_decode-second.result.times told2_bytes = sym times_told ∙ ap (λ (d : Decoded). answer_of d c.relative_decode-second.result.times) c.in-Consumed-second_answer.is in
+    let fits : sized reference.path ≡ true = well_sized _ (and_right (well_formed_subspace reference.subspace) (well_formed reference.path) c.requires.0) in
     let path_told : let a = told2_start.args in Gives (path_from []) c.decode_path_extends_path-answer.result path (mapped path_from (read_extension a.canonic (components_of (path_in a.reference_path.now))) (drop (told_bytes + told2_bytes) a.message.now)) = let s = told2_start in
     rw (to_end (told_bytes + told2_bytes) s.args.message.now, fits s) at c.decode_path_extends_path-answer.ensures in
-    let area_is : let t = c in let s = read_start in mapped area_from (read_parts s.args.canonic (area_of (reference s)) s.args.header) s.args.message.now ≡ accepted (area_with (record { subspace = (told2_told t).before.before.before.decode_subspace.result.subspace; times = t.before.before.before.relative_decode.result.times }) path) (told_bytes (told2_told t) + (told2_bytes t + c.in-Consumed-answer.c)) = let t = c in
-    let s = read_start in
-    tested_read s.args.canonic (reference s) s.args.header s.args.message.now _ _ (subspace_is (told2_told t)) _ _ (times_are t) _ _
+    let area_is : let s = read_start in mapped area_from (read_parts s.args.canonic (area_of (reference s)) s.args.header) s.args.message.now ≡ accepted (area_with (record { subspace = c.decode_subspace-first.result.subspace; times = c.relative_decode-second.result.times }) path) (told_bytes + (told2_bytes + c.in-Consumed-answer.c)) = let s = read_start in
+    tested_read s.args.canonic (reference s) s.args.header s.args.message.now _ _ subspace_is _ _ times_are _ _
     (sym path_told.answer ∙ ap (λ (d : Decoded). answer_of d path) c.in-Consumed-answer.is) in
-    let inside : let t = c in told_bytes (told2_told t) + (told2_bytes t + c.in-Consumed-answer.c) ≤ length read_start.args.message.now = let s = read_start in
+    let inside : told_bytes + (told2_bytes + c.in-Consumed-answer.c) ≤ length read_start.args.message.now = let s = read_start in
     tested_inside s.args.canonic (reference s) s.args.header s.args.message.now _ _ area_is in
     let small : header_length + length read_start.args.message.now < 2 ^ 64 = read_start.requires.2 in
     omega (arith, inside, small)
 
 pub returns : goal.returns
+unfolding well_formed_area
 returns c =
     let reference : Area = area_with c.args.reference (path_in c.args.reference_path.now) in
     let told_bytes : ℕ = c.in-Consumed.a in
@@ -208,10 +206,10 @@ returns c =
     let subspace_is : let a = c.args in mapped subspace_from (read_subspace a.canonic (subspace_of a.reference.subspace) a.header.id_written) a.message.now ≡ accepted c.decode_subspace-first.result.subspace told_bytes = sym c.decode_subspace-first.ensures ∙ ap (λ (d : Decoded). answer_of d c.decode_subspace-first.result.subspace) c.in-Consumed.is in
     let times_told : let a = c.args in answer_of c.relative_decode-second.result.answer c.relative_decode-second.result.times ≡ read_times a.canonic a.reference.times a.header (drop told_bytes a.message.now) = rw (to_end told_bytes c.args.message.now) at c.relative_decode-second.ensures.answer in
     let times_are : let a = told2_start.args in read_times a.canonic a.reference.times a.header (drop told_bytes a.message.now) ≡ accepted c.relative_decode-second.result.times told2_bytes = sym times_told ∙ ap (λ (d : Decoded). answer_of d c.relative_decode-second.result.times) c.in-Consumed-second_answer.is in
+    let fits : sized reference.path ≡ true = well_sized _ (and_right (well_formed_subspace reference.subspace) (well_formed reference.path) c.requires.0) in
     let path_told : let a = told2_start.args in Gives (path_from []) c.decode_path_extends_path-answer.result path (mapped path_from (read_extension a.canonic (components_of (path_in a.reference_path.now))) (drop (told_bytes + told2_bytes) a.message.now)) = let s = told2_start in
     rw (to_end (told_bytes + told2_bytes) s.args.message.now, fits s) at c.decode_path_extends_path-answer.ensures in
-    let area_is : let t = c in let s = read_start in mapped area_from (read_parts s.args.canonic (area_of (reference s)) s.args.header) s.args.message.now ≡ accepted (area_with (record { subspace = (told2_told t).before.before.before.decode_subspace.result.subspace; times = t.before.before.before.relative_decode.result.times }) path) (told_bytes (told2_told t) + (told2_bytes t + c.in-Consumed-answer.c)) = let t = c in
-    let s = read_start in
-    tested_read s.args.canonic (reference s) s.args.header s.args.message.now _ _ (subspace_is (told2_told t)) _ _ (times_are t) _ _
+    let area_is : let s = read_start in mapped area_from (read_parts s.args.canonic (area_of (reference s)) s.args.header) s.args.message.now ≡ accepted (area_with (record { subspace = c.decode_subspace-first.result.subspace; times = c.relative_decode-second.result.times }) path) (told_bytes + (told2_bytes + c.in-Consumed-answer.c)) = let s = read_start in
+    tested_read s.args.canonic (reference s) s.args.header s.args.message.now _ _ subspace_is _ _ times_are _ _
     (sym path_told.answer ∙ ap (λ (d : Decoded). answer_of d path) c.in-Consumed-answer.is) in
     gives_accepted (ap (shift header_length) area_is)

@@ -49,8 +49,8 @@ returns-in_default c =
     let none = no_length w.result c.in_default.not-Length in
     let answer = rw (to_end n.result l) at w.ensures.answer in
     let bytes = rw (to_end n.result l) at w.ensures.buffer in
-    let done = area_refused reference area formed inside n.result n.ensures.0 l c.if-buffer-a.false none.why w.last.0 (sym answer ∙ none.is) bytes in
-    writes_into (none.is ∙ done.0, put_end n.result l w.last.0 ∙ done.1)
+    let done = area_refused reference area formed inside n.result n.ensures.0 l c.if-buffer-a.false none.why w.new.buffer (sym answer ∙ none.is) bytes in
+    writes_into (none.is ∙ done.0, put_end n.result l w.new.buffer ∙ done.1)
 
 pub overflow_add-result : goal.overflow_add-result
 overflow_add-result c =
@@ -72,5 +72,5 @@ returns c =
     let l = c.args.buffer.now in
     let w = c.encode_path_extends_path-rest in
     let bytes = rw (to_end n.result l) at w.ensures.buffer in
-    let done = area_written reference area formed inside n.result n.ensures.0 l c.if-buffer-a.false _ w.last.0 answer_of bytes in
-    writes_into (done.0, rw (put_end n.result l w.last.0) at c.put_head.ensures ∙ done.1)
+    let done = area_written reference area formed inside n.result n.ensures.0 l c.if-buffer-a.false _ w.new.buffer answer_of bytes in
+    writes_into (done.0, rw (put_end n.result l w.new.buffer) at c.put_head.ensures ∙ done.1)

@@ -7,45 +7,60 @@ use Rattle.case_answers.specs.Lines.{kind_line, answer_to}
 use Rattle.case_answers.proofs.Answering.{long_refused, kind_told}
 use Rattle.case_answers.proofs.answer.Goals as goal
 
--- the kind was told: the answer to a line of x
-told : (k : goal.After-kind_of-kind) (x : Kind) → k.kind_of.result ≡ x →
-    let line = k.before.before.before.before.before.args.line.now in
-    answer_to line ≡ ended (kind_line x line)
-told k x e =
-    kind_told c.args.line.now (omega arith) c.part.ensures k.kind_of.ensures e
-
 pub returns-then-line-gt-MAX_LINE : goal.returns-then-line-gt-MAX_LINE
 returns-then-line-gt-MAX_LINE c = within_same (long_refused c.args.line.now (omega arith)) search
 
 pub returns-in-Number : goal.returns-in-Number
-returns-in-Number c = within_same (told (search) kind.Number (search)) search
+returns-in-Number c =
+    let told : (x : Kind) → c.kind_of-kind.result ≡ x → let line = c.args.line.now in answer_to line ≡ ended (kind_line x line) = λ x e. kind_told c.args.line.now (omega arith) c.part.ensures c.kind_of-kind.ensures e in
+    within_same (told (search) kind.Number (search)) search
 
 pub returns-in-Standalone : goal.returns-in-Standalone
-returns-in-Standalone c = within_same (told (search) kind.Standalone (search)) search
+returns-in-Standalone c =
+    let told : (x : Kind) → c.kind_of-kind.result ≡ x → let line = c.args.line.now in answer_to line ≡ ended (kind_line x line) = λ x e. kind_told c.args.line.now (omega arith) c.part.ensures c.kind_of-kind.ensures e in
+    within_same (told (search) kind.Standalone (search)) search
 
 pub returns-in-Path : goal.returns-in-Path
-returns-in-Path c = within_same (told (search) kind.Path (search)) search
+returns-in-Path c =
+    let told : (x : Kind) → c.kind_of-kind.result ≡ x → let line = c.args.line.now in answer_to line ≡ ended (kind_line x line) = λ x e. kind_told c.args.line.now (omega arith) c.part.ensures c.kind_of-kind.ensures e in
+    within_same (told (search) kind.Path (search)) search
 
 pub returns-in-PathPath : goal.returns-in-PathPath
-returns-in-PathPath c = within_same (told (search) kind.PathPath (search)) search
+returns-in-PathPath c =
+    let told : (x : Kind) → c.kind_of-kind.result ≡ x → let line = c.args.line.now in answer_to line ≡ ended (kind_line x line) = λ x e. kind_told c.args.line.now (omega arith) c.part.ensures c.kind_of-kind.ensures e in
+    within_same (told (search) kind.PathPath (search)) search
 
 pub returns-in-PathExtends : goal.returns-in-PathExtends
-returns-in-PathExtends c = within_same (told (search) kind.PathExtends (search)) search
+returns-in-PathExtends c =
+    let told : (x : Kind) → c.kind_of-kind.result ≡ x → let line = c.args.line.now in answer_to line ≡ ended (kind_line x line) = λ x e. kind_told c.args.line.now (omega arith) c.part.ensures c.kind_of-kind.ensures e in
+    within_same (told (search) kind.PathExtends (search)) search
 
 pub returns-in-AreaArea : goal.returns-in-AreaArea
-returns-in-AreaArea c = within_same (told (search) kind.AreaArea (search)) search
+returns-in-AreaArea c =
+    let told : (x : Kind) → c.kind_of-kind.result ≡ x → let line = c.args.line.now in answer_to line ≡ ended (kind_line x line) = λ x e. kind_told c.args.line.now (omega arith) c.part.ensures c.kind_of-kind.ensures e in
+    within_same (told (search) kind.AreaArea (search)) search
 
 pub returns-in-EntryArea : goal.returns-in-EntryArea
-returns-in-EntryArea c = within_same (told (search) kind.EntryArea (search)) search
+returns-in-EntryArea c =
+    let told : (x : Kind) → c.kind_of-kind.result ≡ x → let line = c.args.line.now in answer_to line ≡ ended (kind_line x line) = λ x e. kind_told c.args.line.now (omega arith) c.part.ensures c.kind_of-kind.ensures e in
+    within_same (told (search) kind.EntryArea (search)) search
 
 pub returns-in-EntryEntry : goal.returns-in-EntryEntry
-returns-in-EntryEntry c = within_same (told (search) kind.EntryEntry (search)) search
+returns-in-EntryEntry c =
+    let told : (x : Kind) → c.kind_of-kind.result ≡ x → let line = c.args.line.now in answer_to line ≡ ended (kind_line x line) = λ x e. kind_told c.args.line.now (omega arith) c.part.ensures c.kind_of-kind.ensures e in
+    within_same (told (search) kind.EntryEntry (search)) search
 
 pub returns-in-Range3d : goal.returns-in-Range3d
-returns-in-Range3d c = within_same (told (search) kind.Range3d (search)) search
+returns-in-Range3d c =
+    let told : (x : Kind) → c.kind_of-kind.result ≡ x → let line = c.args.line.now in answer_to line ≡ ended (kind_line x line) = λ x e. kind_told c.args.line.now (omega arith) c.part.ensures c.kind_of-kind.ensures e in
+    within_same (told (search) kind.Range3d (search)) search
 
 pub returns-in-Raw : goal.returns-in-Raw
-returns-in-Raw c = within_same (told (search) kind.Raw (search)) search
+returns-in-Raw c =
+    let told : (x : Kind) → c.kind_of-kind.result ≡ x → let line = c.args.line.now in answer_to line ≡ ended (kind_line x line) = λ x e. kind_told c.args.line.now (omega arith) c.part.ensures c.kind_of-kind.ensures e in
+    within_same (told (search) kind.Raw (search)) search
 
 pub returns-in-Unknown : goal.returns-in-Unknown
-returns-in-Unknown c = within_same (told (search) kind.Unknown (search)) search
+returns-in-Unknown c =
+    let told : (x : Kind) → c.kind_of-kind.result ≡ x → let line = c.args.line.now in answer_to line ≡ ended (kind_line x line) = λ x e. kind_told c.args.line.now (omega arith) c.part.ensures c.kind_of-kind.ensures e in
+    within_same (told (search) kind.Unknown (search)) search

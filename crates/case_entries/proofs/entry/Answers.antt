@@ -18,10 +18,6 @@ use Rattle.case_entry_text.proofs.Falls.{entry_falls}
 use Rattle.case_entries.specs.Lines.{against_line, on_namespace, entry_line}
 use Rattle.case_entries.proofs.entry.Goals as goal
 
--- the namespace was read, or it was not
-namespace : (r : goal.After-read_id-first) → Says (id_field 2 r.before.before.before.before.args.line.now) r.read_id.result.ok r.read_id.result.id
-namespace r = field_says read_id_text (λ r. r.ok) (λ r. r.id) 2 c.args.line.now c.part.ensures r.read_id.ensures _ refl
-
 -- namespace and area were read, and what the line asks for
 left : (line : List ℕ) {ok ok' : Bool} {n : List ℕ} {a : Area} → Says (id_field 2 line) ok n → not ok ≡ false → Says (area_field 3 line) ok' a → not ok' ≡ false
     → {buffer : List ℕ} {x : Asked} → Asks (asking max_bytes 7 13 (op_of (field 1 line)) line) buffer x
@@ -33,14 +29,14 @@ left line {n = n} {a} s e s' e' asks =
 
 pub returns-then-not-first : goal.returns-then-not-first
 returns-then-not-first c =
-    let r : goal.After-read_id-first = search in
-    says_not id_field 2 _ (on_namespace c.args.line.now) (namespace r) (search) search
+    let namespace : Says (id_field 2 c.args.line.now) c.read_id-first.result.ok c.read_id-first.result.id = field_says read_id_text (λ r. c.ok) (λ r. c.id) 2 c.args.line.now c.part.ensures c.read_id-first.ensures _ refl in
+    says_not id_field 2 _ (on_namespace c.args.line.now) namespace (search) search
 
 pub returns-then-not-area : goal.returns-then-not-area
 returns-then-not-area c =
+    let namespace : Says (id_field 2 c.args.line.now) c.read_id-first.result.ok c.read_id-first.result.id = field_says read_id_text (λ r. c.ok) (λ r. c.id) 2 c.args.line.now c.part.ensures c.read_id-first.ensures _ refl in
     let a : goal.After-read_area-area = search in
-    let r : goal.After-read_id-first = search in
-    says_so id_field 2 _ (on_namespace c.args.line.now) (namespace r) c.if-not-first.false
+    says_so id_field 2 _ (on_namespace c.args.line.now) namespace c.if-not-first.false
     (says_not area_field 3 _ (λ a. against_line c.read_id-first.result.id a (op_of (field 1 c.args.line.now)) c.args.line.now) c.read_area-area.ensures.0 (search) search)
 
 pub slice_bounds-bytes-end : goal.slice_bounds-bytes-end
@@ -53,17 +49,19 @@ pub write-requires : goal.write-requires
 write-requires c = value_inside c.asked-asked.ensures c.in-Value.is
 
 pub returns-in-Read : goal.returns-in-Read
-returns-in-Read c = let x = asked in let q = x.before.before.before in
+returns-in-Read c = let x = asked in let q =
+    let namespace : Says (id_field 2 c.args.line.now) c.read_id-first.result.ok c.read_id-first.result.id = field_says read_id_text (λ r. c.ok) (λ r. c.id) 2 c.args.line.now c.part.ensures c.read_id-first.ensures _ refl in
+    x.before.before.before in
     let f = q.before.before.before in let a = f.before in let e = a.before in let r = e.before.before in let s = r.before.before.before.before in
     left_read (left s.args.line.now (namespace r) e.if1.left a.read_area.ensures.0 f.if2.left q.asked.ensures) x.asked2.given.1
     (printed entry_text c.relative_decode-read.result.answer (entry_with c.relative_decode-read.result.fields (path_in _)) c.relative_decode-read.ensures.answer (puts_first c.print_entry-k.ensures) c.value.ensures)
 
 pub returns-in-Value : goal.returns-in-Value
 returns-in-Value c =
-    let r : goal.After-read_id-first = search in
-    left_value (left c.args.line.now (namespace r) c.if-not-first.false c.read_area-area.ensures.0 c.if-not-area.false c.asked-asked.ensures) c.in-Value.is search
+    let namespace : Says (id_field 2 c.args.line.now) c.read_id-first.result.ok c.read_id-first.result.id = field_says read_id_text (λ r. c.ok) (λ r. c.id) 2 c.args.line.now c.part.ensures c.read_id-first.ensures _ refl in
+    left_value (left c.args.line.now namespace c.if-not-first.false c.read_area-area.ensures.0 c.if-not-area.false c.asked-asked.ensures) c.in-Value.is search
 
 pub returns-in-Refused : goal.returns-in-Refused
 returns-in-Refused c =
-    let r : goal.After-read_id-first = search in
-    left_refused (left c.args.line.now (namespace r) c.if-not-first.false c.read_area-area.ensures.0 c.if-not-area.false c.asked-asked.ensures) c.in-Refused.is search
+    let namespace : Says (id_field 2 c.args.line.now) c.read_id-first.result.ok c.read_id-first.result.id = field_says read_id_text (λ r. c.ok) (λ r. c.id) 2 c.args.line.now c.part.ensures c.read_id-first.ensures _ refl in
+    left_refused (left c.args.line.now namespace c.if-not-first.false c.read_area-area.ensures.0 c.if-not-area.false c.asked-asked.ensures) c.in-Refused.is search

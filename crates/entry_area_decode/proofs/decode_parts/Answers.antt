@@ -56,13 +56,11 @@ returns-in_default-path_answer c =
     ) in
     let area : Area = area_with c.args.reference (path_in c.args.reference_path.now) in
     let rest_at : let a = c.args in shift header_length (mapped entry_from (read_parts a.canonic a.namespace (area_of area) a.header) a.message.now) ≡ shift (header_length + c.in-Consumed.a) (mapped entry_from (read_rest a.canonic a.namespace c.decode_id-first.result.id (components_of area.path) a.reference.times a.header) (drop c.in-Consumed.a a.message.now)) = parts_rest c.args.canonic c.args.namespace area c.args.header c.args.message.now _ _ id_is in
-    let t = c in
-    let s = told_start t in
     let x = no_value c.decode_path_within-path_answer.result c.in_default-path_answer.not-Consumed-path_answer in
     let e = sym c.decode_path_within-path_answer.ensures.answer ∙ x.beside _ in
     rw c.refuse_fields-in_default-path_answer.ensures (reads_refused _ _ x.why (x.beside _) (c.decode_path_within-path_answer.ensures.value ∙ ap (value_in (path_from [])) e)
-    (rest_at t ∙ rw (within_refused s.args.canonic s.args.namespace t.before.before.before.decode_id.result.id (area s).path s.pre.1 s.args.reference.times s.args.header
-    (drop t.before.answer.given.0.0 s.args.message.now) x.why e)))
+    (rest_at ∙ rw (within_refused c.args.canonic c.args.namespace c.decode_id-first.result.id area.path c.requires.1 c.args.reference.times c.args.header
+    (drop c.in-Consumed.a c.args.message.now) x.why e)))
 
 pub overflow_add-at : goal.overflow_add-at
 overflow_add-at c =
@@ -142,13 +140,12 @@ returns-in_default-last_answer c =
     let end_told : let t = told2_told in let a = (told_start t).args in answer_of c.relative_decode-last.result.answer c.relative_decode-last.result.end ≡ read_after_path a.canonic a.reference.times a.header (drop c.in-Consumed-path_answer.b (drop t.before.answer.given.0.0 a.message.now)) = let t = told2_told in
     let a = (told_start t).args in
     rw drop-drop (rw (to_end (t.before.answer.given.0.0 + c.in-Consumed-path_answer.b) a.message.now) at c.relative_decode-last.ensures.answer) in
-    let u = c in
-    let t = told2_told u in
+    let t = told2_told in
     let s = told_start t in
     let x = no_value c.relative_decode-last.result.answer c.in_default-last_answer.not-Consumed-last_answer in
     rw c.refuse_fields-in_default-last_answer.ensures (reads_refused _ _ x.why (x.beside _) (ap path_in c.clear.ensures ∙ in_empty)
     (rest_at t ∙ rw (within_end s.args.canonic s.args.namespace t.before.before.before.decode_id.result.id (area s).path s.pre.1 s.args.reference.times s.args.header
-    (drop t.before.answer.given.0.0 s.args.message.now) _ _ (path_is u) x.why (sym end_told ∙ x.beside _))))
+    (drop t.before.answer.given.0.0 s.args.message.now) _ _ path_is x.why (sym end_told ∙ x.beside _))))
 
 pub overflow_add-result : goal.overflow_add-result
 overflow_add-result c =
@@ -171,14 +168,13 @@ overflow_add-result c =
     let end_told : let t = told2_told in let a = (told_start t).args in answer_of c.relative_decode-last.result.answer c.relative_decode-last.result.end ≡ read_after_path a.canonic a.reference.times a.header (drop c.in-Consumed-path_answer.b (drop t.before.answer.given.0.0 a.message.now)) = let t = told2_told in
     let a = (told_start t).args in
     rw drop-drop (rw (to_end (t.before.answer.given.0.0 + c.in-Consumed-path_answer.b) a.message.now) at c.relative_decode-last.ensures.answer) in
-    let end_is : let u = c in let t = told2_told u in let a = (told_start t).args in read_after_path a.canonic a.reference.times a.header (drop u.before.path_answer.given.0.0 (drop t.before.answer.given.0.0 a.message.now)) ≡ accepted c.relative_decode-last.result.end c.in-Consumed-last_answer.c = sym end_told ∙ ap (λ (d : Decoded). answer_of d c.relative_decode-last.result.end) c.in-Consumed-last_answer.is in
-    let inside : let u = c in let t = told2_told u in t.before.answer.given.0.0 + (u.before.path_answer.given.0.0 + c.in-Consumed-last_answer.c) ≤ length (told_start t).args.message.now = let u = c in
-    let t = told2_told u in
+    let end_is : let t = told2_told in let a = (told_start t).args in read_after_path a.canonic a.reference.times a.header (drop c.in-Consumed-path_answer.b (drop t.before.answer.given.0.0 a.message.now)) ≡ accepted c.relative_decode-last.result.end c.in-Consumed-last_answer.c = sym end_told ∙ ap (λ (d : Decoded). answer_of d c.relative_decode-last.result.end) c.in-Consumed-last_answer.is in
+    let inside : let t = told2_told in t.before.answer.given.0.0 + (c.in-Consumed-path_answer.b + c.in-Consumed-last_answer.c) ≤ length (told_start t).args.message.now = let t = told2_told in
     let s = told_start t in
     omega (
       arith,
       within_whole s.args.canonic s.args.namespace t.before.before.before.decode_id.result.id (area s).path s.pre.1 s.args.reference.times s.args.header
-          (drop t.before.answer.given.0.0 s.args.message.now) _ _ (path_is u) _ _ end_is,
+          (drop t.before.answer.given.0.0 s.args.message.now) _ _ path_is _ _ end_is,
       length-drop t.before.answer.given.0.0 s.args.message.now,
       id_in t,
     ) in
@@ -205,14 +201,13 @@ overflow_add-result-2 c =
     let end_told : let t = told2_told in let a = (told_start t).args in answer_of c.relative_decode-last.result.answer c.relative_decode-last.result.end ≡ read_after_path a.canonic a.reference.times a.header (drop c.in-Consumed-path_answer.b (drop t.before.answer.given.0.0 a.message.now)) = let t = told2_told in
     let a = (told_start t).args in
     rw drop-drop (rw (to_end (t.before.answer.given.0.0 + c.in-Consumed-path_answer.b) a.message.now) at c.relative_decode-last.ensures.answer) in
-    let end_is : let u = c in let t = told2_told u in let a = (told_start t).args in read_after_path a.canonic a.reference.times a.header (drop u.before.path_answer.given.0.0 (drop t.before.answer.given.0.0 a.message.now)) ≡ accepted c.relative_decode-last.result.end c.in-Consumed-last_answer.c = sym end_told ∙ ap (λ (d : Decoded). answer_of d c.relative_decode-last.result.end) c.in-Consumed-last_answer.is in
-    let inside : let u = c in let t = told2_told u in t.before.answer.given.0.0 + (u.before.path_answer.given.0.0 + c.in-Consumed-last_answer.c) ≤ length (told_start t).args.message.now = let u = c in
-    let t = told2_told u in
+    let end_is : let t = told2_told in let a = (told_start t).args in read_after_path a.canonic a.reference.times a.header (drop c.in-Consumed-path_answer.b (drop t.before.answer.given.0.0 a.message.now)) ≡ accepted c.relative_decode-last.result.end c.in-Consumed-last_answer.c = sym end_told ∙ ap (λ (d : Decoded). answer_of d c.relative_decode-last.result.end) c.in-Consumed-last_answer.is in
+    let inside : let t = told2_told in t.before.answer.given.0.0 + (c.in-Consumed-path_answer.b + c.in-Consumed-last_answer.c) ≤ length (told_start t).args.message.now = let t = told2_told in
     let s = told_start t in
     omega (
       arith,
       within_whole s.args.canonic s.args.namespace t.before.before.before.decode_id.result.id (area s).path s.pre.1 s.args.reference.times s.args.header
-          (drop t.before.answer.given.0.0 s.args.message.now) _ _ (path_is u) _ _ end_is,
+          (drop t.before.answer.given.0.0 s.args.message.now) _ _ path_is _ _ end_is,
       length-drop t.before.answer.given.0.0 s.args.message.now,
       id_in t,
     ) in
@@ -239,14 +234,13 @@ overflow_add-result-3 c =
     let end_told : let t = told2_told in let a = (told_start t).args in answer_of c.relative_decode-last.result.answer c.relative_decode-last.result.end ≡ read_after_path a.canonic a.reference.times a.header (drop c.in-Consumed-path_answer.b (drop t.before.answer.given.0.0 a.message.now)) = let t = told2_told in
     let a = (told_start t).args in
     rw drop-drop (rw (to_end (t.before.answer.given.0.0 + c.in-Consumed-path_answer.b) a.message.now) at c.relative_decode-last.ensures.answer) in
-    let end_is : let u = c in let t = told2_told u in let a = (told_start t).args in read_after_path a.canonic a.reference.times a.header (drop u.before.path_answer.given.0.0 (drop t.before.answer.given.0.0 a.message.now)) ≡ accepted c.relative_decode-last.result.end c.in-Consumed-last_answer.c = sym end_told ∙ ap (λ (d : Decoded). answer_of d c.relative_decode-last.result.end) c.in-Consumed-last_answer.is in
-    let inside : let u = c in let t = told2_told u in t.before.answer.given.0.0 + (u.before.path_answer.given.0.0 + c.in-Consumed-last_answer.c) ≤ length (told_start t).args.message.now = let u = c in
-    let t = told2_told u in
+    let end_is : let t = told2_told in let a = (told_start t).args in read_after_path a.canonic a.reference.times a.header (drop c.in-Consumed-path_answer.b (drop t.before.answer.given.0.0 a.message.now)) ≡ accepted c.relative_decode-last.result.end c.in-Consumed-last_answer.c = sym end_told ∙ ap (λ (d : Decoded). answer_of d c.relative_decode-last.result.end) c.in-Consumed-last_answer.is in
+    let inside : let t = told2_told in t.before.answer.given.0.0 + (c.in-Consumed-path_answer.b + c.in-Consumed-last_answer.c) ≤ length (told_start t).args.message.now = let t = told2_told in
     let s = told_start t in
     omega (
       arith,
       within_whole s.args.canonic s.args.namespace t.before.before.before.decode_id.result.id (area s).path s.pre.1 s.args.reference.times s.args.header
-          (drop t.before.answer.given.0.0 s.args.message.now) _ _ (path_is u) _ _ end_is,
+          (drop t.before.answer.given.0.0 s.args.message.now) _ _ path_is _ _ end_is,
       length-drop t.before.answer.given.0.0 s.args.message.now,
       id_in t,
     ) in
@@ -273,10 +267,9 @@ returns c =
     let end_told : let t = told2_told in let a = (told_start t).args in answer_of c.relative_decode-last.result.answer c.relative_decode-last.result.end ≡ read_after_path a.canonic a.reference.times a.header (drop c.in-Consumed-path_answer.b (drop t.before.answer.given.0.0 a.message.now)) = let t = told2_told in
     let a = (told_start t).args in
     rw drop-drop (rw (to_end (t.before.answer.given.0.0 + c.in-Consumed-path_answer.b) a.message.now) at c.relative_decode-last.ensures.answer) in
-    let end_is : let u = c in let t = told2_told u in let a = (told_start t).args in read_after_path a.canonic a.reference.times a.header (drop u.before.path_answer.given.0.0 (drop t.before.answer.given.0.0 a.message.now)) ≡ accepted c.relative_decode-last.result.end c.in-Consumed-last_answer.c = sym end_told ∙ ap (λ (d : Decoded). answer_of d c.relative_decode-last.result.end) c.in-Consumed-last_answer.is in
-    let u = c in
-    let t = told2_told u in
+    let end_is : let t = told2_told in let a = (told_start t).args in read_after_path a.canonic a.reference.times a.header (drop c.in-Consumed-path_answer.b (drop t.before.answer.given.0.0 a.message.now)) ≡ accepted c.relative_decode-last.result.end c.in-Consumed-last_answer.c = sym end_told ∙ ap (λ (d : Decoded). answer_of d c.relative_decode-last.result.end) c.in-Consumed-last_answer.is in
+    let t = told2_told in
     let s = told_start t in
     gives_accepted (rest_at t ∙ ap (shift (header_length + t.before.answer.given.0.0))
     (within_read s.args.canonic s.args.namespace t.before.before.before.decode_id.result.id (area s).path s.pre.1 s.args.reference.times s.args.header
-    (drop t.before.answer.given.0.0 s.args.message.now) _ _ (path_is u) _ _ end_is))
+    (drop t.before.answer.given.0.0 s.args.message.now) _ _ path_is _ _ end_is))

@@ -48,6 +48,5 @@ returns c =
     let area : Area = area_with c.args.reference (path_in c.args.reference_path.now) in
     let well : well_formed_area area ≡ true = sym c.well_formed-well.ensures ∙ c.if-not-well.false in
     let unspared : (unpack_header (get_or c.args.message.now c.args.start 0)).spare ≡ 0 = rw c.unpack-header.ensures at c.if-header-ne0.false in
-    let s = c in
-    rw (entry_parts_lem s.args.canonic s.args.namespace (area s) well s.args.message.now s.args.start (omega (arith, c.if-message-start.false)) unspared)
-    (rw (c.unpack-header.ensures, to_end (s.args.start + header_length) s.args.message.now) at c.decode_parts.ensures)
+    rw (entry_parts_lem c.args.canonic c.args.namespace area well c.args.message.now c.args.start (omega (arith, c.if-message-start.false)) unspared)
+    (rw (c.unpack-header.ensures, to_end (c.args.start + header_length) c.args.message.now) at c.decode_parts.ensures)

@@ -108,12 +108,11 @@ returns-in_default-digest_answer c =
     let path_in : read_start.args.start + told_bytes + told2_bytes ≤ length read_start.args.message.now = let s = read_start in
     path_inside (reference s) s.args.message.now s.args.start _ _ head_is _ _ path_is in
     let reference : Entry = entry_with c.args.reference (path_in c.args.reference_path.now) in
-    let r = c in
-    let s = read_start r in
+    let s = read_start in
     let x = no_value c.decode_id-digest.result.answer c.in_default-digest_answer.not-Consumed-digest_answer in
     rw c.refuse_fields-in_default-digest_answer.ensures
     (reads_refused _ _ x.why (rw c.clear.ensures in_empty) (x.beside _)
-    (entry_digest (reference s) s.args.message.now s.args.start _ _ (head_is (read_told r)) _ _ path_is x.why (sym c.decode_id-digest.ensures.answer ∙ x.beside _)))
+    (entry_digest (reference s) s.args.message.now s.args.start _ _ head_is _ _ path_is x.why (sym c.decode_id-digest.ensures.answer ∙ x.beside _)))
 
 pub overflow_add-result : goal.overflow_add-result
 unfolding read_against_path
@@ -130,10 +129,9 @@ overflow_add-result c =
     path_inside (reference s) s.args.message.now s.args.start _ _ head_is _ _ path_is in
     let reference : Entry = entry_with c.args.reference (path_in c.args.reference_path.now) in
     let told3_bytes : ℕ = c.in-Consumed-digest_answer.c in
-    let digest_is : let r = c in let s = read_start r in some_bytes 32 (drop (s.args.start + told_bytes (read_told r) + told2_bytes) s.args.message.now) ≡ accepted c.decode_id-digest.result.id told3_bytes = sym c.decode_id-digest.ensures.answer ∙ ap (λ (d : Decoded). answer_of d c.decode_id-digest.result.id) c.in-Consumed-digest_answer.is in
-    let digest_in : let r = c in (read_start r).args.start + told_bytes (read_told r) + told2_bytes + told3_bytes ≤ length (read_start r).args.message.now = let r = c in
-    let s = read_start r in
-    digest_inside (reference s) s.args.message.now s.args.start _ _ (head_is (read_told r)) _ _ path_is _ _ digest_is in
+    let digest_is : let s = read_start in some_bytes 32 (drop (s.args.start + told_bytes + told2_bytes) s.args.message.now) ≡ accepted c.decode_id-digest.result.id told3_bytes = sym c.decode_id-digest.ensures.answer ∙ ap (λ (d : Decoded). answer_of d c.decode_id-digest.result.id) c.in-Consumed-digest_answer.is in
+    let digest_in : read_start.args.start + told_bytes + told2_bytes + told3_bytes ≤ length read_start.args.message.now = let s = read_start in
+    digest_inside (reference s) s.args.message.now s.args.start _ _ head_is _ _ path_is _ _ digest_is in
     omega (arith, digest_in)
 
 pub overflow_add-result-2 : goal.overflow_add-result-2
@@ -151,10 +149,9 @@ overflow_add-result-2 c =
     path_inside (reference s) s.args.message.now s.args.start _ _ head_is _ _ path_is in
     let reference : Entry = entry_with c.args.reference (path_in c.args.reference_path.now) in
     let told3_bytes : ℕ = c.in-Consumed-digest_answer.c in
-    let digest_is : let r = c in let s = read_start r in some_bytes 32 (drop (s.args.start + told_bytes (read_told r) + told2_bytes) s.args.message.now) ≡ accepted c.decode_id-digest.result.id told3_bytes = sym c.decode_id-digest.ensures.answer ∙ ap (λ (d : Decoded). answer_of d c.decode_id-digest.result.id) c.in-Consumed-digest_answer.is in
-    let digest_in : let r = c in (read_start r).args.start + told_bytes (read_told r) + told2_bytes + told3_bytes ≤ length (read_start r).args.message.now = let r = c in
-    let s = read_start r in
-    digest_inside (reference s) s.args.message.now s.args.start _ _ (head_is (read_told r)) _ _ path_is _ _ digest_is in
+    let digest_is : let s = read_start in some_bytes 32 (drop (s.args.start + told_bytes + told2_bytes) s.args.message.now) ≡ accepted c.decode_id-digest.result.id told3_bytes = sym c.decode_id-digest.ensures.answer ∙ ap (λ (d : Decoded). answer_of d c.decode_id-digest.result.id) c.in-Consumed-digest_answer.is in
+    let digest_in : read_start.args.start + told_bytes + told2_bytes + told3_bytes ≤ length read_start.args.message.now = let s = read_start in
+    digest_inside (reference s) s.args.message.now s.args.start _ _ head_is _ _ path_is _ _ digest_is in
     omega (arith, digest_in)
 
 pub returns : goal.returns
@@ -172,8 +169,6 @@ returns c =
     path_inside (reference s) s.args.message.now s.args.start _ _ head_is _ _ path_is in
     let reference : Entry = entry_with c.args.reference (path_in c.args.reference_path.now) in
     let told3_bytes : ℕ = c.in-Consumed-digest_answer.c in
-    let digest_is : let r = c in let s = read_start r in some_bytes 32 (drop (s.args.start + told_bytes (read_told r) + told2_bytes) s.args.message.now) ≡ accepted c.decode_id-digest.result.id told3_bytes = sym c.decode_id-digest.ensures.answer ∙ ap (λ (d : Decoded). answer_of d c.decode_id-digest.result.id) c.in-Consumed-digest_answer.is in
-    let t = c in
-    let r = told2_read t in
-    let s = read_start r in
-    gives_accepted (entry_read (reference s) s.args.message.now s.args.start _ _ (head_is (read_told r)) _ _ (path_is t) _ _ digest_is)
+    let digest_is : let s = read_start in some_bytes 32 (drop (s.args.start + told_bytes + told2_bytes) s.args.message.now) ≡ accepted c.decode_id-digest.result.id told3_bytes = sym c.decode_id-digest.ensures.answer ∙ ap (λ (d : Decoded). answer_of d c.decode_id-digest.result.id) c.in-Consumed-digest_answer.is in
+    let s = read_start in
+    gives_accepted (entry_read (reference s) s.args.message.now s.args.start _ _ head_is _ _ path_is _ _ digest_is)

@@ -12,9 +12,9 @@ returns-then-not-well c =
     rw c.refuse_fields.ensures
     (reads_refused _ _ 5 cleared refl
     (entry_malformed (entry_with c.args.reference (path_in c.args.reference_path.now)) c.args.message.now c.args.start
-    (sym c.well_formed_lem.ensures ∙ c.if-not-well.true)))
+    (sym c.well_formed-well.ensures ∙ c.if-not-well.true)))
 
 pub decode_tested-requires : goal.decode_tested-requires
 decode_tested-requires c =
     let cleared : path_in c.clear.new.out ≡ path_from [] = rw c.clear.ensures in_empty in
-    (sym c.well_formed_lem.ensures ∙ c.if-not-well.false, cleared)
+    (sym c.well_formed-well.ensures ∙ c.if-not-well.false, cleared)

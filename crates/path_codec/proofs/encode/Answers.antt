@@ -15,7 +15,7 @@ returns-then-not-well c =
 pub returns : goal.returns
 returns c =
     let path : Path = path_in c.args.path.now in
-    let formed = sym c.well_formed_lem.ensures ∙ c.if-not-well.false in
+    let formed = sym c.well_formed-well.ensures ∙ c.if-not-well.false in
     let w = same_writing (suffix_by sized 0) path plain_path (plain_check path formed) refl c.args.buffer.now in
     let put = c.encode_suffix.ensures in
     writes_into (put.answer ∙ w.0, put.buffer ∙ w.1)

@@ -15,5 +15,5 @@ returns-then-not-well c =
 pub returns : goal.returns
 returns c =
     let path : Path = path_in c.args.path.now in
-    let formed = sym c.well_formed_lem.ensures ∙ c.if-not-well.false in
+    let formed = sym c.well_formed-well.ensures ∙ c.if-not-well.false in
     c.suffix_len.ensures ∙ same_length (suffix_by sized 0) path plain_path (plain_check path formed) refl

@@ -11,10 +11,10 @@ pub returns-then-not-well : goal.returns-then-not-well
 unfolding read_extends_path
 returns-then-not-well c =
     rw (c.clear.ensures, in_empty)
-    (gives_refused 5 refl (extends_unformed well_formed _ _ _ (sym c.well_formed_lem.ensures ∙ c.if-not-well.true)))
+    (gives_refused 5 refl (extends_unformed well_formed _ _ _ (sym c.well_formed-well.ensures ∙ c.if-not-well.true)))
 
 pub returns : goal.returns
 unfolding read_extends_path
 returns c =
-    let well = sym c.well_formed_lem.ensures ∙ c.if-not-well.false in
+    let well = sym c.well_formed-well.ensures ∙ c.if-not-well.false in
     rw well (rw (well_sized _ well) at c.decode_path_extends_path.ensures)

@@ -25,7 +25,7 @@ decode_more-requires c =
     let there : c.args.k ≤ prefix.count = leb-true _ _ grown.inside_is in
     let few : length parts ≤ max_component_count = omega (arith, prefix_count _ here _ there, there, here.well.count) in
     let fits : total_of parts ≤ max_path_length = start_small _ here c.args.k in
-    let made : let g = c.new_from_prefix-growth in built g.result.builder g.new.k.1.0 ≡ built_from parts = rw (grown.formed_is, grown.inside_is) at c.new_from_prefix-growth.ensures.is in
+    let made : let g = c.new_from_prefix-growth in built g.result.builder g.new.out ≡ built_from parts = rw (grown.formed_is, grown.inside_is) at c.new_from_prefix-growth.ensures.is in
     ready_from parts few fits made
 
 pub returns : goal.returns
@@ -37,5 +37,5 @@ returns c =
     let here : Formed prefix = sized_formed grown.formed_is in
     let few : length parts ≤ max_component_count = omega (arith, prefix_count _ here _ there, there, here.well.count) in
     let fits : total_of parts ≤ max_path_length = start_small _ here c.args.k in
-    let made : let g = c.new_from_prefix-growth in built g.result.builder g.new.k.1.0 ≡ built_from parts = rw (grown.formed_is, grown.inside_is) at c.new_from_prefix-growth.ensures.is in
+    let made : let g = c.new_from_prefix-growth in built g.result.builder g.new.out ≡ built_from parts = rw (grown.formed_is, grown.inside_is) at c.new_from_prefix-growth.ensures.is in
     rw (on_more _ prefix _ _ _ _ grown.formed_is there) (rw (built_components parts made few fits) at c.decode_more.ensures)

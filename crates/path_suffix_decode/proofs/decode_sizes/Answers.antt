@@ -37,7 +37,7 @@ returns-in_default-number2 c =
     let first_value : let a = c.args in read_number a.canonic total_width (unpack_tags (get_or a.message.now a.start 0)).total (drop (a.start + header_length) a.message.now) ≡ accepted c.in-Value.total c.in-Value.a = first_is ∙ ap number_answer c.in-Value.is in
     let second_is : let a = c.args in read_number a.canonic count_width (unpack_tags (get_or a.message.now a.start 0)).count (drop (a.start + header_length + c.in-Value.a) a.message.now) ≡ number_answer c.relative_decode-number2.result = sym (rw c.unpack_tags-tags.ensures at c.relative_decode-number2.ensures) in
     let a = c.args in
-    let x = refused_number c.relative_decode-number2.result c.in_default-number2.not-Value-number2 in
+    let x = refused_number c.relative_decode-number2.result c.in_default-number2.not-Value in
     rw (c.refuse-in_default-number2.ensures.0, c.refuse-in_default-number2.ensures.1)
     (gives_refused x.why (x.whole no_sizes c.unvalued-in_default-number2.result c.unvalued-in_default-number2.ensures)
     (sizes_second a.canonic a.message.now a.start c.if-message-start.false _ _ first_value x.why (second_is ∙ x.number)))

@@ -75,16 +75,13 @@ overflow_add-result c =
     let ends_here : Answer (PathRange × TimeRange) = read_paths_times known.paths c.args.reference.times c.args.header c.args.times (drop c.in-Consumed.a c.args.message.now) in
     let rest_told : Gives (empty_paths c.args.header.path_end_open, no_times) c.decode_rest-second.result.answer ends ends_here = rw (to_end c.in-Consumed.a c.args.message.now) at c.decode_rest-second.ensures in
     let rest_are : ends_here ≡ accepted ends c.in-Consumed-second_answer.b = sym rest_told.answer ∙ ap (λ (d : Decoded). answer_of d ends) c.in-Consumed-second_answer.is in
-    let inside : let t = c in t.before.first_answer.given.0.0 + c.in-Consumed-second_answer.b ≤ length (told_start t).args.message.now = let t = c in
-    let s = told_start t in
-    omega (
+    let inside : c.in-Consumed.a + c.in-Consumed-second_answer.b ≤ length c.args.message.now = omega (
       arith,
-      ids_in t,
-      length-drop t.before.first_answer.given.0.0 s.args.message.now,
-      (ends_bounded (known s).paths s.args.reference.times s.args.header s.args.times).bound (drop t.before.first_answer.given.0.0 s.args.message.now) _ _ rest_are,
+      ids_in,
+      length-drop c.in-Consumed.a c.args.message.now,
+      (ends_bounded known.paths c.args.reference.times c.args.header c.args.times).bound (drop c.in-Consumed.a c.args.message.now) _ _ rest_are,
     ) in
-    let s = c in
-    omega (arith, inside, s.pre.0)
+    omega (arith, inside, c.requires.0)
 
 pub overflow_add-result-2 : goal.overflow_add-result-2
 overflow_add-result-2 c =
@@ -99,16 +96,13 @@ overflow_add-result-2 c =
     let ends_here : Answer (PathRange × TimeRange) = read_paths_times known.paths c.args.reference.times c.args.header c.args.times (drop c.in-Consumed.a c.args.message.now) in
     let rest_told : Gives (empty_paths c.args.header.path_end_open, no_times) c.decode_rest-second.result.answer ends ends_here = rw (to_end c.in-Consumed.a c.args.message.now) at c.decode_rest-second.ensures in
     let rest_are : ends_here ≡ accepted ends c.in-Consumed-second_answer.b = sym rest_told.answer ∙ ap (λ (d : Decoded). answer_of d ends) c.in-Consumed-second_answer.is in
-    let inside : let t = c in t.before.first_answer.given.0.0 + c.in-Consumed-second_answer.b ≤ length (told_start t).args.message.now = let t = c in
-    let s = told_start t in
-    omega (
+    let inside : c.in-Consumed.a + c.in-Consumed-second_answer.b ≤ length c.args.message.now = omega (
       arith,
-      ids_in t,
-      length-drop t.before.first_answer.given.0.0 s.args.message.now,
-      (ends_bounded (known s).paths s.args.reference.times s.args.header s.args.times).bound (drop t.before.first_answer.given.0.0 s.args.message.now) _ _ rest_are,
+      ids_in,
+      length-drop c.in-Consumed.a c.args.message.now,
+      (ends_bounded known.paths c.args.reference.times c.args.header c.args.times).bound (drop c.in-Consumed.a c.args.message.now) _ _ rest_are,
     ) in
-    let s = c in
-    omega (arith, inside, s.pre.0)
+    omega (arith, inside, c.requires.0)
 
 pub returns : goal.returns
 returns c =

@@ -71,7 +71,7 @@ overflow_add-result c =
     (path_in c.relative_decode-first.new.end_open.1.1.1.1.1.1.0) in
     let paths_are : let s = told_start in read_paths_by sized_paths s.args.header.path_end_open (sides_in s.args.header) (known s) s.args.message.now ≡ accepted paths c.in-Consumed.a = sym c.relative_decode-first.ensures.answer ∙ ap (λ (d : Decoded). answer_of d paths) c.in-Consumed.is in
     let times_told : let s = told_start in Gives no_times c.relative_decode-second.result.answer c.relative_decode-second.result.times (read_times s.args.reference.times s.args.header.times_end_open (unpackTimes s.args.times) (drop c.in-Consumed.a s.args.message.now)) = rw (to_end c.in-Consumed.a told_start.args.message.now) at c.relative_decode-second.ensures in
-    let times_are : let t = c in let s = told_start t in read_times s.args.reference.times s.args.header.times_end_open (unpackTimes s.args.times) (drop t.before.first.given.0.0 s.args.message.now) ≡ accepted c.relative_decode-second.result.times c.in-Consumed-answer.b = sym times_told.answer ∙ ap (λ (d : Decoded). answer_of d c.relative_decode-second.result.times) c.in-Consumed-answer.is in
+    let times_are : let s = told_start in read_times s.args.reference.times s.args.header.times_end_open (unpackTimes s.args.times) (drop c.in-Consumed.a s.args.message.now) ≡ accepted c.relative_decode-second.result.times c.in-Consumed-answer.b = sym times_told.answer ∙ ap (λ (d : Decoded). answer_of d c.relative_decode-second.result.times) c.in-Consumed-answer.is in
     omega (arith, ends_within known c.args.reference.times c.args.header c.args.times c.args.message.now _ _ paths_are _ _ times_are)
 
 pub returns : goal.returns
@@ -82,5 +82,5 @@ returns c =
     (path_in c.relative_decode-first.new.end_open.1.1.1.1.1.1.0) in
     let paths_are : let s = told_start in read_paths_by sized_paths s.args.header.path_end_open (sides_in s.args.header) (known s) s.args.message.now ≡ accepted paths c.in-Consumed.a = sym c.relative_decode-first.ensures.answer ∙ ap (λ (d : Decoded). answer_of d paths) c.in-Consumed.is in
     let times_told : let s = told_start in Gives no_times c.relative_decode-second.result.answer c.relative_decode-second.result.times (read_times s.args.reference.times s.args.header.times_end_open (unpackTimes s.args.times) (drop c.in-Consumed.a s.args.message.now)) = rw (to_end c.in-Consumed.a told_start.args.message.now) at c.relative_decode-second.ensures in
-    let times_are : let t = c in let s = told_start t in read_times s.args.reference.times s.args.header.times_end_open (unpackTimes s.args.times) (drop t.before.first.given.0.0 s.args.message.now) ≡ accepted c.relative_decode-second.result.times c.in-Consumed-answer.b = sym times_told.answer ∙ ap (λ (d : Decoded). answer_of d c.relative_decode-second.result.times) c.in-Consumed-answer.is in
+    let times_are : let s = told_start in read_times s.args.reference.times s.args.header.times_end_open (unpackTimes s.args.times) (drop c.in-Consumed.a s.args.message.now) ≡ accepted c.relative_decode-second.result.times c.in-Consumed-answer.b = sym times_told.answer ∙ ap (λ (d : Decoded). answer_of d c.relative_decode-second.result.times) c.in-Consumed-answer.is in
     gives_accepted (ends_read known c.args.reference.times c.args.header c.args.times c.args.message.now _ _ paths_are _ _ times_are)

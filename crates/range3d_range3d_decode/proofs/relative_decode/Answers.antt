@@ -10,16 +10,12 @@ use Rattle.range_header.specs.Header.{header_length}
 use Rattle.range3d_range3d.proofs.DecodeExits.{range_unformed, header_cut, header_read}
 use Rattle.range3d_range3d_decode.proofs.relative_decode.Goals as goal
 
--- what the language says of the message
-short : (s : goal.Start) → length s.args.message.now < 2 ^ 64
-short s = omega arith
-
 pub returns-then-not-well : goal.returns-then-not-well
 unfolding head_refusal
 returns-then-not-well c =
     let known : Range3d = range_with c.args.reference (path_in c.args.reference_start.now) (path_in c.args.reference_end.now) in
     rw (c.refuse_head.ensures, c.clear.ensures, c.clear-2.ensures, in_empty)
-    (gives_refused 5 refl (range_unformed known _ (sym c.well_formed_lem.ensures ∙ c.if-not-well.true)))
+    (gives_refused 5 refl (range_unformed known _ (sym c.well_formed-well.ensures ∙ c.if-not-well.true)))
 
 pub returns-then-not-whole : goal.returns-then-not-whole
 unfolding head_refusal
@@ -36,9 +32,9 @@ bounds-message-from c =
 
 pub overflow_add-second : goal.overflow_add-second
 overflow_add-second c =
+    let short : length c.args.message.now < 2 ^ 64 = omega arith in
     let whole : c.args.from + header_length ≤ length c.args.message.now = leb-true _ _ (sym c.has_header-whole.ensures ∙ c.if-not-whole.false) in
-    let s : goal.Start = search in
-    omega (arith, whole, short s)
+    omega (arith, whole, short)
 
 pub bounds-message-second : goal.bounds-message-second
 bounds-message-second c =
@@ -47,9 +43,9 @@ bounds-message-second c =
 
 pub overflow_add-at : goal.overflow_add-at
 overflow_add-at c =
+    let short : length c.args.message.now < 2 ^ 64 = omega arith in
     let whole : c.args.from + header_length ≤ length c.args.message.now = leb-true _ _ (sym c.has_header-whole.ensures ∙ c.if-not-whole.false) in
-    let s : goal.Start = search in
-    omega (arith, whole, short s)
+    omega (arith, whole, short)
 
 pub slice_bounds-rest-count : goal.slice_bounds-rest-count
 slice_bounds-rest-count c =
@@ -64,11 +60,11 @@ slice_bounds-rest-start c =
 pub decode_parts-requires : goal.decode_parts-requires
 decode_parts-requires c =
     let known : Range3d = range_with c.args.reference (path_in c.args.reference_start.now) (path_in c.args.reference_end.now) in
+    let short : length c.args.message.now < 2 ^ 64 = omega arith in
     let formed : well_formed_range3d known ≡ true = sym c.well_formed-well.ensures ∙ c.if-not-well.false in
     let whole : c.args.from + header_length ≤ length c.args.message.now = leb-true _ _ (sym c.has_header-whole.ensures ∙ c.if-not-whole.false) in
-    let s : goal.Start = search in
     let at = c.args.from + header_length in (
-      rw (to_end at c.args.message.now) (omega (arith, length-drop at c.args.message.now, whole, short s)),
+      rw (to_end at c.args.message.now) (omega (arith, length-drop at c.args.message.now, whole, short)),
       well_sized_range known formed,
       c.clear.ensures,
       c.clear-2.ensures,
@@ -79,6 +75,5 @@ returns c =
     let known : Range3d = range_with c.args.reference (path_in c.args.reference_start.now) (path_in c.args.reference_end.now) in
     let formed : well_formed_range3d known ≡ true = sym c.well_formed-well.ensures ∙ c.if-not-well.false in
     let whole : c.args.from + header_length ≤ length c.args.message.now = leb-true _ _ (sym c.has_header-whole.ensures ∙ c.if-not-whole.false) in
-    let s = c in
-    rw (header_read (known s) formed s.args.message.now s.args.from whole)
-    (rw (c.unpack-header.ensures, to_end (s.args.from + header_length) s.args.message.now) at c.decode_parts.ensures)
+    rw (header_read known formed c.args.message.now c.args.from whole)
+    (rw (c.unpack-header.ensures, to_end (c.args.from + header_length) c.args.message.now) at c.decode_parts.ensures)

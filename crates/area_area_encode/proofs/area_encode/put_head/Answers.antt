@@ -31,6 +31,6 @@ returns c =
     let n = c.put_start-n in
     let w = c.relative_encode in
     let t = times_bytes a.within a.times in
-    let room : length t ≤ length (drop n.result n.last.0) = rw length-drop (omega (arith, parts, n.ensures.0, n.kept.0)) in
-    let rest : w.new.0 ≡ over t (drop n.result n.last.0) = rw (to_end n.result n.last.0) at w.ensures.1 ∙ put_over t (drop n.result n.last.0) room in
-    put_end n.result n.last.0 w.new.0 ∙ rw (rest, n.ensures.1, n.ensures.0) (over_then l (start_of (subspace_of a.reference) a.within (subspace_of a.subspace) a.times) t)
+    let room : length t ≤ length (drop n.result n.new.buffer) = rw length-drop (omega (arith, parts, n.ensures.0, n.auto.buffer)) in
+    let rest : w.new.buffer ≡ over t (drop n.result n.new.buffer) = rw (to_end n.result n.new.buffer) at w.ensures.1 ∙ put_over t (drop n.result n.new.buffer) room in
+    put_end n.result n.new.buffer w.new.buffer ∙ rw (rest, n.ensures.1, n.ensures.0) (over_then l (start_of (subspace_of a.reference) a.within (subspace_of a.subspace) a.times) t)

@@ -43,6 +43,6 @@ returns c =
     let s = subspace_bytes (subspace_of a.reference) (subspace_of a.subspace) in
     let rest = rw (to_end header_length (set l 0 h.result)) at w.ensures.1 in (
       omega (arith, w.ensures.0),
-      put_end header_length (set l 0 h.result) w.new.0 ∙ rw rest (over-cons l s h.result (omega (arith, c.requires)))
+      put_end header_length (set l 0 h.result) w.new.buffer ∙ rw rest (over-cons l s h.result (omega (arith, c.requires)))
           ∙ ap (λ (b : ℕ). over (b ∷ s) l) (h.ensures ∙ ap (λ (w : Bool). pack_header (header_of w a.within a.times)) c.id_written-written.ensures),
     )

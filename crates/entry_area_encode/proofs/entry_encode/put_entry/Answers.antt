@@ -28,8 +28,8 @@ returns-in_default c =
     let none = no_length w.result c.in_default.not-Length in
     let answer = rw (to_end a l, c.end_of-end.ensures) at w.ensures.0 in
     let bytes = rw (to_end a l, c.end_of-end.ensures) at w.ensures.1 in
-    let done = rest_refused head tail l a head_is c.if-buffer-a.false none.why w.last.0 (sym answer ∙ none.is) bytes in
-    (none.is ∙ done.0, put_end a l w.last.0 ∙ done.1)
+    let done = rest_refused head tail l a head_is c.if-buffer-a.false none.why w.new.tail (sym answer ∙ none.is) bytes in
+    (none.is ∙ done.0, put_end a l w.new.tail ∙ done.1)
 
 pub put_start-requires : goal.put_start-requires
 put_start-requires c =
@@ -48,7 +48,7 @@ overflow_add-result c =
     let w = c.put_rest-rest in
     let answer = rw (to_end a l, c.end_of-end.ensures) at w.ensures.0 in
     let bytes = rw (to_end a l, c.end_of-end.ensures) at w.ensures.1 in
-    rest_written head tail l a head_is c.if-buffer-a.false _ w.last.0 (sym answer ∙ ap outcome_of c.in-Length.is) bytes in
+    rest_written head tail l a head_is c.if-buffer-a.false _ w.new.tail (sym answer ∙ ap outcome_of c.in-Length.is) bytes in
     omega (arith, (put_wrote allowed (head ++ tail) (length c.args.buffer.now) _ (sym written.0)).fits, c.type_inv.0)
 
 pub returns : goal.returns
@@ -61,7 +61,7 @@ returns c =
     let w = c.put_rest-rest in
     let answer = rw (to_end a l, c.end_of-end.ensures) at w.ensures.0 in
     let bytes = rw (to_end a l, c.end_of-end.ensures) at w.ensures.1 in
-    rest_written head tail l a head_is c.if-buffer-a.false _ w.last.0 (sym answer ∙ ap outcome_of c.in-Length.is) bytes in
+    rest_written head tail l a head_is c.if-buffer-a.false _ w.new.tail (sym answer ∙ ap outcome_of c.in-Length.is) bytes in
     let done = written in (
       done.0,
       rw

@@ -47,4 +47,4 @@ returns c =
     let is = start_any a.subspace a.times a.t4 a.end header_is (c.if-not-subspace.false) in
     let rest = rw (to_end header_length (set l 0 h)) at w.ensures.1 in
     let room : length a.t4 ≤ length (drop header_length (set l 0 h)) = rw (length-drop, length-set) (omega (arith, c.requires, ap length is)) in
-    put_end header_length (set l 0 h) w.new.0 ∙ rw (rest, put_over a.t4 (drop header_length (set l 0 h)) room) (over-cons l a.t4 h (omega (arith, c.requires))) ∙ ap (λ (bs : List ℕ). over bs l) (sym is)
+    put_end header_length (set l 0 h) w.new.buffer ∙ rw (rest, put_over a.t4 (drop header_length (set l 0 h)) room) (over-cons l a.t4 h (omega (arith, c.requires))) ∙ ap (λ (bs : List ℕ). over bs l) (sym is)

@@ -49,7 +49,7 @@ returns c =
     let p = c.encode_shared-whole in
     let w = c.put_bytes in
     let y = c.args.t2 in
-    let first : p.last.0 ≡ over bytes l = p.ensures.buffer ∙ sym fits.1 in
-    let rest = rw (to_end c.in-Length.n p.last.0) at w.ensures.1 in
-    let room : length y ≤ length (drop c.in-Length.n p.last.0) = rw length-drop (omega (arith, parts, long, p.kept.0)) in
-    put_end c.in-Length.n p.last.0 w.new.0 ∙ rw (rest, put_over y (drop c.in-Length.n p.last.0) room, first, long) (over_then l bytes y)
+    let first : p.new.buffer ≡ over bytes l = p.ensures.buffer ∙ sym fits.1 in
+    let rest = rw (to_end c.in-Length.n p.new.buffer) at w.ensures.1 in
+    let room : length y ≤ length (drop c.in-Length.n p.new.buffer) = rw length-drop (omega (arith, parts, long, p.auto.buffer)) in
+    put_end c.in-Length.n p.new.buffer w.new.buffer ∙ rw (rest, put_over y (drop c.in-Length.n p.new.buffer) room, first, long) (over_then l bytes y)

@@ -38,4 +38,4 @@ returns c =
     let w = c.put_parts in
     let bs = parts_with c.args.reference c.args.fields bytes in
     let rest = rw (to_end header_length (set l 0 h.result)) at w.ensures in
-    put_end header_length (set l 0 h.result) w.new.0 ∙ rw rest (over-cons l bs h.result (omega (arith, c.requires.1))) ∙ ap (λ (b : ℕ). over (b ∷ bs) l) h.ensures
+    put_end header_length (set l 0 h.result) w.new.buffer ∙ rw rest (over-cons l bs h.result (omega (arith, c.requires.1))) ∙ ap (λ (b : ℕ). over (b ∷ bs) l) h.ensures

@@ -26,7 +26,7 @@ put_id-requires c =
     let parts : let a = c.args in length (id_bytes a.reference.namespace_id a.fields.namespace_id) + length (id_bytes a.reference.subspace_id a.fields.subspace_id) ≤ length a.buffer.now = let a = c.args in
     omega (arith, c.requires, length-append (id_bytes a.reference.namespace_id a.fields.namespace_id) (id_bytes a.reference.subspace_id a.fields.subspace_id)) in
     let n = c.put_id-a in
-    rw (to_end n.result n.last.0, length-drop) (omega (arith, parts, n.ensures.0, n.kept.0))
+    rw (to_end n.result n.new.buffer, length-drop) (omega (arith, parts, n.ensures.0, n.auto.buffer))
 
 pub overflow_add-result : goal.overflow_add-result
 overflow_add-result c =
@@ -42,7 +42,7 @@ returns c =
     let y = id_bytes a.reference.subspace_id a.fields.subspace_id in
     let n = c.put_id-a in
     let w = c.put_id in
-    let rest = rw (to_end n.result n.last.0) at w.ensures.1 in (
+    let rest = rw (to_end n.result n.new.buffer) at w.ensures.1 in (
       omega (arith, n.ensures.0, w.ensures.0, length-append x y),
-      put_end n.result n.last.0 w.new.0 ∙ rw (rest, n.ensures.1, n.ensures.0) (over_then l x y),
+      put_end n.result n.new.buffer w.new.buffer ∙ rw (rest, n.ensures.1, n.ensures.0) (over_then l x y),
     )

@@ -29,7 +29,7 @@ put_rest-requires c =
     let bytes : List ℕ = (shared_by sized c.args.k).encode (path_in c.args.path.now) in
     let parts : let a = c.args in length (ids_with a.reference a.fields) + length (rest_with a.reference a.fields bytes) ≤ length a.buffer.now = let a = c.args in omega (arith, c.requires.1, length-append (ids_with a.reference a.fields) (rest_with a.reference a.fields bytes)) in
     let n = c.put_ids-n in
-    (c.requires.0, rw (to_end n.result n.last.0, length-drop) (omega (arith, parts, n.ensures.0, n.kept.0)))
+    (c.requires.0, rw (to_end n.result n.new.buffer, length-drop) (omega (arith, parts, n.ensures.0, n.auto.buffer)))
 
 pub returns : goal.returns
 returns c =
@@ -37,5 +37,5 @@ returns c =
     let l = c.args.buffer.now in
     let n = c.put_ids-n in
     let w = c.put_rest in
-    let rest = rw (to_end n.result n.last.0) at w.ensures in
-    put_end n.result n.last.0 w.new.0 ∙ rw (rest, n.ensures.1, n.ensures.0) (over_then l (ids_with c.args.reference c.args.fields) (rest_with c.args.reference c.args.fields bytes))
+    let rest = rw (to_end n.result n.new.buffer) at w.ensures in
+    put_end n.result n.new.buffer w.new.buffer ∙ rw (rest, n.ensures.1, n.ensures.0) (over_then l (ids_with c.args.reference c.args.fields) (rest_with c.args.reference c.args.fields bytes))

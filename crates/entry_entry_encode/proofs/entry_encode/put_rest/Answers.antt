@@ -27,7 +27,7 @@ put_end-requires c =
     let parts : let a = c.args in length (numbers_bytes a.reference.timestamp a.fields.timestamp a.fields.payload_length) + length (bytes ++ a.fields.payload_digest) ≤ length a.buffer.now = let a = c.args in omega (arith, c.requires.1, length-append (numbers_bytes a.reference.timestamp a.fields.timestamp a.fields.payload_length) (bytes ++ a.fields.payload_digest)) in
     let n = c.relative_len_of_encoding-n in
     let p = c.relative_encode in
-    (c.requires.0, rw (to_end n.result p.last.0, length-drop) (omega (arith, parts, n.ensures.0, p.kept.0)))
+    (c.requires.0, rw (to_end n.result p.new.buffer, length-drop) (omega (arith, parts, n.ensures.0, p.auto.buffer)))
 
 pub returns : goal.returns
 returns c =
@@ -39,6 +39,6 @@ returns c =
     let p = c.relative_encode in
     let w = c.put_end in
     let x = numbers_bytes a.reference.timestamp a.fields.timestamp a.fields.payload_length in
-    let first : p.last.0 ≡ over x l = p.ensures.1 ∙ put_over x l (omega (arith, parts)) in
-    let rest = rw (to_end n.result p.last.0) at w.ensures in
-    put_end n.result p.last.0 w.new.0 ∙ rw (rest, first, n.ensures.0) (over_then l x (bytes ++ a.fields.payload_digest))
+    let first : p.new.buffer ≡ over x l = p.ensures.1 ∙ put_over x l (omega (arith, parts)) in
+    let rest = rw (to_end n.result p.new.buffer) at w.ensures in
+    put_end n.result p.new.buffer w.new.buffer ∙ rw (rest, first, n.ensures.0) (over_then l x (bytes ++ a.fields.payload_digest))

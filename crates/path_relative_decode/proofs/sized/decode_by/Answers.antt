@@ -21,28 +21,20 @@ use Rattle.path_relative.proofs.Exits.{against_malformed, against_first, against
 use Rattle.path_relative.proofs.Within.{by_refused, by_joined, tested_bounded}
 use Rattle.path_relative_decode.proofs.sized.decode_by.Goals as goal
 
--- what the language says of the message
-short : (s : goal.Start) → length s.args.message.now < 2 ^ 64
-short s = omega arith
-
--- a refusal against the reference
-refuses : (s : goal.Start) (k : ℕ) → let a = s.args in read_against_by sized a.canonic (reference s) (drop a.start a.message.now) ≡ refused k
-    → read_tested_by sized a.within a.canonic (reference s) (drop a.start a.message.now) ≡ refused k
-refuses s k e = by_refused sized s.args.within s.args.canonic (reference s) _ k e
-
 pub returns-then-not-fits : goal.returns-then-not-fits
 returns-then-not-fits c =
-    let s : goal.Start = search in
-    rw (c.clear.ensures, in_empty) (gives_refused 5 refl (refuses s 5 (against_malformed sized _ _ _ (sym c.sized-fits.ensures ∙ c.if-not-fits.true))))
+    let reference : Path = path_in c.args.reference.now in
+    let refuses : (k : ℕ) → let a = c.args in read_against_by sized a.canonic reference (drop a.start a.message.now) ≡ refused k → read_tested_by sized a.within a.canonic reference (drop a.start a.message.now) ≡ refused k = λ k e. by_refused sized c.args.within c.args.canonic reference _ k e in
+    rw (c.clear.ensures, in_empty) (gives_refused 5 refl (refuses 5 (against_malformed sized _ _ _ (sym c.sized-fits.ensures ∙ c.if-not-fits.true))))
 
 pub returns-in_default : goal.returns-in_default
 returns-in_default c =
     let reference : Path = path_in c.args.reference.now in
+    let refuses : (k : ℕ) → let a = c.args in read_against_by sized a.canonic reference (drop a.start a.message.now) ≡ refused k → read_tested_by sized a.within a.canonic reference (drop a.start a.message.now) ≡ refused k = λ k e. by_refused sized c.args.within c.args.canonic reference _ k e in
     let fits : sized reference ≡ true = sym c.sized-fits.ensures ∙ c.if-not-fits.false in
-    let s : goal.Start = search in
     let x = refused_number c.decode-number.result c.in_default.not-Value in
     let e = against_first sized _ reference fits c.args.message.now c.args.start x.why (sym c.decode-number.ensures ∙ x.number) in
-    rw (c.clear.ensures, in_empty) (gives_refused x.why (x.whole (path_from []) c.unvalued.result c.unvalued.ensures) (refuses s x.why e))
+    rw (c.clear.ensures, in_empty) (gives_refused x.why (x.whole (path_from []) c.unvalued.result c.unvalued.ensures) (refuses x.why e))
 
 pub overflow_add-first : goal.overflow_add-first
 overflow_add-first c =
@@ -53,34 +45,35 @@ overflow_add-first c =
 pub returns-in_default-sizes_answer : goal.returns-in_default-sizes_answer
 returns-in_default-sizes_answer c =
     let reference : Path = path_in c.args.reference.now in
+    let refuses : (k : ℕ) → let a = c.args in read_against_by sized a.canonic reference (drop a.start a.message.now) ≡ refused k → read_tested_by sized a.within a.canonic reference (drop a.start a.message.now) ≡ refused k = λ k e. by_refused sized c.args.within c.args.canonic reference _ k e in
     let fits : sized reference ≡ true = sym c.sized-fits.ensures ∙ c.if-not-fits.false in
     let shared_are : let a = c.args in read_standalone a.canonic (drop a.start a.message.now) ≡ accepted c.in-Value.shared c.in-Value.a = sym c.decode-number.ensures ∙ ap number_answer c.in-Value.is in
-    let s : goal.Start = search in
     let x = no_value c.decode_sizes-sizes.result.answer c.in_default-sizes_answer.not-Consumed in
     let e = against_sizes sized _ reference fits c.args.message.now c.args.start _ _ shared_are x.why (sym c.decode_sizes-sizes.ensures.answer ∙ x.beside _) in
-    rw (c.clear.ensures, in_empty) (gives_refused x.why (x.beside _) (refuses s x.why e))
+    rw (c.clear.ensures, in_empty) (gives_refused x.why (x.beside _) (refuses x.why e))
 
 pub returns-then-count-shared : goal.returns-then-count-shared
 returns-then-count-shared c =
     let reference : Path = path_in c.args.reference.now in
+    let refuses : (k : ℕ) → let a = c.args in read_against_by sized a.canonic reference (drop a.start a.message.now) ≡ refused k → read_tested_by sized a.within a.canonic reference (drop a.start a.message.now) ≡ refused k = λ k e. by_refused sized c.args.within c.args.canonic reference _ k e in
     let fits : sized reference ≡ true = sym c.sized-fits.ensures ∙ c.if-not-fits.false in
     let here : Formed reference = sized_formed fits in
     let counted : c.count.result ≡ reference.count = c.count.ensures ∙ lent_known _ here 0 (λ p. p.count) in
     let shared_are : let a = c.args in read_standalone a.canonic (drop a.start a.message.now) ≡ accepted c.in-Value.shared c.in-Value.a = sym c.decode-number.ensures ∙ ap number_answer c.in-Value.is in
     let told2_sizes : DecodedSizes = c.decode_sizes-sizes.result in
     let sizes_are : let a = c.args in let h = told2_sizes in read_sizes a.canonic (drop (a.start + c.in-Value.a) a.message.now) ≡ accepted (sizes_from h.total h.count) c.in-Consumed.b = sym (rw c.in-Consumed.is at c.decode_sizes-sizes.ensures.answer) in
-    let s : goal.Start = search in
     rw (c.clear.ensures, in_empty) (gives_refused 2 refl
-    (refuses s 2
+    (refuses 2
     (against_above sized _ reference fits c.args.message.now c.args.start _ _ shared_are _ _ _ sizes_are
     (omega (arith, c.if-count-shared.true, counted, count_is reference here)))))
 
 pub overflow_add-at : goal.overflow_add-at
 overflow_add-at c =
+    let short : length c.args.message.now < 2 ^ 64 = omega arith in
     let told2_sizes : DecodedSizes = c.decode_sizes-sizes.result in
     let sizes_are : let a = c.args in let h = told2_sizes in read_sizes a.canonic (drop (a.start + c.in-Value.a) a.message.now) ≡ accepted (sizes_from h.total h.count) c.in-Consumed.b = sym (rw c.in-Consumed.is at c.decode_sizes-sizes.ensures.answer) in
     let begins : c.args.start + c.in-Value.a + c.in-Consumed.b ≤ length c.args.message.now = let a = c.args in sizes_inside a.canonic a.message.now (a.start + c.in-Value.a) _ _ sizes_are in
-    omega (arith, begins, short c)
+    omega (arith, begins, short)
 
 pub slice_bounds-rest-count : goal.slice_bounds-rest-count
 slice_bounds-rest-count c =
@@ -109,59 +102,55 @@ returns-in_default-answer c =
     let reference : Path = path_in c.args.reference.now in
     let told2_sizes : DecodedSizes = c.decode_sizes-sizes.result in
     let path : Path = path_in c.decode_tested-answer.new.within.1.1.1.1.1.1.0 in
-    let tested_are : let s = c in let h = told2_sizes in let n = c.number-1.given.0 in Gives (path_from []) c.decode_tested-answer.result path (read_tested s.args.within s.args.canonic (reference s) n.0 h.total h.count (drop (s.args.start + n.1.0 + c.in-Consumed.b) s.args.message.now)) = let a = c.args in
+    let tested_are : let h = told2_sizes in let n = c.number-1.given.0 in Gives (path_from []) c.decode_tested-answer.result path (read_tested c.args.within c.args.canonic reference n.0 h.total h.count (drop (c.args.start + n.1.0 + c.in-Consumed.b) c.args.message.now)) = let a = c.args in
     rw (to_end (a.start + c.in-Value.a + c.in-Consumed.b) a.message.now) at c.decode_tested-answer.ensures in
     let fits : sized reference ≡ true = sym c.sized-fits.ensures ∙ c.if-not-fits.false in
     let shared_are : let a = c.args in read_standalone a.canonic (drop a.start a.message.now) ≡ accepted c.in-Value.shared c.in-Value.a = sym c.decode-number.ensures ∙ ap number_answer c.in-Value.is in
     let sizes_are : let a = c.args in let h = told2_sizes in read_sizes a.canonic (drop (a.start + c.in-Value.a) a.message.now) ≡ accepted (sizes_from h.total h.count) c.in-Consumed.b = sym (rw c.in-Consumed.is at c.decode_sizes-sizes.ensures.answer) in
-    let tested_at : let s = c in let h = told2_sizes in let n = c.number-1.given.0 in read_tested_by sized s.args.within s.args.canonic (reference s) (drop s.args.start s.args.message.now) ≡ shift n.1.0 (shift c.in-Consumed.b (read_tested s.args.within s.args.canonic (reference s) n.0 h.total h.count (drop (s.args.start + n.1.0 + c.in-Consumed.b) s.args.message.now))) = by_joined sized c.args.within _ reference _ _ _ _ _ _ _
+    let tested_at : let h = told2_sizes in let n = c.number-1.given.0 in read_tested_by sized c.args.within c.args.canonic reference (drop c.args.start c.args.message.now) ≡ shift n.1.0 (shift c.in-Consumed.b (read_tested c.args.within c.args.canonic reference n.0 h.total h.count (drop (c.args.start + n.1.0 + c.in-Consumed.b) c.args.message.now))) = by_joined sized c.args.within _ reference _ _ _ _ _ _ _
     (against_joined sized _ reference fits c.args.message.now c.args.start _ _ shared_are _ _ _ sizes_are) in
     rw tested_at (later_refused _ _ c.in_default-answer.not-Consumed-answer (later_refused _ _ c.in_default-answer.not-Consumed-answer tested_are))
 
 pub overflow_add-result : goal.overflow_add-result
 overflow_add-result c =
+    let short : length c.args.message.now < 2 ^ 64 = omega arith in
     let reference : Path = path_in c.args.reference.now in
     let told2_sizes : DecodedSizes = c.decode_sizes-sizes.result in
     let sizes_are : let a = c.args in let h = told2_sizes in read_sizes a.canonic (drop (a.start + c.in-Value.a) a.message.now) ≡ accepted (sizes_from h.total h.count) c.in-Consumed.b = sym (rw c.in-Consumed.is at c.decode_sizes-sizes.ensures.answer) in
     let begins : c.args.start + c.in-Value.a + c.in-Consumed.b ≤ length c.args.message.now = let a = c.args in sizes_inside a.canonic a.message.now (a.start + c.in-Value.a) _ _ sizes_are in
     let path : Path = path_in c.decode_tested-answer.new.within.1.1.1.1.1.1.0 in
-    let tested_are : let s = c in let h = told2_sizes in let n = c.number-1.given.0 in Gives (path_from []) c.decode_tested-answer.result path (read_tested s.args.within s.args.canonic (reference s) n.0 h.total h.count (drop (s.args.start + n.1.0 + c.in-Consumed.b) s.args.message.now)) = let a = c.args in
+    let tested_are : let h = told2_sizes in let n = c.number-1.given.0 in Gives (path_from []) c.decode_tested-answer.result path (read_tested c.args.within c.args.canonic reference n.0 h.total h.count (drop (c.args.start + n.1.0 + c.in-Consumed.b) c.args.message.now)) = let a = c.args in
     rw (to_end (a.start + c.in-Value.a + c.in-Consumed.b) a.message.now) at c.decode_tested-answer.ensures in
-    let inside : let t = c in let s = told2_start t in s.args.start + (told2_number t).number.given.0.1.0 + t.before.sizes_answer.given.0.0 + c.in-Consumed-answer.m ≤ length s.args.message.now = let t = c in
-    let s = told2_start t in
-    let at = s.args.start + (told2_number t).number.given.0.1.0 + t.before.sizes_answer.given.0.0 in
+    let inside : c.args.start + c.in-Value.a + c.in-Consumed.b + c.in-Consumed-answer.m ≤ length c.args.message.now = let at = c.args.start + c.in-Value.a + c.in-Consumed.b in
     let e = sym tested_are.answer ∙ ap (λ (d : Decoded). answer_of d path) c.in-Consumed-answer.is in
-    omega (arith, begins t, (tested_bounded s.args.canonic (reference s) _ _ _ s.args.within).bound (drop at s.args.message.now) _ _ e, length-drop at s.args.message.now) in
-    let start : goal.Start = search in
-    omega (arith, inside, short start)
+    omega (arith, begins, (tested_bounded c.args.canonic reference _ _ _ c.args.within).bound (drop at c.args.message.now) _ _ e, length-drop at c.args.message.now) in
+    omega (arith, inside, short)
 
 pub overflow_add-result-2 : goal.overflow_add-result-2
 overflow_add-result-2 c =
+    let short : length c.args.message.now < 2 ^ 64 = omega arith in
     let reference : Path = path_in c.args.reference.now in
     let told2_sizes : DecodedSizes = c.decode_sizes-sizes.result in
     let sizes_are : let a = c.args in let h = told2_sizes in read_sizes a.canonic (drop (a.start + c.in-Value.a) a.message.now) ≡ accepted (sizes_from h.total h.count) c.in-Consumed.b = sym (rw c.in-Consumed.is at c.decode_sizes-sizes.ensures.answer) in
     let begins : c.args.start + c.in-Value.a + c.in-Consumed.b ≤ length c.args.message.now = let a = c.args in sizes_inside a.canonic a.message.now (a.start + c.in-Value.a) _ _ sizes_are in
     let path : Path = path_in c.decode_tested-answer.new.within.1.1.1.1.1.1.0 in
-    let tested_are : let s = c in let h = told2_sizes in let n = c.number-1.given.0 in Gives (path_from []) c.decode_tested-answer.result path (read_tested s.args.within s.args.canonic (reference s) n.0 h.total h.count (drop (s.args.start + n.1.0 + c.in-Consumed.b) s.args.message.now)) = let a = c.args in
+    let tested_are : let h = told2_sizes in let n = c.number-1.given.0 in Gives (path_from []) c.decode_tested-answer.result path (read_tested c.args.within c.args.canonic reference n.0 h.total h.count (drop (c.args.start + n.1.0 + c.in-Consumed.b) c.args.message.now)) = let a = c.args in
     rw (to_end (a.start + c.in-Value.a + c.in-Consumed.b) a.message.now) at c.decode_tested-answer.ensures in
-    let inside : let t = c in let s = told2_start t in s.args.start + (told2_number t).number.given.0.1.0 + t.before.sizes_answer.given.0.0 + c.in-Consumed-answer.m ≤ length s.args.message.now = let t = c in
-    let s = told2_start t in
-    let at = s.args.start + (told2_number t).number.given.0.1.0 + t.before.sizes_answer.given.0.0 in
+    let inside : c.args.start + c.in-Value.a + c.in-Consumed.b + c.in-Consumed-answer.m ≤ length c.args.message.now = let at = c.args.start + c.in-Value.a + c.in-Consumed.b in
     let e = sym tested_are.answer ∙ ap (λ (d : Decoded). answer_of d path) c.in-Consumed-answer.is in
-    omega (arith, begins t, (tested_bounded s.args.canonic (reference s) _ _ _ s.args.within).bound (drop at s.args.message.now) _ _ e, length-drop at s.args.message.now) in
-    let start : goal.Start = search in
-    omega (arith, inside, short start)
+    omega (arith, begins, (tested_bounded c.args.canonic reference _ _ _ c.args.within).bound (drop at c.args.message.now) _ _ e, length-drop at c.args.message.now) in
+    omega (arith, inside, short)
 
 pub returns : goal.returns
 returns c =
     let reference : Path = path_in c.args.reference.now in
     let told2_sizes : DecodedSizes = c.decode_sizes-sizes.result in
     let path : Path = path_in c.decode_tested-answer.new.within.1.1.1.1.1.1.0 in
-    let tested_are : let s = c in let h = told2_sizes in let n = c.number-1.given.0 in Gives (path_from []) c.decode_tested-answer.result path (read_tested s.args.within s.args.canonic (reference s) n.0 h.total h.count (drop (s.args.start + n.1.0 + c.in-Consumed.b) s.args.message.now)) = let a = c.args in
+    let tested_are : let h = told2_sizes in let n = c.number-1.given.0 in Gives (path_from []) c.decode_tested-answer.result path (read_tested c.args.within c.args.canonic reference n.0 h.total h.count (drop (c.args.start + n.1.0 + c.in-Consumed.b) c.args.message.now)) = let a = c.args in
     rw (to_end (a.start + c.in-Value.a + c.in-Consumed.b) a.message.now) at c.decode_tested-answer.ensures in
     let fits : sized reference ≡ true = sym c.sized-fits.ensures ∙ c.if-not-fits.false in
     let shared_are : let a = c.args in read_standalone a.canonic (drop a.start a.message.now) ≡ accepted c.in-Value.shared c.in-Value.a = sym c.decode-number.ensures ∙ ap number_answer c.in-Value.is in
     let sizes_are : let a = c.args in let h = told2_sizes in read_sizes a.canonic (drop (a.start + c.in-Value.a) a.message.now) ≡ accepted (sizes_from h.total h.count) c.in-Consumed.b = sym (rw c.in-Consumed.is at c.decode_sizes-sizes.ensures.answer) in
-    let tested_at : let s = c in let h = told2_sizes in let n = c.number-1.given.0 in read_tested_by sized s.args.within s.args.canonic (reference s) (drop s.args.start s.args.message.now) ≡ shift n.1.0 (shift c.in-Consumed.b (read_tested s.args.within s.args.canonic (reference s) n.0 h.total h.count (drop (s.args.start + n.1.0 + c.in-Consumed.b) s.args.message.now))) = by_joined sized c.args.within _ reference _ _ _ _ _ _ _
+    let tested_at : let h = told2_sizes in let n = c.number-1.given.0 in read_tested_by sized c.args.within c.args.canonic reference (drop c.args.start c.args.message.now) ≡ shift n.1.0 (shift c.in-Consumed.b (read_tested c.args.within c.args.canonic reference n.0 h.total h.count (drop (c.args.start + n.1.0 + c.in-Consumed.b) c.args.message.now))) = by_joined sized c.args.within _ reference _ _ _ _ _ _ _
     (against_joined sized _ reference fits c.args.message.now c.args.start _ _ shared_are _ _ _ sizes_are) in
     rw tested_at (later_accepted _ _ _ refl (later_accepted _ _ _ c.in-Consumed-answer.is tested_are))

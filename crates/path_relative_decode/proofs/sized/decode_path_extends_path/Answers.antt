@@ -19,10 +19,6 @@ use Rattle.path_relative.specs.Records.{read_extends_by}
 use Rattle.path_relative.proofs.Exits.{extends_unformed, extends_sizes, extends_long, extends_many, extends_more}
 use Rattle.path_relative_decode.proofs.sized.decode_path_extends_path.Goals as goal
 
--- what the language says of the message
-short : (s : goal.Start) → length s.args.message.now < 2 ^ 64
-short s = omega arith
-
 -- all components of a path
 module _ (p : Path) (is : sized p ≡ true) (n : ℕ) (e : n ≡ p.count) where
   all_total : total_of (take n (components_of p)) ≡ total_of (components_of p)
@@ -68,9 +64,8 @@ returns-then-used-total c =
     let told_sizes : DecodedSizes = c.decode_sizes-sizes.result in
     let sizes_are : let a = c.args in let h = told_sizes in read_sizes a.canonic (drop a.start a.message.now) ≡ accepted (sizes_from h.total h.count) c.in-Consumed.n = sym (rw c.in-Consumed.is at c.decode_sizes-sizes.ensures.answer) in
     let bytes : AllBytes c.args.message.now = λ i. omega (arith, c.shared_slice_known-1.given i) in
-    let t = c in
     rw
-    (extends_long sized _ prefix fits here c.args.message.now c.args.start _ _ _ (sizes_are t) (bytes t)
+    (extends_long sized _ prefix fits here c.args.message.now c.args.start _ _ _ sizes_are bytes
     (omega (arith, c.if-used-total.true, total_few, total_sum)))
     c.decode_outside.ensures
 
@@ -97,19 +92,18 @@ returns-then-count-more c =
     let total_sum : c.span-used.result ≡ total_of (components_of (prefix span_start1)) = c.span-used.ensures ∙ span_start _ here c.count-count.result (omega (arith, counted)) ∙ all_total _ fits _ counted in
     let total_few : c.span-used.result ≤ max_path_length = omega (arith, total_sum, total_small _ here) in
     let total_fits : total_of (components_of (prefix span_start1)) + told_sizes.total ≤ max_path_length = omega (arith, c.if-used-total.false, total_few, total_sum) in
-    let t = c in
     rw
-    (extends_many sized _ prefix fits here c.args.message.now c.args.start _ _ _ (sizes_are t) (bytes t) total_fits
+    (extends_many sized _ prefix fits here c.args.message.now c.args.start _ _ _ sizes_are bytes total_fits
     (omega (arith, c.if-count-more.true, counted, few)))
     c.decode_outside-then-count-more.ensures
 
 pub overflow_add-at : goal.overflow_add-at
 overflow_add-at c =
+    let short : length c.args.message.now < 2 ^ 64 = omega arith in
     let told_sizes : DecodedSizes = c.decode_sizes-sizes.result in
     let sizes_are : let a = c.args in let h = told_sizes in read_sizes a.canonic (drop a.start a.message.now) ≡ accepted (sizes_from h.total h.count) c.in-Consumed.n = sym (rw c.in-Consumed.is at c.decode_sizes-sizes.ensures.answer) in
     let begins : c.args.start + c.in-Consumed.n ≤ length c.args.message.now = let a = c.args in sizes_inside a.canonic a.message.now a.start _ _ sizes_are in
-    let start : goal.Start = search in
-    omega (arith, begins, short start)
+    omega (arith, begins, short)
 
 pub slice_bounds-rest-count : goal.slice_bounds-rest-count
 slice_bounds-rest-count c =
@@ -133,11 +127,9 @@ returns-in_default-answer c =
     let here : Formed prefix = sized_formed fits in
     let counted : c.count-count.result ≡ prefix.count = c.count-count.ensures ∙ lent_known _ here 0 (λ p. p.count) in
     let path : Path = path_in c.decode_after-answer.new.canonic.1.1.1.1.1.0 in
-    let after : let t = c in let s = told_start t in let h = told_sizes t in Gives (path_from []) c.decode_after-answer.result path (read_more s.args.canonic (components_of (prefix s)) h.total h.count (drop (s.args.start + t.before.sizes_answer.given.0.0) s.args.message.now)) = let t = c in
-    let s = told_start t in
-    let a = s.args in
-    let on = all_more (prefix s) fits _ counted a.canonic in
-    rw (to_end (a.start + t.before.sizes_answer.given.0.0) a.message.now, on _ _ _) at c.decode_after-answer.ensures in
+    let after : let h = told_sizes in Gives (path_from []) c.decode_after-answer.result path (read_more c.args.canonic (components_of prefix) h.total h.count (drop (c.args.start + c.in-Consumed.n) c.args.message.now)) = let a = c.args in
+    let on = all_more prefix fits _ counted a.canonic in
+    rw (to_end (a.start + c.in-Consumed.n) a.message.now, on _ _ _) at c.decode_after-answer.ensures in
     let few : c.count-count.result ≤ max_component_count = omega (arith, counted, here.well.count) in
     let sizes_are : let a = c.args in let h = told_sizes in read_sizes a.canonic (drop a.start a.message.now) ≡ accepted (sizes_from h.total h.count) c.in-Consumed.n = sym (rw c.in-Consumed.is at c.decode_sizes-sizes.ensures.answer) in
     let bytes : AllBytes c.args.message.now = λ i. omega (arith, c.shared_slice_known-1.given i) in
@@ -145,13 +137,13 @@ returns-in_default-answer c =
     let total_sum : c.span-used.result ≡ total_of (components_of (prefix span_start1)) = c.span-used.ensures ∙ span_start _ here c.count-count.result (omega (arith, counted)) ∙ all_total _ fits _ counted in
     let total_few : c.span-used.result ≤ max_path_length = omega (arith, total_sum, total_small _ here) in
     let total_fits : total_of (components_of (prefix span_start1)) + told_sizes.total ≤ max_path_length = omega (arith, c.if-used-total.false, total_few, total_sum) in
-    let extends_at : let t = c in let s = told_start t in let h = told_sizes t in read_extends_by sized s.args.canonic (prefix s) (drop s.args.start s.args.message.now) ≡ shift t.before.sizes_answer.given.0.0 (read_more s.args.canonic (components_of (prefix s)) h.total h.count (drop (s.args.start + t.before.sizes_answer.given.0.0) s.args.message.now)) = let t = c in
-    extends_more sized _ prefix fits here c.args.message.now c.args.start _ _ _ (sizes_are t) (bytes t) total_fits
+    let extends_at : let h = told_sizes in read_extends_by sized c.args.canonic prefix (drop c.args.start c.args.message.now) ≡ shift c.in-Consumed.n (read_more c.args.canonic (components_of prefix) h.total h.count (drop (c.args.start + c.in-Consumed.n) c.args.message.now)) = extends_more sized _ prefix fits here c.args.message.now c.args.start _ _ _ sizes_are bytes total_fits
     (omega (arith, c.if-count-more.false, counted, few)) in
     rw extends_at (later_refused _ _ c.in_default-answer.not-Consumed-answer after)
 
 pub overflow_add-result : goal.overflow_add-result
 overflow_add-result c =
+    let short : length c.args.message.now < 2 ^ 64 = omega arith in
     let told_sizes : DecodedSizes = c.decode_sizes-sizes.result in
     let sizes_are : let a = c.args in let h = told_sizes in read_sizes a.canonic (drop a.start a.message.now) ≡ accepted (sizes_from h.total h.count) c.in-Consumed.n = sym (rw c.in-Consumed.is at c.decode_sizes-sizes.ensures.answer) in
     let begins : c.args.start + c.in-Consumed.n ≤ length c.args.message.now = let a = c.args in sizes_inside a.canonic a.message.now a.start _ _ sizes_are in
@@ -160,15 +152,12 @@ overflow_add-result c =
     let fits : sized prefix ≡ true = sym c.sized-fits.ensures ∙ c.if-not-fits.false in
     let here : Formed prefix = sized_formed fits in
     let counted : c.count-count.result ≡ prefix.count = c.count-count.ensures ∙ lent_known _ here 0 (λ p. p.count) in
-    let after : let t = c in let s = told_start t in let h = told_sizes t in Gives (path_from []) c.decode_after-answer.result path (read_more s.args.canonic (components_of (prefix s)) h.total h.count (drop (s.args.start + t.before.sizes_answer.given.0.0) s.args.message.now)) = let t = c in
-    let s = told_start t in
-    let a = s.args in
-    let on = all_more (prefix s) fits _ counted a.canonic in
-    rw (to_end (a.start + t.before.sizes_answer.given.0.0) a.message.now, on _ _ _) at c.decode_after-answer.ensures in
-    let t = c in
-    let a = (told_start t).args in
+    let after : let h = told_sizes in Gives (path_from []) c.decode_after-answer.result path (read_more c.args.canonic (components_of prefix) h.total h.count (drop (c.args.start + c.in-Consumed.n) c.args.message.now)) = let a = c.args in
+    let on = all_more prefix fits _ counted a.canonic in
+    rw (to_end (a.start + c.in-Consumed.n) a.message.now, on _ _ _) at c.decode_after-answer.ensures in
+    let a = c.args in
     let e = sym after.answer ∙ ap (λ (d : Decoded). answer_of d path) c.in-Consumed-answer.is in
-    omega (arith, short (told_start t), begins t, (more_bounded a.canonic _ _ _).bound (drop (a.start + t.before.sizes_answer.given.0.0) a.message.now) _ _ e, length-drop (a.start + t.before.sizes_answer.given.0.0) a.message.now)
+    omega (arith, short, begins, (more_bounded a.canonic _ _ _).bound (drop (a.start + c.in-Consumed.n) a.message.now) _ _ e, length-drop (a.start + c.in-Consumed.n) a.message.now)
 
 pub returns : goal.returns
 returns c =
@@ -178,11 +167,9 @@ returns c =
     let here : Formed prefix = sized_formed fits in
     let counted : c.count-count.result ≡ prefix.count = c.count-count.ensures ∙ lent_known _ here 0 (λ p. p.count) in
     let path : Path = path_in c.decode_after-answer.new.canonic.1.1.1.1.1.0 in
-    let after : let t = c in let s = told_start t in let h = told_sizes t in Gives (path_from []) c.decode_after-answer.result path (read_more s.args.canonic (components_of (prefix s)) h.total h.count (drop (s.args.start + t.before.sizes_answer.given.0.0) s.args.message.now)) = let t = c in
-    let s = told_start t in
-    let a = s.args in
-    let on = all_more (prefix s) fits _ counted a.canonic in
-    rw (to_end (a.start + t.before.sizes_answer.given.0.0) a.message.now, on _ _ _) at c.decode_after-answer.ensures in
+    let after : let h = told_sizes in Gives (path_from []) c.decode_after-answer.result path (read_more c.args.canonic (components_of prefix) h.total h.count (drop (c.args.start + c.in-Consumed.n) c.args.message.now)) = let a = c.args in
+    let on = all_more prefix fits _ counted a.canonic in
+    rw (to_end (a.start + c.in-Consumed.n) a.message.now, on _ _ _) at c.decode_after-answer.ensures in
     let few : c.count-count.result ≤ max_component_count = omega (arith, counted, here.well.count) in
     let sizes_are : let a = c.args in let h = told_sizes in read_sizes a.canonic (drop a.start a.message.now) ≡ accepted (sizes_from h.total h.count) c.in-Consumed.n = sym (rw c.in-Consumed.is at c.decode_sizes-sizes.ensures.answer) in
     let bytes : AllBytes c.args.message.now = λ i. omega (arith, c.shared_slice_known-1.given i) in
@@ -190,7 +177,6 @@ returns c =
     let total_sum : c.span-used.result ≡ total_of (components_of (prefix span_start1)) = c.span-used.ensures ∙ span_start _ here c.count-count.result (omega (arith, counted)) ∙ all_total _ fits _ counted in
     let total_few : c.span-used.result ≤ max_path_length = omega (arith, total_sum, total_small _ here) in
     let total_fits : total_of (components_of (prefix span_start1)) + told_sizes.total ≤ max_path_length = omega (arith, c.if-used-total.false, total_few, total_sum) in
-    let extends_at : let t = c in let s = told_start t in let h = told_sizes t in read_extends_by sized s.args.canonic (prefix s) (drop s.args.start s.args.message.now) ≡ shift t.before.sizes_answer.given.0.0 (read_more s.args.canonic (components_of (prefix s)) h.total h.count (drop (s.args.start + t.before.sizes_answer.given.0.0) s.args.message.now)) = let t = c in
-    extends_more sized _ prefix fits here c.args.message.now c.args.start _ _ _ (sizes_are t) (bytes t) total_fits
+    let extends_at : let h = told_sizes in read_extends_by sized c.args.canonic prefix (drop c.args.start c.args.message.now) ≡ shift c.in-Consumed.n (read_more c.args.canonic (components_of prefix) h.total h.count (drop (c.args.start + c.in-Consumed.n) c.args.message.now)) = extends_more sized _ prefix fits here c.args.message.now c.args.start _ _ _ sizes_are bytes total_fits
     (omega (arith, c.if-count-more.false, counted, few)) in
     rw extends_at (later_accepted _ _ _ c.in-Consumed-answer.is after)

@@ -30,8 +30,8 @@ returns-in_default c =
     let answer = rw (to_end n.result l) at w.ensures.answer in
     let bytes = rw (to_end n.result l) at w.ensures.buffer in
     let done = rest_refused_writing (standalone_bytes c.args.k) (f.encode path) l n.result n.ensures.0 c.if-buffer-a.false (f.check path)
-    none.why w.last.0 (sym answer ∙ none.is) bytes in
-    writes_into (none.is ∙ done.0, put_end n.result l w.last.0 ∙ done.1)
+    none.why w.new.buffer (sym answer ∙ none.is) bytes in
+    writes_into (none.is ∙ done.0, put_end n.result l w.new.buffer ∙ done.1)
 
 pub overflow_add-result : goal.overflow_add-result
 overflow_add-result c =
@@ -49,5 +49,5 @@ returns c =
     let l = c.args.buffer.now in
     let w = c.encode_suffix-suffix in
     let bytes = rw (to_end n.result l) at w.ensures.buffer in
-    let done = written_by sized path c.args.k l n.result n.ensures.0 c.if-buffer-a.false _ w.last.0 answer_of bytes in
-    writes_into (done.0, rw (put_end n.result l w.last.0) at c.encode.ensures.1 ∙ done.1)
+    let done = written_by sized path c.args.k l n.result n.ensures.0 c.if-buffer-a.false _ w.new.buffer answer_of bytes in
+    writes_into (done.0, rw (put_end n.result l w.new.buffer) at c.encode.ensures.1 ∙ done.1)

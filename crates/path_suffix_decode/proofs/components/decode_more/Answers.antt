@@ -15,4 +15,4 @@ returns-in_default c =
 pub returns : goal.returns
 returns c =
     rw c.in-Consumed.is (gives_accepted (more_accepted _ c.requires _ _ c.args.message.now (λ i. omega (arith, c.shared_slice_known-1.given i)) _ _
-    (sym (ap (λ (x : Decoded). answer_of x c.decode_within-answer.new.canonic.1.1.1.1.0) c.in-Consumed.is) ∙ c.decode_within-answer.ensures)))
+    (sym (ap (λ (x : Decoded). answer_of x c.decode_within-answer.new.out) c.in-Consumed.is) ∙ c.decode_within-answer.ensures)))

@@ -70,6 +70,6 @@ returns c =
     let long : c.in-Length.at ≡ length first = written_is _ _ (ap outcome_of (sym c.in-Length.is) ∙ answer) in
     let w = c.encode_shared in
     let o = c.if-end_open.false in
-    put_next c.args.buffer.now first last _ _ there long (room o) w.new.0
+    put_next c.args.buffer.now first last _ _ there long (room o) w.new.buffer
     (rw (c.requires.0.end o) at w.ensures.buffer)
     ∙ ap (λ (bs : List ℕ). over bs c.args.buffer.now) (both_closed paths c.args.paths o)

@@ -32,11 +32,9 @@ put_paths-requires c =
     let times : List ℕ = times_bytes c.args.reference.times c.args.range.times in
     let room : header_length + length subspaces + length paths + length times ≤ length c.args.buffer.now = omega (arith, c.if-buffer-whole.false, c.relative_len_of_encoding-s.ensures.0, c.requires.1, c.relative_len_of_encoding.ensures.0) in
     let room_paths : length (head ++ subspaces) + length paths ≤ length c.args.buffer.now = omega (arith, length-append head subspaces, room) in
-    let two : let s = c in let x = c.put_head.new.buffer in put_mid header_length (length x - header_length) x c.relative_encode.new.buffer ≡ over (head s ++ subspaces s) s.args.buffer.now = let s = c in
-    let w = c.relative_encode in
-    put_next s.args.buffer.now (head s) (subspaces s) _ header_length c.put_head.ensures refl (omega (arith, room)) w.new.0 w.ensures.1 in
-    let s = c in
-    (s.pre.0, next_room s.args.buffer.now (head s ++ subspaces s) (paths s) _ _ two at_paths room_paths)
+    let two : let x = c.put_head.new.buffer in put_mid header_length (length x - header_length) x c.relative_encode.new.buffer ≡ over (head ++ subspaces) c.args.buffer.now = let w = c.relative_encode in
+    put_next c.args.buffer.now head subspaces _ header_length c.put_head.ensures refl (omega (arith, room)) w.new.buffer w.ensures.1 in
+    (c.requires.0, next_room c.args.buffer.now (head ++ subspaces) paths _ _ two at_paths room_paths)
 
 pub returns : goal.returns
 returns c =
@@ -55,16 +53,12 @@ returns c =
     let at_times : header_length + c.relative_len_of_encoding-s.result + c.args.paths.len ≡ length ((head ++ subspaces) ++ paths) = omega (arith, length-append (head ++ subspaces) paths, at_paths, c.requires.1) in
     let room : header_length + length subspaces + length paths + length times ≤ length c.args.buffer.now = omega (arith, c.if-buffer-whole.false, c.relative_len_of_encoding-s.ensures.0, c.requires.1, c.relative_len_of_encoding.ensures.0) in
     let room_times : length ((head ++ subspaces) ++ paths) + length times ≤ length c.args.buffer.now = omega (arith, length-append (head ++ subspaces) paths, length-append head subspaces, room) in
-    let two : let s = c in let x = c.put_head.new.buffer in put_mid header_length (length x - header_length) x c.relative_encode.new.buffer ≡ over (head s ++ subspaces s) s.args.buffer.now = let s = c in
-    let w = c.relative_encode in
-    put_next s.args.buffer.now (head s) (subspaces s) _ header_length c.put_head.ensures refl (omega (arith, room)) w.new.0 w.ensures.1 in
-    let three : let s = c in let x = c.put_head.new.buffer in let y = put_mid header_length (length x - header_length) x c.relative_encode.new.buffer in let n = header_length + c.relative_len_of_encoding-s.result in put_mid n (length y - n) y c.put_paths.new.buffer ≡ over ((head s ++ subspaces s) ++ paths s) s.args.buffer.now = let s = c in
-    let w = c.put_paths in
-    over_next s.args.buffer.now (head s ++ subspaces s) (paths s) _ _ two at_paths w.new.0 w.ensures in
-    let e = c in
-    let s = else1_start e in
-    let l = s.args.buffer.now in
-    let done = put_fits allowed (whole s) l refl _ (long e.before) e.if1.left in
+    let two : let x = c.put_head.new.buffer in put_mid header_length (length x - header_length) x c.relative_encode.new.buffer ≡ over (head ++ subspaces) c.args.buffer.now = let w = c.relative_encode in
+    put_next c.args.buffer.now head subspaces _ header_length c.put_head.ensures refl (omega (arith, room)) w.new.buffer w.ensures.1 in
+    let three : let x = c.put_head.new.buffer in let y = put_mid header_length (length x - header_length) x c.relative_encode.new.buffer in let n = header_length + c.relative_len_of_encoding-s.result in put_mid n (length y - n) y c.put_paths.new.buffer ≡ over ((head ++ subspaces) ++ paths) c.args.buffer.now = let w = c.put_paths in
+    over_next c.args.buffer.now (head ++ subspaces) paths _ _ two at_paths w.new.buffer w.ensures in
+    let l = c.args.buffer.now in
+    let done = put_fits allowed whole l refl _ long c.if-buffer-whole.false in
     let w = c.relative_encode-2 in
-    let last = put_next l ((head s ++ subspaces s) ++ paths s) (times s) _ _ three (at_times e) (room_times e) w.new.0 w.ensures.1 in
-    writes_into (done.0, last ∙ ap (λ (bs : List ℕ). over bs l) (measured_parts s.args.reference (value s) s.args.paths) ∙ done.1)
+    let last = put_next l ((head ++ subspaces) ++ paths) times _ _ three at_times room_times w.new.buffer w.ensures.1 in
+    writes_into (done.0, last ∙ ap (λ (bs : List ℕ). over bs l) (measured_parts c.args.reference value c.args.paths) ∙ done.1)

@@ -63,7 +63,7 @@ returns-in_default-second c =
     let fit : (sized known.start && sized known.end) ≡ true = sym c.both_sized-fit.ensures ∙ c.if-not-fit.false in
     let first : Path = path_in c.decode_path-first.new.from_start.1.1.1.1.0 in
     let start_is : read_side_in known c.args.sides.start_from_start c.args.message.now ≡ accepted first c.in-Consumed.a = sym c.decode_path-first.ensures.answer ∙ ap (λ (d : Decoded). answer_of d first) c.in-Consumed.is in
-    let end_told : let s = c in Gives (path_from []) c.decode_path-second.result last (read_side_in (known s) s.args.sides.end_from_start (drop c.in-Consumed.a s.args.message.now)) = rw (to_end c.in-Consumed.a c.args.message.now) at c.decode_path-second.ensures in
+    let end_told : Gives (path_from []) c.decode_path-second.result last (read_side_in known c.args.sides.end_from_start (drop c.in-Consumed.a c.args.message.now)) = rw (to_end c.in-Consumed.a c.args.message.now) at c.decode_path-second.ensures in
     let x = no_value c.decode_path-second.result c.in_default-second.not-Consumed-second in
     let e = sym end_told.answer ∙ x.beside _ in
     let none : last ≡ path_from [] = rw e at end_told.value in
@@ -78,8 +78,8 @@ overflow_add-result c =
     let first : Path = path_in c.decode_path-first.new.from_start.1.1.1.1.0 in
     let start_is : read_side_in known c.args.sides.start_from_start c.args.message.now ≡ accepted first c.in-Consumed.a = sym c.decode_path-first.ensures.answer ∙ ap (λ (d : Decoded). answer_of d first) c.in-Consumed.is in
     let last : Path = path_in c.decode_path-second.new.from_start.1.1.1.1.0 in
-    let end_told : let s = c in Gives (path_from []) c.decode_path-second.result last (read_side_in (known s) s.args.sides.end_from_start (drop c.in-Consumed.a s.args.message.now)) = rw (to_end c.in-Consumed.a c.args.message.now) at c.decode_path-second.ensures in
-    let end_is : let t = c in let s = told_start t in read_side_in (known s) s.args.sides.end_from_start (drop t.before.first.given.0.0 s.args.message.now) ≡ accepted last c.in-Consumed-second.b = sym end_told.answer ∙ ap (λ (d : Decoded). answer_of d last) c.in-Consumed-second.is in
+    let end_told : Gives (path_from []) c.decode_path-second.result last (read_side_in known c.args.sides.end_from_start (drop c.in-Consumed.a c.args.message.now)) = rw (to_end c.in-Consumed.a c.args.message.now) at c.decode_path-second.ensures in
+    let end_is : read_side_in known c.args.sides.end_from_start (drop c.in-Consumed.a c.args.message.now) ≡ accepted last c.in-Consumed-second.b = sym end_told.answer ∙ ap (λ (d : Decoded). answer_of d last) c.in-Consumed-second.is in
     omega (arith, end_within c.args.end_open c.args.sides known c.args.message.now fit _ _ start_is c.if-end_open.false _ _ end_is)
 
 pub returns : goal.returns
@@ -89,6 +89,6 @@ returns c =
     let first : Path = path_in c.decode_path-first.new.from_start.1.1.1.1.0 in
     let start_is : read_side_in known c.args.sides.start_from_start c.args.message.now ≡ accepted first c.in-Consumed.a = sym c.decode_path-first.ensures.answer ∙ ap (λ (d : Decoded). answer_of d first) c.in-Consumed.is in
     let last : Path = path_in c.decode_path-second.new.from_start.1.1.1.1.0 in
-    let end_told : let s = c in Gives (path_from []) c.decode_path-second.result last (read_side_in (known s) s.args.sides.end_from_start (drop c.in-Consumed.a s.args.message.now)) = rw (to_end c.in-Consumed.a c.args.message.now) at c.decode_path-second.ensures in
-    let end_is : let t = c in let s = told_start t in read_side_in (known s) s.args.sides.end_from_start (drop t.before.first.given.0.0 s.args.message.now) ≡ accepted last c.in-Consumed-second.b = sym end_told.answer ∙ ap (λ (d : Decoded). answer_of d last) c.in-Consumed-second.is in
+    let end_told : Gives (path_from []) c.decode_path-second.result last (read_side_in known c.args.sides.end_from_start (drop c.in-Consumed.a c.args.message.now)) = rw (to_end c.in-Consumed.a c.args.message.now) at c.decode_path-second.ensures in
+    let end_is : read_side_in known c.args.sides.end_from_start (drop c.in-Consumed.a c.args.message.now) ≡ accepted last c.in-Consumed-second.b = sym end_told.answer ∙ ap (λ (d : Decoded). answer_of d last) c.in-Consumed-second.is in
     gives_accepted (both_read c.args.end_open c.args.sides known c.args.message.now fit _ _ start_is c.if-end_open.false _ _ end_is)
