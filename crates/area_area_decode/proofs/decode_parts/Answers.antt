@@ -55,7 +55,7 @@ returns-in_default-second_answer c =
     let told_bytes : ℕ = c.in-Consumed.a in
     let subspace_is : let a = c.args in mapped subspace_from (read_subspace a.canonic (subspace_of a.reference.subspace) a.header.id_written) a.message.now ≡ accepted c.decode_subspace-first.result.subspace told_bytes = sym c.decode_subspace-first.ensures ∙ ap (λ (d : Decoded). answer_of d c.decode_subspace-first.result.subspace) c.in-Consumed.is in
     let times_told : let a = c.args in answer_of c.relative_decode-second.result.answer c.relative_decode-second.result.times ≡ read_times a.canonic a.reference.times a.header (drop told_bytes a.message.now) = rw (to_end told_bytes c.args.message.now) at c.relative_decode-second.ensures.answer in
-    let x = no_value c.relative_decode-second.result.answer c.in_default-second_answer.not-Consumed-second_answer in
+    let x = no_value c.relative_decode-second.result.answer c.in_default-second_answer.not-Consumed in
     rw c.refuse_head-in_default-second_answer.ensures (reads_refused _ _ x.why c.requires.1 (x.beside _)
     (rw (tested_times c.args.canonic reference c.args.header c.args.message.now _ _ subspace_is x.why (sym times_told ∙ x.beside _))))
 
@@ -116,11 +116,11 @@ returns-in_default-answer c =
     let times_told : let a = c.args in answer_of c.relative_decode-second.result.answer c.relative_decode-second.result.times ≡ read_times a.canonic a.reference.times a.header (drop told_bytes a.message.now) = rw (to_end told_bytes c.args.message.now) at c.relative_decode-second.ensures.answer in
     let times_are : let a = told2_start.args in read_times a.canonic a.reference.times a.header (drop told_bytes a.message.now) ≡ accepted c.relative_decode-second.result.times told2_bytes = sym times_told ∙ ap (λ (d : Decoded). answer_of d c.relative_decode-second.result.times) c.in-Consumed-second_answer.is in
     let fits : sized reference.path ≡ true = well_sized _ (and_right (well_formed_subspace reference.subspace) (well_formed reference.path) c.requires.0) in
-    let path : Path = path_in c.decode_path_extends_path-answer.new.start.1.1.1.0 in
+    let path : Path = path_in c.decode_path_extends_path-answer.new.out in
     let path_told : let a = told2_start.args in Gives (path_from []) c.decode_path_extends_path-answer.result path (mapped path_from (read_extension a.canonic (components_of (path_in a.reference_path.now))) (drop (told_bytes + told2_bytes) a.message.now)) = let s = told2_start in
     rw (to_end (told_bytes + told2_bytes) s.args.message.now, fits s) at c.decode_path_extends_path-answer.ensures in
     let s = read_start in
-    let x = no_value c.decode_path_extends_path-answer.result c.in_default-answer.not-Consumed-answer in
+    let x = no_value c.decode_path_extends_path-answer.result c.in_default-answer.not-Consumed in
     let none = sym path_told.answer ∙ x.beside _ in
     rw c.refuse_head-in_default-answer.ensures (reads_refused _ _ x.why (path_told.value ∙ ap (value_in (path_from [])) none) (x.beside _)
     (rw (tested_path s.args.canonic (reference s) s.args.header s.args.message.now _ _ subspace_is _ _ times_are x.why none)))
@@ -133,7 +133,7 @@ overflow_add-result c =
     let told2_bytes : ℕ = c.in-Consumed-second_answer.b in
     let told2_start : goal.Start = c in
     let read_start : goal.Start = told2_start in
-    let path : Path = path_in c.decode_path_extends_path-answer.new.start.1.1.1.0 in
+    let path : Path = path_in c.decode_path_extends_path-answer.new.out in
     let subspace_is : let a = c.args in mapped subspace_from (read_subspace a.canonic (subspace_of a.reference.subspace) a.header.id_written) a.message.now ≡ accepted c.decode_subspace-first.result.subspace told_bytes = sym c.decode_subspace-first.ensures ∙ ap (λ (d : Decoded). answer_of d c.decode_subspace-first.result.subspace) c.in-Consumed.is in
     let times_told : let a = c.args in answer_of c.relative_decode-second.result.answer c.relative_decode-second.result.times ≡ read_times a.canonic a.reference.times a.header (drop told_bytes a.message.now) = rw (to_end told_bytes c.args.message.now) at c.relative_decode-second.ensures.answer in
     let times_are : let a = told2_start.args in read_times a.canonic a.reference.times a.header (drop told_bytes a.message.now) ≡ accepted c.relative_decode-second.result.times told2_bytes = sym times_told ∙ ap (λ (d : Decoded). answer_of d c.relative_decode-second.result.times) c.in-Consumed-second_answer.is in
@@ -156,7 +156,7 @@ overflow_add-result-2 c =
     let told2_bytes : ℕ = c.in-Consumed-second_answer.b in
     let told2_start : goal.Start = c in
     let read_start : goal.Start = told2_start in
-    let path : Path = path_in c.decode_path_extends_path-answer.new.start.1.1.1.0 in
+    let path : Path = path_in c.decode_path_extends_path-answer.new.out in
     let subspace_is : let a = c.args in mapped subspace_from (read_subspace a.canonic (subspace_of a.reference.subspace) a.header.id_written) a.message.now ≡ accepted c.decode_subspace-first.result.subspace told_bytes = sym c.decode_subspace-first.ensures ∙ ap (λ (d : Decoded). answer_of d c.decode_subspace-first.result.subspace) c.in-Consumed.is in
     let times_told : let a = c.args in answer_of c.relative_decode-second.result.answer c.relative_decode-second.result.times ≡ read_times a.canonic a.reference.times a.header (drop told_bytes a.message.now) = rw (to_end told_bytes c.args.message.now) at c.relative_decode-second.ensures.answer in
     let times_are : let a = told2_start.args in read_times a.canonic a.reference.times a.header (drop told_bytes a.message.now) ≡ accepted c.relative_decode-second.result.times told2_bytes = sym times_told ∙ ap (λ (d : Decoded). answer_of d c.relative_decode-second.result.times) c.in-Consumed-second_answer.is in
@@ -179,7 +179,7 @@ overflow_add-result-3 c =
     let told2_bytes : ℕ = c.in-Consumed-second_answer.b in
     let told2_start : goal.Start = c in
     let read_start : goal.Start = told2_start in
-    let path : Path = path_in c.decode_path_extends_path-answer.new.start.1.1.1.0 in
+    let path : Path = path_in c.decode_path_extends_path-answer.new.out in
     let subspace_is : let a = c.args in mapped subspace_from (read_subspace a.canonic (subspace_of a.reference.subspace) a.header.id_written) a.message.now ≡ accepted c.decode_subspace-first.result.subspace told_bytes = sym c.decode_subspace-first.ensures ∙ ap (λ (d : Decoded). answer_of d c.decode_subspace-first.result.subspace) c.in-Consumed.is in
     let times_told : let a = c.args in answer_of c.relative_decode-second.result.answer c.relative_decode-second.result.times ≡ read_times a.canonic a.reference.times a.header (drop told_bytes a.message.now) = rw (to_end told_bytes c.args.message.now) at c.relative_decode-second.ensures.answer in
     let times_are : let a = told2_start.args in read_times a.canonic a.reference.times a.header (drop told_bytes a.message.now) ≡ accepted c.relative_decode-second.result.times told2_bytes = sym times_told ∙ ap (λ (d : Decoded). answer_of d c.relative_decode-second.result.times) c.in-Consumed-second_answer.is in
@@ -202,7 +202,7 @@ returns c =
     let told2_bytes : ℕ = c.in-Consumed-second_answer.b in
     let told2_start : goal.Start = c in
     let read_start : goal.Start = told2_start in
-    let path : Path = path_in c.decode_path_extends_path-answer.new.start.1.1.1.0 in
+    let path : Path = path_in c.decode_path_extends_path-answer.new.out in
     let subspace_is : let a = c.args in mapped subspace_from (read_subspace a.canonic (subspace_of a.reference.subspace) a.header.id_written) a.message.now ≡ accepted c.decode_subspace-first.result.subspace told_bytes = sym c.decode_subspace-first.ensures ∙ ap (λ (d : Decoded). answer_of d c.decode_subspace-first.result.subspace) c.in-Consumed.is in
     let times_told : let a = c.args in answer_of c.relative_decode-second.result.answer c.relative_decode-second.result.times ≡ read_times a.canonic a.reference.times a.header (drop told_bytes a.message.now) = rw (to_end told_bytes c.args.message.now) at c.relative_decode-second.ensures.answer in
     let times_are : let a = told2_start.args in read_times a.canonic a.reference.times a.header (drop told_bytes a.message.now) ≡ accepted c.relative_decode-second.result.times told2_bytes = sym times_told ∙ ap (λ (d : Decoded). answer_of d c.relative_decode-second.result.times) c.in-Consumed-second_answer.is in

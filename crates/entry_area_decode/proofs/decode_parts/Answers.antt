@@ -21,7 +21,7 @@ returns-in_default c =
     let told2_told : goal.In-Consumed = c in
     let id_is : let a = c.args in read_id (subspace_of a.reference.subspace) a.header.id_written a.message.now ≡ accepted c.decode_id-first.result.id c.in-Consumed.a = let r = c.decode_id-first in sym r.ensures ∙ ap (λ (d : Decoded). answer_of d r.result.id) c.in-Consumed.is in
     let id_in : c.in-Consumed.a ≤ length c.args.message.now = id_inside c.args.canonic c.args.namespace area c.args.header c.args.message.now _ _ id_is in
-    let path : Path = path_in c.decode_path_within-path_answer.new.start.1.1.1.0 in
+    let path : Path = path_in c.decode_path_within-path_answer.new.out in
     let path_is : let t = told2_told in let s = told_start t in read_within_by sized s.args.canonic (area s).path (drop t.before.answer.given.0.0 s.args.message.now) ≡ accepted path c.in-Consumed-path_answer.b = sym c.decode_path_within-path_answer.ensures.answer ∙ ap (λ (d : Decoded). answer_of d path) c.in-Consumed-path_answer.is in
     let path_in : let t = told2_told in t.before.answer.given.0.0 + c.in-Consumed-path_answer.b ≤ length (told_start t).args.message.now = let t = told2_told in
     let s = told_start t in
@@ -43,7 +43,7 @@ returns-in_default-path_answer c =
     let told2_told : goal.In-Consumed = c in
     let id_is : let a = c.args in read_id (subspace_of a.reference.subspace) a.header.id_written a.message.now ≡ accepted c.decode_id-first.result.id c.in-Consumed.a = let r = c.decode_id-first in sym r.ensures ∙ ap (λ (d : Decoded). answer_of d r.result.id) c.in-Consumed.is in
     let id_in : c.in-Consumed.a ≤ length c.args.message.now = id_inside c.args.canonic c.args.namespace area c.args.header c.args.message.now _ _ id_is in
-    let path : Path = path_in c.decode_path_within-path_answer.new.start.1.1.1.0 in
+    let path : Path = path_in c.decode_path_within-path_answer.new.out in
     let path_is : let t = told2_told in let s = told_start t in read_within_by sized s.args.canonic (area s).path (drop t.before.answer.given.0.0 s.args.message.now) ≡ accepted path c.in-Consumed-path_answer.b = sym c.decode_path_within-path_answer.ensures.answer ∙ ap (λ (d : Decoded). answer_of d path) c.in-Consumed-path_answer.is in
     let path_in : let t = told2_told in t.before.answer.given.0.0 + c.in-Consumed-path_answer.b ≤ length (told_start t).args.message.now = let t = told2_told in
     let s = told_start t in
@@ -56,7 +56,7 @@ returns-in_default-path_answer c =
     ) in
     let area : Area = area_with c.args.reference (path_in c.args.reference_path.now) in
     let rest_at : let a = c.args in shift header_length (mapped entry_from (read_parts a.canonic a.namespace (area_of area) a.header) a.message.now) ≡ shift (header_length + c.in-Consumed.a) (mapped entry_from (read_rest a.canonic a.namespace c.decode_id-first.result.id (components_of area.path) a.reference.times a.header) (drop c.in-Consumed.a a.message.now)) = parts_rest c.args.canonic c.args.namespace area c.args.header c.args.message.now _ _ id_is in
-    let x = no_value c.decode_path_within-path_answer.result c.in_default-path_answer.not-Consumed-path_answer in
+    let x = no_value c.decode_path_within-path_answer.result c.in_default-path_answer.not-Consumed in
     let e = sym c.decode_path_within-path_answer.ensures.answer ∙ x.beside _ in
     rw c.refuse_fields-in_default-path_answer.ensures (reads_refused _ _ x.why (x.beside _) (c.decode_path_within-path_answer.ensures.value ∙ ap (value_in (path_from [])) e)
     (rest_at ∙ rw (within_refused c.args.canonic c.args.namespace c.decode_id-first.result.id area.path c.requires.1 c.args.reference.times c.args.header
@@ -68,7 +68,7 @@ overflow_add-at c =
     let told2_told : goal.In-Consumed = c in
     let id_is : let a = c.args in read_id (subspace_of a.reference.subspace) a.header.id_written a.message.now ≡ accepted c.decode_id-first.result.id c.in-Consumed.a = let r = c.decode_id-first in sym r.ensures ∙ ap (λ (d : Decoded). answer_of d r.result.id) c.in-Consumed.is in
     let id_in : c.in-Consumed.a ≤ length c.args.message.now = id_inside c.args.canonic c.args.namespace area c.args.header c.args.message.now _ _ id_is in
-    let path : Path = path_in c.decode_path_within-path_answer.new.start.1.1.1.0 in
+    let path : Path = path_in c.decode_path_within-path_answer.new.out in
     let path_is : let t = told2_told in let s = told_start t in read_within_by sized s.args.canonic (area s).path (drop t.before.answer.given.0.0 s.args.message.now) ≡ accepted path c.in-Consumed-path_answer.b = sym c.decode_path_within-path_answer.ensures.answer ∙ ap (λ (d : Decoded). answer_of d path) c.in-Consumed-path_answer.is in
     let path_in : let t = told2_told in t.before.answer.given.0.0 + c.in-Consumed-path_answer.b ≤ length (told_start t).args.message.now = let t = told2_told in
     let s = told_start t in
@@ -87,7 +87,7 @@ slice_bounds-relative_decode-count c =
     let told2_told : goal.In-Consumed = c in
     let id_is : let a = c.args in read_id (subspace_of a.reference.subspace) a.header.id_written a.message.now ≡ accepted c.decode_id-first.result.id c.in-Consumed.a = let r = c.decode_id-first in sym r.ensures ∙ ap (λ (d : Decoded). answer_of d r.result.id) c.in-Consumed.is in
     let id_in : c.in-Consumed.a ≤ length c.args.message.now = id_inside c.args.canonic c.args.namespace area c.args.header c.args.message.now _ _ id_is in
-    let path : Path = path_in c.decode_path_within-path_answer.new.start.1.1.1.0 in
+    let path : Path = path_in c.decode_path_within-path_answer.new.out in
     let path_is : let t = told2_told in let s = told_start t in read_within_by sized s.args.canonic (area s).path (drop t.before.answer.given.0.0 s.args.message.now) ≡ accepted path c.in-Consumed-path_answer.b = sym c.decode_path_within-path_answer.ensures.answer ∙ ap (λ (d : Decoded). answer_of d path) c.in-Consumed-path_answer.is in
     let path_in : let t = told2_told in t.before.answer.given.0.0 + c.in-Consumed-path_answer.b ≤ length (told_start t).args.message.now = let t = told2_told in
     let s = told_start t in
@@ -106,7 +106,7 @@ slice_bounds-relative_decode-start c =
     let told2_told : goal.In-Consumed = c in
     let id_is : let a = c.args in read_id (subspace_of a.reference.subspace) a.header.id_written a.message.now ≡ accepted c.decode_id-first.result.id c.in-Consumed.a = let r = c.decode_id-first in sym r.ensures ∙ ap (λ (d : Decoded). answer_of d r.result.id) c.in-Consumed.is in
     let id_in : c.in-Consumed.a ≤ length c.args.message.now = id_inside c.args.canonic c.args.namespace area c.args.header c.args.message.now _ _ id_is in
-    let path : Path = path_in c.decode_path_within-path_answer.new.start.1.1.1.0 in
+    let path : Path = path_in c.decode_path_within-path_answer.new.out in
     let path_is : let t = told2_told in let s = told_start t in read_within_by sized s.args.canonic (area s).path (drop t.before.answer.given.0.0 s.args.message.now) ≡ accepted path c.in-Consumed-path_answer.b = sym c.decode_path_within-path_answer.ensures.answer ∙ ap (λ (d : Decoded). answer_of d path) c.in-Consumed-path_answer.is in
     let path_in : let t = told2_told in t.before.answer.given.0.0 + c.in-Consumed-path_answer.b ≤ length (told_start t).args.message.now = let t = told2_told in
     let s = told_start t in
@@ -124,7 +124,7 @@ returns-in_default-last_answer c =
     let told2_told : goal.In-Consumed = c in
     let id_is : let a = c.args in read_id (subspace_of a.reference.subspace) a.header.id_written a.message.now ≡ accepted c.decode_id-first.result.id c.in-Consumed.a = let r = c.decode_id-first in sym r.ensures ∙ ap (λ (d : Decoded). answer_of d r.result.id) c.in-Consumed.is in
     let id_in : c.in-Consumed.a ≤ length c.args.message.now = id_inside c.args.canonic c.args.namespace area c.args.header c.args.message.now _ _ id_is in
-    let path : Path = path_in c.decode_path_within-path_answer.new.start.1.1.1.0 in
+    let path : Path = path_in c.decode_path_within-path_answer.new.out in
     let path_is : let t = told2_told in let s = told_start t in read_within_by sized s.args.canonic (area s).path (drop t.before.answer.given.0.0 s.args.message.now) ≡ accepted path c.in-Consumed-path_answer.b = sym c.decode_path_within-path_answer.ensures.answer ∙ ap (λ (d : Decoded). answer_of d path) c.in-Consumed-path_answer.is in
     let path_in : let t = told2_told in t.before.answer.given.0.0 + c.in-Consumed-path_answer.b ≤ length (told_start t).args.message.now = let t = told2_told in
     let s = told_start t in
@@ -142,7 +142,7 @@ returns-in_default-last_answer c =
     rw drop-drop (rw (to_end (t.before.answer.given.0.0 + c.in-Consumed-path_answer.b) a.message.now) at c.relative_decode-last.ensures.answer) in
     let t = told2_told in
     let s = told_start t in
-    let x = no_value c.relative_decode-last.result.answer c.in_default-last_answer.not-Consumed-last_answer in
+    let x = no_value c.relative_decode-last.result.answer c.in_default-last_answer.not-Consumed in
     rw c.refuse_fields-in_default-last_answer.ensures (reads_refused _ _ x.why (x.beside _) (ap path_in c.clear.ensures ∙ in_empty)
     (rest_at t ∙ rw (within_end s.args.canonic s.args.namespace t.before.before.before.decode_id.result.id (area s).path s.pre.1 s.args.reference.times s.args.header
     (drop t.before.answer.given.0.0 s.args.message.now) _ _ path_is x.why (sym end_told ∙ x.beside _))))
@@ -153,7 +153,7 @@ overflow_add-result c =
     let told3_start : goal.Start = told_start told2_told in
     let id_is : let a = c.args in read_id (subspace_of a.reference.subspace) a.header.id_written a.message.now ≡ accepted c.decode_id-first.result.id c.in-Consumed.a = let r = c.decode_id-first in sym r.ensures ∙ ap (λ (d : Decoded). answer_of d r.result.id) c.in-Consumed.is in
     let id_in : c.in-Consumed.a ≤ length c.args.message.now = id_inside c.args.canonic c.args.namespace area c.args.header c.args.message.now _ _ id_is in
-    let path : Path = path_in c.decode_path_within-path_answer.new.start.1.1.1.0 in
+    let path : Path = path_in c.decode_path_within-path_answer.new.out in
     let path_is : let t = told2_told in let s = told_start t in read_within_by sized s.args.canonic (area s).path (drop t.before.answer.given.0.0 s.args.message.now) ≡ accepted path c.in-Consumed-path_answer.b = sym c.decode_path_within-path_answer.ensures.answer ∙ ap (λ (d : Decoded). answer_of d path) c.in-Consumed-path_answer.is in
     let path_in : let t = told2_told in t.before.answer.given.0.0 + c.in-Consumed-path_answer.b ≤ length (told_start t).args.message.now = let t = told2_told in
     let s = told_start t in
@@ -186,7 +186,7 @@ overflow_add-result-2 c =
     let told3_start : goal.Start = told_start told2_told in
     let id_is : let a = c.args in read_id (subspace_of a.reference.subspace) a.header.id_written a.message.now ≡ accepted c.decode_id-first.result.id c.in-Consumed.a = let r = c.decode_id-first in sym r.ensures ∙ ap (λ (d : Decoded). answer_of d r.result.id) c.in-Consumed.is in
     let id_in : c.in-Consumed.a ≤ length c.args.message.now = id_inside c.args.canonic c.args.namespace area c.args.header c.args.message.now _ _ id_is in
-    let path : Path = path_in c.decode_path_within-path_answer.new.start.1.1.1.0 in
+    let path : Path = path_in c.decode_path_within-path_answer.new.out in
     let path_is : let t = told2_told in let s = told_start t in read_within_by sized s.args.canonic (area s).path (drop t.before.answer.given.0.0 s.args.message.now) ≡ accepted path c.in-Consumed-path_answer.b = sym c.decode_path_within-path_answer.ensures.answer ∙ ap (λ (d : Decoded). answer_of d path) c.in-Consumed-path_answer.is in
     let path_in : let t = told2_told in t.before.answer.given.0.0 + c.in-Consumed-path_answer.b ≤ length (told_start t).args.message.now = let t = told2_told in
     let s = told_start t in
@@ -219,7 +219,7 @@ overflow_add-result-3 c =
     let told3_start : goal.Start = told_start told2_told in
     let id_is : let a = c.args in read_id (subspace_of a.reference.subspace) a.header.id_written a.message.now ≡ accepted c.decode_id-first.result.id c.in-Consumed.a = let r = c.decode_id-first in sym r.ensures ∙ ap (λ (d : Decoded). answer_of d r.result.id) c.in-Consumed.is in
     let id_in : c.in-Consumed.a ≤ length c.args.message.now = id_inside c.args.canonic c.args.namespace area c.args.header c.args.message.now _ _ id_is in
-    let path : Path = path_in c.decode_path_within-path_answer.new.start.1.1.1.0 in
+    let path : Path = path_in c.decode_path_within-path_answer.new.out in
     let path_is : let t = told2_told in let s = told_start t in read_within_by sized s.args.canonic (area s).path (drop t.before.answer.given.0.0 s.args.message.now) ≡ accepted path c.in-Consumed-path_answer.b = sym c.decode_path_within-path_answer.ensures.answer ∙ ap (λ (d : Decoded). answer_of d path) c.in-Consumed-path_answer.is in
     let path_in : let t = told2_told in t.before.answer.given.0.0 + c.in-Consumed-path_answer.b ≤ length (told_start t).args.message.now = let t = told2_told in
     let s = told_start t in
@@ -251,7 +251,7 @@ returns c =
     let told2_told : goal.In-Consumed = c in
     let id_is : let a = c.args in read_id (subspace_of a.reference.subspace) a.header.id_written a.message.now ≡ accepted c.decode_id-first.result.id c.in-Consumed.a = let r = c.decode_id-first in sym r.ensures ∙ ap (λ (d : Decoded). answer_of d r.result.id) c.in-Consumed.is in
     let id_in : c.in-Consumed.a ≤ length c.args.message.now = id_inside c.args.canonic c.args.namespace area c.args.header c.args.message.now _ _ id_is in
-    let path : Path = path_in c.decode_path_within-path_answer.new.start.1.1.1.0 in
+    let path : Path = path_in c.decode_path_within-path_answer.new.out in
     let path_is : let t = told2_told in let s = told_start t in read_within_by sized s.args.canonic (area s).path (drop t.before.answer.given.0.0 s.args.message.now) ≡ accepted path c.in-Consumed-path_answer.b = sym c.decode_path_within-path_answer.ensures.answer ∙ ap (λ (d : Decoded). answer_of d path) c.in-Consumed-path_answer.is in
     let path_in : let t = told2_told in t.before.answer.given.0.0 + c.in-Consumed-path_answer.b ≤ length (told_start t).args.message.now = let t = told2_told in
     let s = told_start t in

@@ -21,7 +21,7 @@ returns-in_default c =
     let read_start : goal.Start = c in
     let told2_bytes : ℕ = c.in-Consumed-answer.b in
     let head_is : let a = c.args in read_head a.reference.namespace_id a.reference.subspace_id a.reference.timestamp (drop a.start a.message.now) ≡ accepted c.decode_head-first.result.head told_bytes = sym c.decode_head-first.ensures ∙ ap (λ (d : Decoded). answer_of d c.decode_head-first.result.head) c.in-Consumed.is in
-    let path : Path = path_in c.relative_decode-answer.new.start.1.1.1.0 in
+    let path : Path = path_in c.relative_decode-answer.new.out in
     let path_told : let s = read_start in Gives (path_from []) c.relative_decode-answer.result path (read_against_path false (reference s).path (drop (s.args.start + told_bytes) s.args.message.now)) = let s = read_start in
     rw s.pre.0 (rw (to_end (s.args.start + told_bytes) s.args.message.now, well_sized _ s.pre.0) at c.relative_decode-answer.ensures) in
     let path_is : let s = read_start in read_against_path false (reference s).path (drop (s.args.start + told_bytes) s.args.message.now) ≡ accepted path told2_bytes = sym path_told.answer ∙ ap (λ (d : Decoded). answer_of d path) c.in-Consumed-answer.is in
@@ -64,7 +64,7 @@ returns-in_default-answer c =
     let read_start : goal.Start = c in
     let told2_bytes : ℕ = c.in-Consumed-answer.b in
     let head_is : let a = c.args in read_head a.reference.namespace_id a.reference.subspace_id a.reference.timestamp (drop a.start a.message.now) ≡ accepted c.decode_head-first.result.head told_bytes = sym c.decode_head-first.ensures ∙ ap (λ (d : Decoded). answer_of d c.decode_head-first.result.head) c.in-Consumed.is in
-    let path : Path = path_in c.relative_decode-answer.new.start.1.1.1.0 in
+    let path : Path = path_in c.relative_decode-answer.new.out in
     let path_told : let s = read_start in Gives (path_from []) c.relative_decode-answer.result path (read_against_path false (reference s).path (drop (s.args.start + told_bytes) s.args.message.now)) = let s = read_start in
     rw s.pre.0 (rw (to_end (s.args.start + told_bytes) s.args.message.now, well_sized _ s.pre.0) at c.relative_decode-answer.ensures) in
     let path_is : let s = read_start in read_against_path false (reference s).path (drop (s.args.start + told_bytes) s.args.message.now) ≡ accepted path told2_bytes = sym path_told.answer ∙ ap (λ (d : Decoded). answer_of d path) c.in-Consumed-answer.is in
@@ -72,7 +72,7 @@ returns-in_default-answer c =
     path_inside (reference s) s.args.message.now s.args.start _ _ head_is _ _ path_is in
     let reference : Entry = entry_with c.args.reference (path_in c.args.reference_path.now) in
     let s = read_start in
-    let x = no_value c.relative_decode-answer.result c.in_default-answer.not-Consumed-answer in
+    let x = no_value c.relative_decode-answer.result c.in_default-answer.not-Consumed in
     let none = sym path_told.answer ∙ x.beside _ in
     rw c.refuse_fields-in_default-answer.ensures
     (reads_refused _ _ x.why (path_told.value ∙ ap (value_in (path_from [])) none) (x.beside _)
@@ -86,7 +86,7 @@ overflow_add-at-2 c =
     let read_start : goal.Start = c in
     let told2_bytes : ℕ = c.in-Consumed-answer.b in
     let head_is : let a = c.args in read_head a.reference.namespace_id a.reference.subspace_id a.reference.timestamp (drop a.start a.message.now) ≡ accepted c.decode_head-first.result.head told_bytes = sym c.decode_head-first.ensures ∙ ap (λ (d : Decoded). answer_of d c.decode_head-first.result.head) c.in-Consumed.is in
-    let path : Path = path_in c.relative_decode-answer.new.start.1.1.1.0 in
+    let path : Path = path_in c.relative_decode-answer.new.out in
     let path_told : let s = read_start in Gives (path_from []) c.relative_decode-answer.result path (read_against_path false (reference s).path (drop (s.args.start + told_bytes) s.args.message.now)) = let s = read_start in
     rw s.pre.0 (rw (to_end (s.args.start + told_bytes) s.args.message.now, well_sized _ s.pre.0) at c.relative_decode-answer.ensures) in
     let path_is : let s = read_start in read_against_path false (reference s).path (drop (s.args.start + told_bytes) s.args.message.now) ≡ accepted path told2_bytes = sym path_told.answer ∙ ap (λ (d : Decoded). answer_of d path) c.in-Consumed-answer.is in
@@ -101,7 +101,7 @@ returns-in_default-digest_answer c =
     let read_start : goal.Start = c in
     let told2_bytes : ℕ = c.in-Consumed-answer.b in
     let head_is : let a = c.args in read_head a.reference.namespace_id a.reference.subspace_id a.reference.timestamp (drop a.start a.message.now) ≡ accepted c.decode_head-first.result.head told_bytes = sym c.decode_head-first.ensures ∙ ap (λ (d : Decoded). answer_of d c.decode_head-first.result.head) c.in-Consumed.is in
-    let path : Path = path_in c.relative_decode-answer.new.start.1.1.1.0 in
+    let path : Path = path_in c.relative_decode-answer.new.out in
     let path_told : let s = read_start in Gives (path_from []) c.relative_decode-answer.result path (read_against_path false (reference s).path (drop (s.args.start + told_bytes) s.args.message.now)) = let s = read_start in
     rw s.pre.0 (rw (to_end (s.args.start + told_bytes) s.args.message.now, well_sized _ s.pre.0) at c.relative_decode-answer.ensures) in
     let path_is : let s = read_start in read_against_path false (reference s).path (drop (s.args.start + told_bytes) s.args.message.now) ≡ accepted path told2_bytes = sym path_told.answer ∙ ap (λ (d : Decoded). answer_of d path) c.in-Consumed-answer.is in
@@ -109,7 +109,7 @@ returns-in_default-digest_answer c =
     path_inside (reference s) s.args.message.now s.args.start _ _ head_is _ _ path_is in
     let reference : Entry = entry_with c.args.reference (path_in c.args.reference_path.now) in
     let s = read_start in
-    let x = no_value c.decode_id-digest.result.answer c.in_default-digest_answer.not-Consumed-digest_answer in
+    let x = no_value c.decode_id-digest.result.answer c.in_default-digest_answer.not-Consumed in
     rw c.refuse_fields-in_default-digest_answer.ensures
     (reads_refused _ _ x.why (rw c.clear.ensures in_empty) (x.beside _)
     (entry_digest (reference s) s.args.message.now s.args.start _ _ head_is _ _ path_is x.why (sym c.decode_id-digest.ensures.answer ∙ x.beside _)))
@@ -121,7 +121,7 @@ overflow_add-result c =
     let read_start : goal.Start = c in
     let told2_bytes : ℕ = c.in-Consumed-answer.b in
     let head_is : let a = c.args in read_head a.reference.namespace_id a.reference.subspace_id a.reference.timestamp (drop a.start a.message.now) ≡ accepted c.decode_head-first.result.head told_bytes = sym c.decode_head-first.ensures ∙ ap (λ (d : Decoded). answer_of d c.decode_head-first.result.head) c.in-Consumed.is in
-    let path : Path = path_in c.relative_decode-answer.new.start.1.1.1.0 in
+    let path : Path = path_in c.relative_decode-answer.new.out in
     let path_told : let s = read_start in Gives (path_from []) c.relative_decode-answer.result path (read_against_path false (reference s).path (drop (s.args.start + told_bytes) s.args.message.now)) = let s = read_start in
     rw s.pre.0 (rw (to_end (s.args.start + told_bytes) s.args.message.now, well_sized _ s.pre.0) at c.relative_decode-answer.ensures) in
     let path_is : let s = read_start in read_against_path false (reference s).path (drop (s.args.start + told_bytes) s.args.message.now) ≡ accepted path told2_bytes = sym path_told.answer ∙ ap (λ (d : Decoded). answer_of d path) c.in-Consumed-answer.is in
@@ -141,7 +141,7 @@ overflow_add-result-2 c =
     let read_start : goal.Start = c in
     let told2_bytes : ℕ = c.in-Consumed-answer.b in
     let head_is : let a = c.args in read_head a.reference.namespace_id a.reference.subspace_id a.reference.timestamp (drop a.start a.message.now) ≡ accepted c.decode_head-first.result.head told_bytes = sym c.decode_head-first.ensures ∙ ap (λ (d : Decoded). answer_of d c.decode_head-first.result.head) c.in-Consumed.is in
-    let path : Path = path_in c.relative_decode-answer.new.start.1.1.1.0 in
+    let path : Path = path_in c.relative_decode-answer.new.out in
     let path_told : let s = read_start in Gives (path_from []) c.relative_decode-answer.result path (read_against_path false (reference s).path (drop (s.args.start + told_bytes) s.args.message.now)) = let s = read_start in
     rw s.pre.0 (rw (to_end (s.args.start + told_bytes) s.args.message.now, well_sized _ s.pre.0) at c.relative_decode-answer.ensures) in
     let path_is : let s = read_start in read_against_path false (reference s).path (drop (s.args.start + told_bytes) s.args.message.now) ≡ accepted path told2_bytes = sym path_told.answer ∙ ap (λ (d : Decoded). answer_of d path) c.in-Consumed-answer.is in
@@ -161,7 +161,7 @@ returns c =
     let read_start : goal.Start = c in
     let told2_bytes : ℕ = c.in-Consumed-answer.b in
     let head_is : let a = c.args in read_head a.reference.namespace_id a.reference.subspace_id a.reference.timestamp (drop a.start a.message.now) ≡ accepted c.decode_head-first.result.head told_bytes = sym c.decode_head-first.ensures ∙ ap (λ (d : Decoded). answer_of d c.decode_head-first.result.head) c.in-Consumed.is in
-    let path : Path = path_in c.relative_decode-answer.new.start.1.1.1.0 in
+    let path : Path = path_in c.relative_decode-answer.new.out in
     let path_told : let s = read_start in Gives (path_from []) c.relative_decode-answer.result path (read_against_path false (reference s).path (drop (s.args.start + told_bytes) s.args.message.now)) = let s = read_start in
     rw s.pre.0 (rw (to_end (s.args.start + told_bytes) s.args.message.now, well_sized _ s.pre.0) at c.relative_decode-answer.ensures) in
     let path_is : let s = read_start in read_against_path false (reference s).path (drop (s.args.start + told_bytes) s.args.message.now) ≡ accepted path told2_bytes = sym path_told.answer ∙ ap (λ (d : Decoded). answer_of d path) c.in-Consumed-answer.is in

@@ -49,11 +49,11 @@ pub returns-in_default-answer : goal.returns-in_default-answer
 returns-in_default-answer c =
     let read : DecodedSizes = c.decode_sizes-sizes.result in
     let sizes_are : let a = c.args in read_sizes a.canonic (drop a.start a.message.now) ≡ accepted (sizes_from read.total read.count) c.in-Consumed.n = sym (rw c.in-Consumed.is at c.decode_sizes-sizes.ensures.answer) in
-    let components_are : let a = c.args in Gives (path_from []) c.decode_components-answer.result (path_in c.decode_components-answer.new.canonic.1.1.1.0) (read_more a.canonic [] read.total read.count (drop (a.start + c.in-Consumed.n) a.message.now)) = let a = c.args in
+    let components_are : let a = c.args in Gives (path_from []) c.decode_components-answer.result (path_in c.decode_components-answer.new.out) (read_more a.canonic [] read.total read.count (drop (a.start + c.in-Consumed.n) a.message.now)) = let a = c.args in
     let at = a.start + c.in-Consumed.n in
     rw (to_end at a.message.now) at c.decode_components-answer.ensures in
     let a = c.args in
-    rw (path_more a.canonic a.message.now a.start _ _ _ sizes_are) (later_refused _ _ c.in_default-answer.not-Consumed-answer components_are)
+    rw (path_more a.canonic a.message.now a.start _ _ _ sizes_are) (later_refused _ _ c.in_default-answer.not-Consumed components_are)
 
 pub overflow_add-result : goal.overflow_add-result
 overflow_add-result c =
@@ -61,18 +61,18 @@ overflow_add-result c =
     let sizes_are : let a = c.args in read_sizes a.canonic (drop a.start a.message.now) ≡ accepted (sizes_from read.total read.count) c.in-Consumed.n = sym (rw c.in-Consumed.is at c.decode_sizes-sizes.ensures.answer) in
     let begins : c.args.start + c.in-Consumed.n ≤ length c.args.message.now = let a = c.args in
     sizes_inside a.canonic a.message.now a.start _ _ sizes_are in
-    let components_are : let a = c.args in Gives (path_from []) c.decode_components-answer.result (path_in c.decode_components-answer.new.canonic.1.1.1.0) (read_more a.canonic [] read.total read.count (drop (a.start + c.in-Consumed.n) a.message.now)) = let a = c.args in
+    let components_are : let a = c.args in Gives (path_from []) c.decode_components-answer.result (path_in c.decode_components-answer.new.out) (read_more a.canonic [] read.total read.count (drop (a.start + c.in-Consumed.n) a.message.now)) = let a = c.args in
     let at = a.start + c.in-Consumed.n in
     rw (to_end at a.message.now) at c.decode_components-answer.ensures in
     let a = c.args in
-    let e = sym components_are.answer ∙ ap (λ (d : Decoded). answer_of d (path_in c.decode_components-answer.new.canonic.1.1.1.0)) c.in-Consumed-answer.is in
+    let e = sym components_are.answer ∙ ap (λ (d : Decoded). answer_of d (path_in c.decode_components-answer.new.out)) c.in-Consumed-answer.is in
     omega (arith, begins, (more_bounded a.canonic [] _ _).bound (drop (a.start + c.in-Consumed.n) a.message.now) _ _ e, length-drop (a.start + c.in-Consumed.n) a.message.now)
 
 pub returns : goal.returns
 returns c =
     let read : DecodedSizes = c.decode_sizes-sizes.result in
     let sizes_are : let a = c.args in read_sizes a.canonic (drop a.start a.message.now) ≡ accepted (sizes_from read.total read.count) c.in-Consumed.n = sym (rw c.in-Consumed.is at c.decode_sizes-sizes.ensures.answer) in
-    let components_are : let a = c.args in Gives (path_from []) c.decode_components-answer.result (path_in c.decode_components-answer.new.canonic.1.1.1.0) (read_more a.canonic [] read.total read.count (drop (a.start + c.in-Consumed.n) a.message.now)) = let a = c.args in
+    let components_are : let a = c.args in Gives (path_from []) c.decode_components-answer.result (path_in c.decode_components-answer.new.out) (read_more a.canonic [] read.total read.count (drop (a.start + c.in-Consumed.n) a.message.now)) = let a = c.args in
     let at = a.start + c.in-Consumed.n in
     rw (to_end at a.message.now) at c.decode_components-answer.ensures in
     let a = c.args in

@@ -47,13 +47,13 @@ returns-in_default-second_answer c =
     let known : Range3d = range_with c.args.reference (path_in c.args.reference_start.now) (path_in c.args.reference_end.now) in
     let ids_are : mapped subspaces_from (read_subspaces (subspaces_of c.args.reference.subspaces) (sources_in c.args.header)) c.args.message.now ≡ accepted c.relative_decode-first.result.subspaces c.in-Consumed.a = sym c.relative_decode-first.ensures.answer ∙ ap (λ (d : Decoded). answer_of d c.relative_decode-first.result.subspaces) c.in-Consumed.is in
     let ends : PathRange × TimeRange = (
-  paths_with (path_in c.decode_rest-second.new.header.1.1.1.1.1.0) c.args.header.path_end_open
-      (path_in c.decode_rest-second.new.header.1.1.1.1.1.1.0),
+  paths_with (path_in c.decode_rest-second.new.start) c.args.header.path_end_open
+      (path_in c.decode_rest-second.new.end),
   c.decode_rest-second.result.times,
 ) in
     let ends_here : Answer (PathRange × TimeRange) = read_paths_times known.paths c.args.reference.times c.args.header c.args.times (drop c.in-Consumed.a c.args.message.now) in
     let rest_told : Gives (empty_paths c.args.header.path_end_open, no_times) c.decode_rest-second.result.answer ends ends_here = rw (to_end c.in-Consumed.a c.args.message.now) at c.decode_rest-second.ensures in
-    let x = no_value c.decode_rest-second.result.answer c.in_default-second_answer.not-Consumed-second_answer in
+    let x = no_value c.decode_rest-second.result.answer c.in_default-second_answer.not-Consumed in
     let e = sym rest_told.answer ∙ x.beside _ in
     let none : ends ≡ (empty_paths c.args.header.path_end_open, no_times) = rw e at rest_told.value in
     rw (c.refuse_head-in_default-second_answer.ensures, ap (λ (v : PathRange × TimeRange). v.0.start) none, ap (λ (v : PathRange × TimeRange). v.0.end) none)
@@ -68,8 +68,8 @@ overflow_add-result c =
     let ids_are : mapped subspaces_from (read_subspaces (subspaces_of c.args.reference.subspaces) (sources_in c.args.header)) c.args.message.now ≡ accepted c.relative_decode-first.result.subspaces c.in-Consumed.a = sym c.relative_decode-first.ensures.answer ∙ ap (λ (d : Decoded). answer_of d c.relative_decode-first.result.subspaces) c.in-Consumed.is in
     let ids_in : c.in-Consumed.a ≤ length c.args.message.now = subspaces_inside known c.args.header c.args.times c.args.message.now _ _ ids_are in
     let ends : PathRange × TimeRange = (
-  paths_with (path_in c.decode_rest-second.new.header.1.1.1.1.1.0) c.args.header.path_end_open
-      (path_in c.decode_rest-second.new.header.1.1.1.1.1.1.0),
+  paths_with (path_in c.decode_rest-second.new.start) c.args.header.path_end_open
+      (path_in c.decode_rest-second.new.end),
   c.decode_rest-second.result.times,
 ) in
     let ends_here : Answer (PathRange × TimeRange) = read_paths_times known.paths c.args.reference.times c.args.header c.args.times (drop c.in-Consumed.a c.args.message.now) in
@@ -89,8 +89,8 @@ overflow_add-result-2 c =
     let ids_are : mapped subspaces_from (read_subspaces (subspaces_of c.args.reference.subspaces) (sources_in c.args.header)) c.args.message.now ≡ accepted c.relative_decode-first.result.subspaces c.in-Consumed.a = sym c.relative_decode-first.ensures.answer ∙ ap (λ (d : Decoded). answer_of d c.relative_decode-first.result.subspaces) c.in-Consumed.is in
     let ids_in : c.in-Consumed.a ≤ length c.args.message.now = subspaces_inside known c.args.header c.args.times c.args.message.now _ _ ids_are in
     let ends : PathRange × TimeRange = (
-  paths_with (path_in c.decode_rest-second.new.header.1.1.1.1.1.0) c.args.header.path_end_open
-      (path_in c.decode_rest-second.new.header.1.1.1.1.1.1.0),
+  paths_with (path_in c.decode_rest-second.new.start) c.args.header.path_end_open
+      (path_in c.decode_rest-second.new.end),
   c.decode_rest-second.result.times,
 ) in
     let ends_here : Answer (PathRange × TimeRange) = read_paths_times known.paths c.args.reference.times c.args.header c.args.times (drop c.in-Consumed.a c.args.message.now) in
@@ -109,8 +109,8 @@ returns c =
     let known : Range3d = range_with c.args.reference (path_in c.args.reference_start.now) (path_in c.args.reference_end.now) in
     let ids_are : mapped subspaces_from (read_subspaces (subspaces_of c.args.reference.subspaces) (sources_in c.args.header)) c.args.message.now ≡ accepted c.relative_decode-first.result.subspaces c.in-Consumed.a = sym c.relative_decode-first.ensures.answer ∙ ap (λ (d : Decoded). answer_of d c.relative_decode-first.result.subspaces) c.in-Consumed.is in
     let ends : PathRange × TimeRange = (
-  paths_with (path_in c.decode_rest-second.new.header.1.1.1.1.1.0) c.args.header.path_end_open
-      (path_in c.decode_rest-second.new.header.1.1.1.1.1.1.0),
+  paths_with (path_in c.decode_rest-second.new.start) c.args.header.path_end_open
+      (path_in c.decode_rest-second.new.end),
   c.decode_rest-second.result.times,
 ) in
     let ends_here : Answer (PathRange × TimeRange) = read_paths_times known.paths c.args.reference.times c.args.header c.args.times (drop c.in-Consumed.a c.args.message.now) in

@@ -18,8 +18,8 @@ pub returns-in_default : goal.returns-in_default
 unfolding times_refusal
 returns-in_default c =
     let known : PathRange = paths_with (path_in c.args.reference_start.now) c.args.reference.end_open (path_in c.args.reference_end.now) in
-    let paths : PathRange = paths_with (path_in c.relative_decode-first.new.end_open.1.1.1.1.1.0) c.args.header.path_end_open
-    (path_in c.relative_decode-first.new.end_open.1.1.1.1.1.1.0) in
+    let paths : PathRange = paths_with (path_in c.relative_decode-first.new.start) c.args.header.path_end_open
+    (path_in c.relative_decode-first.new.end) in
     let x = no_value c.relative_decode-first.result c.in_default.not-Consumed in
     let e = sym c.relative_decode-first.ensures.answer ∙ x.beside _ in
     let none : paths ≡ empty_paths c.args.header.path_end_open = rw e at c.relative_decode-first.ensures.value in
@@ -30,8 +30,8 @@ pub slice_bounds-relative_decode-count : goal.slice_bounds-relative_decode-count
 slice_bounds-relative_decode-count c =
     let known : PathRange = paths_with (path_in c.args.reference_start.now) c.args.reference.end_open (path_in c.args.reference_end.now) in
     let told_start : goal.Start = c in
-    let paths : PathRange = paths_with (path_in c.relative_decode-first.new.end_open.1.1.1.1.1.0) c.args.header.path_end_open
-    (path_in c.relative_decode-first.new.end_open.1.1.1.1.1.1.0) in
+    let paths : PathRange = paths_with (path_in c.relative_decode-first.new.start) c.args.header.path_end_open
+    (path_in c.relative_decode-first.new.end) in
     let paths_are : let s = told_start in read_paths_by sized_paths s.args.header.path_end_open (sides_in s.args.header) (known s) s.args.message.now ≡ accepted paths c.in-Consumed.a = sym c.relative_decode-first.ensures.answer ∙ ap (λ (d : Decoded). answer_of d paths) c.in-Consumed.is in
     let paths_in : c.in-Consumed.a ≤ length told_start.args.message.now = let s = told_start in
     paths_within (known s) s.args.reference.times s.args.header s.args.times s.args.message.now _ _ paths_are in
@@ -41,8 +41,8 @@ pub slice_bounds-relative_decode-start : goal.slice_bounds-relative_decode-start
 slice_bounds-relative_decode-start c =
     let known : PathRange = paths_with (path_in c.args.reference_start.now) c.args.reference.end_open (path_in c.args.reference_end.now) in
     let told_start : goal.Start = c in
-    let paths : PathRange = paths_with (path_in c.relative_decode-first.new.end_open.1.1.1.1.1.0) c.args.header.path_end_open
-    (path_in c.relative_decode-first.new.end_open.1.1.1.1.1.1.0) in
+    let paths : PathRange = paths_with (path_in c.relative_decode-first.new.start) c.args.header.path_end_open
+    (path_in c.relative_decode-first.new.end) in
     let paths_are : let s = told_start in read_paths_by sized_paths s.args.header.path_end_open (sides_in s.args.header) (known s) s.args.message.now ≡ accepted paths c.in-Consumed.a = sym c.relative_decode-first.ensures.answer ∙ ap (λ (d : Decoded). answer_of d paths) c.in-Consumed.is in
     let paths_in : c.in-Consumed.a ≤ length told_start.args.message.now = let s = told_start in
     paths_within (known s) s.args.reference.times s.args.header s.args.times s.args.message.now _ _ paths_are in
@@ -52,12 +52,12 @@ pub returns-in_default-answer : goal.returns-in_default-answer
 returns-in_default-answer c =
     let known : PathRange = paths_with (path_in c.args.reference_start.now) c.args.reference.end_open (path_in c.args.reference_end.now) in
     let told_start : goal.Start = c in
-    let paths : PathRange = paths_with (path_in c.relative_decode-first.new.end_open.1.1.1.1.1.0) c.args.header.path_end_open
-    (path_in c.relative_decode-first.new.end_open.1.1.1.1.1.1.0) in
+    let paths : PathRange = paths_with (path_in c.relative_decode-first.new.start) c.args.header.path_end_open
+    (path_in c.relative_decode-first.new.end) in
     let paths_are : let s = told_start in read_paths_by sized_paths s.args.header.path_end_open (sides_in s.args.header) (known s) s.args.message.now ≡ accepted paths c.in-Consumed.a = sym c.relative_decode-first.ensures.answer ∙ ap (λ (d : Decoded). answer_of d paths) c.in-Consumed.is in
     let times_told : let s = told_start in Gives no_times c.relative_decode-second.result.answer c.relative_decode-second.result.times (read_times s.args.reference.times s.args.header.times_end_open (unpackTimes s.args.times) (drop c.in-Consumed.a s.args.message.now)) = rw (to_end c.in-Consumed.a told_start.args.message.now) at c.relative_decode-second.ensures in
     let s = told_start in
-    let x = no_value c.relative_decode-second.result.answer c.in_default-answer.not-Consumed-answer in
+    let x = no_value c.relative_decode-second.result.answer c.in_default-answer.not-Consumed in
     let e = sym times_told.answer ∙ x.beside _ in
     let none : c.relative_decode-second.result.times ≡ no_times = rw e at times_told.value in
     rw (c.clear.ensures, c.clear-in_default-answer.ensures, in_empty, none)
@@ -67,8 +67,8 @@ pub overflow_add-result : goal.overflow_add-result
 overflow_add-result c =
     let known : PathRange = paths_with (path_in c.args.reference_start.now) c.args.reference.end_open (path_in c.args.reference_end.now) in
     let told_start : goal.Start = c in
-    let paths : PathRange = paths_with (path_in c.relative_decode-first.new.end_open.1.1.1.1.1.0) c.args.header.path_end_open
-    (path_in c.relative_decode-first.new.end_open.1.1.1.1.1.1.0) in
+    let paths : PathRange = paths_with (path_in c.relative_decode-first.new.start) c.args.header.path_end_open
+    (path_in c.relative_decode-first.new.end) in
     let paths_are : let s = told_start in read_paths_by sized_paths s.args.header.path_end_open (sides_in s.args.header) (known s) s.args.message.now ≡ accepted paths c.in-Consumed.a = sym c.relative_decode-first.ensures.answer ∙ ap (λ (d : Decoded). answer_of d paths) c.in-Consumed.is in
     let times_told : let s = told_start in Gives no_times c.relative_decode-second.result.answer c.relative_decode-second.result.times (read_times s.args.reference.times s.args.header.times_end_open (unpackTimes s.args.times) (drop c.in-Consumed.a s.args.message.now)) = rw (to_end c.in-Consumed.a told_start.args.message.now) at c.relative_decode-second.ensures in
     let times_are : let s = told_start in read_times s.args.reference.times s.args.header.times_end_open (unpackTimes s.args.times) (drop c.in-Consumed.a s.args.message.now) ≡ accepted c.relative_decode-second.result.times c.in-Consumed-answer.b = sym times_told.answer ∙ ap (λ (d : Decoded). answer_of d c.relative_decode-second.result.times) c.in-Consumed-answer.is in
@@ -78,8 +78,8 @@ pub returns : goal.returns
 returns c =
     let known : PathRange = paths_with (path_in c.args.reference_start.now) c.args.reference.end_open (path_in c.args.reference_end.now) in
     let told_start : goal.Start = c in
-    let paths : PathRange = paths_with (path_in c.relative_decode-first.new.end_open.1.1.1.1.1.0) c.args.header.path_end_open
-    (path_in c.relative_decode-first.new.end_open.1.1.1.1.1.1.0) in
+    let paths : PathRange = paths_with (path_in c.relative_decode-first.new.start) c.args.header.path_end_open
+    (path_in c.relative_decode-first.new.end) in
     let paths_are : let s = told_start in read_paths_by sized_paths s.args.header.path_end_open (sides_in s.args.header) (known s) s.args.message.now ≡ accepted paths c.in-Consumed.a = sym c.relative_decode-first.ensures.answer ∙ ap (λ (d : Decoded). answer_of d paths) c.in-Consumed.is in
     let times_told : let s = told_start in Gives no_times c.relative_decode-second.result.answer c.relative_decode-second.result.times (read_times s.args.reference.times s.args.header.times_end_open (unpackTimes s.args.times) (drop c.in-Consumed.a s.args.message.now)) = rw (to_end c.in-Consumed.a told_start.args.message.now) at c.relative_decode-second.ensures in
     let times_are : let s = told_start in read_times s.args.reference.times s.args.header.times_end_open (unpackTimes s.args.times) (drop c.in-Consumed.a s.args.message.now) ≡ accepted c.relative_decode-second.result.times c.in-Consumed-answer.b = sym times_told.answer ∙ ap (λ (d : Decoded). answer_of d c.relative_decode-second.result.times) c.in-Consumed-answer.is in

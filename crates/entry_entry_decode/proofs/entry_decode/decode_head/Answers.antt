@@ -61,7 +61,7 @@ returns-in_default-second_answer c =
     let ids_is : let a = c.args in read_ids a.reference.namespace_id a.reference.subspace_id header (drop (a.start + header_length) a.message.now) ≡ accepted c.decode_ids-first.result.ids c.in-Consumed.a = sym ids_told ∙ ap (λ (d : Decoded). answer_of d c.decode_ids-first.result.ids) c.in-Consumed.is in
     let numbers_told : let a = c.args in answer_of c.relative_decode-second.result.answer c.relative_decode-second.result.numbers ≡ read_numbers a.reference.timestamp header (drop (a.start + header_length + c.in-Consumed.a) a.message.now) = rw (c.unpack-header.ensures, to_end (c.args.start + header_length + c.in-Consumed.a) c.args.message.now) at c.relative_decode-second.ensures.answer in
     let a = c.args in
-    let x = no_value c.relative_decode-second.result.answer c.in_default-second_answer.not-Consumed-second_answer in
+    let x = no_value c.relative_decode-second.result.answer c.in_default-second_answer.not-Consumed in
     rw c.no_head-in_default-second_answer.ensures
     (x.beside _ ∙ sym (head_numbers a.reference.namespace_id a.reference.subspace_id a.reference.timestamp a.message.now a.start
     there _ _ ids_is x.why (sym numbers_told ∙ x.beside _)))

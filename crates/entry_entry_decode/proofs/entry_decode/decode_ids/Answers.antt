@@ -17,7 +17,7 @@ pub returns-in_default-second_answer : goal.returns-in_default-second_answer
 returns-in_default-second_answer c =
     let first_is : let a = c.args in read_id a.header.namespace_written a.reference.namespace_id a.message.now ≡ accepted c.decode_id_if-first.result.id c.in-Consumed.a = sym c.decode_id_if-first.ensures.answer ∙ ap (λ (d : Decoded). answer_of d c.decode_id_if-first.result.id) c.in-Consumed.is in
     let a = c.args in
-    let x = no_value c.decode_id_if-second.result.answer c.in_default-second_answer.not-Consumed-second_answer in
+    let x = no_value c.decode_id_if-second.result.answer c.in_default-second_answer.not-Consumed in
     rw c.no_ids-in_default-second_answer.ensures (x.beside _ ∙ sym
     (ids_second a.reference.namespace_id a.reference.subspace_id a.header a.message.now _ _ first_is x.why
     (sym c.decode_id_if-second.ensures.answer ∙ x.beside _)))

@@ -26,13 +26,13 @@ returns-in_default c =
 pub share_only-most-requires : goal.share_only-most-requires
 share_only-most-requires c =
     let reference : Path = path_in c.args.reference.now in
-    let path : Path = path_in c.decode_after-answer.new.canonic.1.1.1.1.1.0 in
+    let path : Path = path_in c.decode_after-answer.new.out in
     let taken : let a = c.args in read_after a.canonic reference a.k a.total a.count a.message.now ≡ accepted path c.in-Consumed.field-0 = sym c.decode_after-answer.ensures.answer ∙ ap (λ (d : Decoded). answer_of d path) c.in-Consumed.is in
     (on_alike _ reference _ c.requires _ _).holds c.args.message.now _ _ (λ i. omega (arith, c.shared_slice_known-1.given i)) taken
 
 pub returns-then-most : goal.returns-then-most
 returns-then-most c =
-    let path : Path = path_in c.decode_after-answer.new.canonic.1.1.1.1.1.0 in
+    let path : Path = path_in c.decode_after-answer.new.out in
     let reference : Path = path_in c.args.reference.now in
     let taken : let a = c.args in read_after a.canonic reference a.k a.total a.count a.message.now ≡ accepted path c.in-Consumed.field-0 = sym c.decode_after-answer.ensures.answer ∙ ap (λ (d : Decoded). answer_of d path) c.in-Consumed.is in
     let judged : let a = c.args in read_joined a.canonic reference a.k a.total a.count a.message.now ≡ passed (eqb (shared (components_of reference) (components_of path)) a.k) (accepted path c.in-Consumed.field-0) = joined_tested _ reference _ c.requires _ _ _ _ _ (c.if-not-canonic.false) taken in
@@ -42,7 +42,7 @@ returns-then-most c =
 pub returns : goal.returns
 returns c =
     let reference : Path = path_in c.args.reference.now in
-    let path : Path = path_in c.decode_after-answer.new.canonic.1.1.1.1.1.0 in
+    let path : Path = path_in c.decode_after-answer.new.out in
     let taken : let a = c.args in read_after a.canonic reference a.k a.total a.count a.message.now ≡ accepted path c.in-Consumed.field-0 = sym c.decode_after-answer.ensures.answer ∙ ap (λ (d : Decoded). answer_of d path) c.in-Consumed.is in
     let judged : let a = c.args in read_joined a.canonic reference a.k a.total a.count a.message.now ≡ passed (eqb (shared (components_of reference) (components_of path)) a.k) (accepted path c.in-Consumed.field-0) = joined_tested _ reference _ c.requires _ _ _ _ _ (c.if-not-canonic.false) taken in
     rw (c.clear.ensures, in_empty) (gives_refused 2 refl (judged ∙ rw (sym c.share_only-most.ensures ∙ c.if-most.false)))

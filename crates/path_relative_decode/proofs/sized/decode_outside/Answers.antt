@@ -11,5 +11,5 @@ returns-in_default c = bind_refused _ _ c.in_default.not-Consumed c.decode-answe
 
 pub returns : goal.returns
 returns c =
-    let taken = sym c.decode-answer.ensures.answer ∙ ap (λ (d : Decoded). answer_of d (path_in c.decode-answer.new.start.1.1.0)) c.in-Consumed.is in
+    let taken = sym c.decode-answer.ensures.answer ∙ ap (λ (d : Decoded). answer_of d (path_in c.decode-answer.new.out)) c.in-Consumed.is in
     rw (c.clear.ensures, in_empty) (gives_refused 2 refl (rw taken))

@@ -126,7 +126,7 @@ returns-in_default-answer c =
     let fits : sized prefix ≡ true = sym c.sized-fits.ensures ∙ c.if-not-fits.false in
     let here : Formed prefix = sized_formed fits in
     let counted : c.count-count.result ≡ prefix.count = c.count-count.ensures ∙ lent_known _ here 0 (λ p. p.count) in
-    let path : Path = path_in c.decode_after-answer.new.canonic.1.1.1.1.1.0 in
+    let path : Path = path_in c.decode_after-answer.new.out in
     let after : let h = told_sizes in Gives (path_from []) c.decode_after-answer.result path (read_more c.args.canonic (components_of prefix) h.total h.count (drop (c.args.start + c.in-Consumed.n) c.args.message.now)) = let a = c.args in
     let on = all_more prefix fits _ counted a.canonic in
     rw (to_end (a.start + c.in-Consumed.n) a.message.now, on _ _ _) at c.decode_after-answer.ensures in
@@ -139,7 +139,7 @@ returns-in_default-answer c =
     let total_fits : total_of (components_of (prefix span_start1)) + told_sizes.total ≤ max_path_length = omega (arith, c.if-used-total.false, total_few, total_sum) in
     let extends_at : let h = told_sizes in read_extends_by sized c.args.canonic prefix (drop c.args.start c.args.message.now) ≡ shift c.in-Consumed.n (read_more c.args.canonic (components_of prefix) h.total h.count (drop (c.args.start + c.in-Consumed.n) c.args.message.now)) = extends_more sized _ prefix fits here c.args.message.now c.args.start _ _ _ sizes_are bytes total_fits
     (omega (arith, c.if-count-more.false, counted, few)) in
-    rw extends_at (later_refused _ _ c.in_default-answer.not-Consumed-answer after)
+    rw extends_at (later_refused _ _ c.in_default-answer.not-Consumed after)
 
 pub overflow_add-result : goal.overflow_add-result
 overflow_add-result c =
@@ -147,7 +147,7 @@ overflow_add-result c =
     let told_sizes : DecodedSizes = c.decode_sizes-sizes.result in
     let sizes_are : let a = c.args in let h = told_sizes in read_sizes a.canonic (drop a.start a.message.now) ≡ accepted (sizes_from h.total h.count) c.in-Consumed.n = sym (rw c.in-Consumed.is at c.decode_sizes-sizes.ensures.answer) in
     let begins : c.args.start + c.in-Consumed.n ≤ length c.args.message.now = let a = c.args in sizes_inside a.canonic a.message.now a.start _ _ sizes_are in
-    let path : Path = path_in c.decode_after-answer.new.canonic.1.1.1.1.1.0 in
+    let path : Path = path_in c.decode_after-answer.new.out in
     let prefix : Path = path_in c.args.extends.now in
     let fits : sized prefix ≡ true = sym c.sized-fits.ensures ∙ c.if-not-fits.false in
     let here : Formed prefix = sized_formed fits in
@@ -166,7 +166,7 @@ returns c =
     let fits : sized prefix ≡ true = sym c.sized-fits.ensures ∙ c.if-not-fits.false in
     let here : Formed prefix = sized_formed fits in
     let counted : c.count-count.result ≡ prefix.count = c.count-count.ensures ∙ lent_known _ here 0 (λ p. p.count) in
-    let path : Path = path_in c.decode_after-answer.new.canonic.1.1.1.1.1.0 in
+    let path : Path = path_in c.decode_after-answer.new.out in
     let after : let h = told_sizes in Gives (path_from []) c.decode_after-answer.result path (read_more c.args.canonic (components_of prefix) h.total h.count (drop (c.args.start + c.in-Consumed.n) c.args.message.now)) = let a = c.args in
     let on = all_more prefix fits _ counted a.canonic in
     rw (to_end (a.start + c.in-Consumed.n) a.message.now, on _ _ _) at c.decode_after-answer.ensures in

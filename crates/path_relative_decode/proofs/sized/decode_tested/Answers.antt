@@ -24,13 +24,13 @@ returns-in_default c =
 pub reaches-prefixed-requires : goal.reaches-prefixed-requires
 reaches-prefixed-requires c =
     let reference : Path = path_in c.args.reference.now in
-    let path : Path = path_in c.decode_joined-answer.new.canonic.1.1.1.1.1.0 in
+    let path : Path = path_in c.decode_joined-answer.new.out in
     let taken : let a = c.args in read_joined a.canonic reference a.k a.total a.count a.message.now ≡ accepted path c.in-Consumed.field-0 = sym c.decode_joined-answer.ensures.answer ∙ ap (λ (d : Decoded). answer_of d path) c.in-Consumed.is in
     (joined_told _ reference _ _ _ c.requires).holds c.args.message.now _ _ (λ i. omega (arith, c.shared_slice_known-1.given i)) taken
 
 pub returns-then-prefixed : goal.returns-then-prefixed
 returns-then-prefixed c =
-    let path : Path = path_in c.decode_joined-answer.new.canonic.1.1.1.1.1.0 in
+    let path : Path = path_in c.decode_joined-answer.new.out in
     let reference : Path = path_in c.args.reference.now in
     let taken : let a = c.args in read_joined a.canonic reference a.k a.total a.count a.message.now ≡ accepted path c.in-Consumed.field-0 = sym c.decode_joined-answer.ensures.answer ∙ ap (λ (d : Decoded). answer_of d path) c.in-Consumed.is in
     let judged : let a = c.args in read_tested a.within a.canonic reference a.k a.total a.count a.message.now ≡ passed (is_prefix (components_of reference) (components_of path)) (accepted path c.in-Consumed.field-0) = tested_within _ reference _ _ _ _ _ (c.if-not-within.false) _ _ taken in
@@ -40,7 +40,7 @@ returns-then-prefixed c =
 pub returns : goal.returns
 returns c =
     let reference : Path = path_in c.args.reference.now in
-    let path : Path = path_in c.decode_joined-answer.new.canonic.1.1.1.1.1.0 in
+    let path : Path = path_in c.decode_joined-answer.new.out in
     let taken : let a = c.args in read_joined a.canonic reference a.k a.total a.count a.message.now ≡ accepted path c.in-Consumed.field-0 = sym c.decode_joined-answer.ensures.answer ∙ ap (λ (d : Decoded). answer_of d path) c.in-Consumed.is in
     let judged : let a = c.args in read_tested a.within a.canonic reference a.k a.total a.count a.message.now ≡ passed (is_prefix (components_of reference) (components_of path)) (accepted path c.in-Consumed.field-0) = tested_within _ reference _ _ _ _ _ (c.if-not-within.false) _ _ taken in
     rw (c.clear.ensures, in_empty) (gives_refused 2 refl (judged ∙ rw (sym c.reaches-prefixed.ensures ∙ c.if-prefixed.false)))

@@ -21,7 +21,7 @@ returns-then-not-fit c =
 pub returns-in_default : goal.returns-in_default
 returns-in_default c =
     let known : PathRange = paths_with (path_in c.args.reference_start.now) c.args.reference_end_open (path_in c.args.reference_end.now) in
-    let first : Path = path_in c.decode_path-first.new.from_start.1.1.1.1.0 in
+    let first : Path = path_in c.decode_path-first.new.out in
     let fit : (sized known.start && sized known.end) ≡ true = sym c.both_sized-fit.ensures ∙ c.if-not-fit.false in
     let x = no_value c.decode_path-first.result c.in_default.not-Consumed in
     let e = sym c.decode_path-first.ensures.answer ∙ x.beside _ in
@@ -33,7 +33,7 @@ pub returns-then-end_open : goal.returns-then-end_open
 returns-then-end_open c =
     let known : PathRange = paths_with (path_in c.args.reference_start.now) c.args.reference_end_open (path_in c.args.reference_end.now) in
     let fit : (sized known.start && sized known.end) ≡ true = sym c.both_sized-fit.ensures ∙ c.if-not-fit.false in
-    let first : Path = path_in c.decode_path-first.new.from_start.1.1.1.1.0 in
+    let first : Path = path_in c.decode_path-first.new.out in
     let start_is : read_side_in known c.args.sides.start_from_start c.args.message.now ≡ accepted first c.in-Consumed.a = sym c.decode_path-first.ensures.answer ∙ ap (λ (d : Decoded). answer_of d first) c.in-Consumed.is in
     rw (c.clear.ensures, in_empty)
     (gives_accepted (start_read c.args.end_open c.args.sides known c.args.message.now fit _ _ start_is c.if-end_open.true))
@@ -42,7 +42,7 @@ pub slice_bounds-rest-count : goal.slice_bounds-rest-count
 slice_bounds-rest-count c =
     let known : PathRange = paths_with (path_in c.args.reference_start.now) c.args.reference_end_open (path_in c.args.reference_end.now) in
     let fit : (sized known.start && sized known.end) ≡ true = sym c.both_sized-fit.ensures ∙ c.if-not-fit.false in
-    let first : Path = path_in c.decode_path-first.new.from_start.1.1.1.1.0 in
+    let first : Path = path_in c.decode_path-first.new.out in
     let start_is : read_side_in known c.args.sides.start_from_start c.args.message.now ≡ accepted first c.in-Consumed.a = sym c.decode_path-first.ensures.answer ∙ ap (λ (d : Decoded). answer_of d first) c.in-Consumed.is in
     let start_in : c.in-Consumed.a ≤ length c.args.message.now = start_within c.args.end_open c.args.sides known c.args.message.now fit _ _ start_is in
     start_in
@@ -51,7 +51,7 @@ pub slice_bounds-rest-start : goal.slice_bounds-rest-start
 slice_bounds-rest-start c =
     let known : PathRange = paths_with (path_in c.args.reference_start.now) c.args.reference_end_open (path_in c.args.reference_end.now) in
     let fit : (sized known.start && sized known.end) ≡ true = sym c.both_sized-fit.ensures ∙ c.if-not-fit.false in
-    let first : Path = path_in c.decode_path-first.new.from_start.1.1.1.1.0 in
+    let first : Path = path_in c.decode_path-first.new.out in
     let start_is : read_side_in known c.args.sides.start_from_start c.args.message.now ≡ accepted first c.in-Consumed.a = sym c.decode_path-first.ensures.answer ∙ ap (λ (d : Decoded). answer_of d first) c.in-Consumed.is in
     let start_in : c.in-Consumed.a ≤ length c.args.message.now = start_within c.args.end_open c.args.sides known c.args.message.now fit _ _ start_is in
     omega (arith, start_in)
@@ -59,12 +59,12 @@ slice_bounds-rest-start c =
 pub returns-in_default-second : goal.returns-in_default-second
 returns-in_default-second c =
     let known : PathRange = paths_with (path_in c.args.reference_start.now) c.args.reference_end_open (path_in c.args.reference_end.now) in
-    let last : Path = path_in c.decode_path-second.new.from_start.1.1.1.1.0 in
+    let last : Path = path_in c.decode_path-second.new.out in
     let fit : (sized known.start && sized known.end) ≡ true = sym c.both_sized-fit.ensures ∙ c.if-not-fit.false in
-    let first : Path = path_in c.decode_path-first.new.from_start.1.1.1.1.0 in
+    let first : Path = path_in c.decode_path-first.new.out in
     let start_is : read_side_in known c.args.sides.start_from_start c.args.message.now ≡ accepted first c.in-Consumed.a = sym c.decode_path-first.ensures.answer ∙ ap (λ (d : Decoded). answer_of d first) c.in-Consumed.is in
     let end_told : Gives (path_from []) c.decode_path-second.result last (read_side_in known c.args.sides.end_from_start (drop c.in-Consumed.a c.args.message.now)) = rw (to_end c.in-Consumed.a c.args.message.now) at c.decode_path-second.ensures in
-    let x = no_value c.decode_path-second.result c.in_default-second.not-Consumed-second in
+    let x = no_value c.decode_path-second.result c.in_default-second.not-Consumed in
     let e = sym end_told.answer ∙ x.beside _ in
     let none : last ≡ path_from [] = rw e at end_told.value in
     rw (c.clear-in_default-second.ensures, in_empty, none)
@@ -75,9 +75,9 @@ pub overflow_add-result : goal.overflow_add-result
 overflow_add-result c =
     let known : PathRange = paths_with (path_in c.args.reference_start.now) c.args.reference_end_open (path_in c.args.reference_end.now) in
     let fit : (sized known.start && sized known.end) ≡ true = sym c.both_sized-fit.ensures ∙ c.if-not-fit.false in
-    let first : Path = path_in c.decode_path-first.new.from_start.1.1.1.1.0 in
+    let first : Path = path_in c.decode_path-first.new.out in
     let start_is : read_side_in known c.args.sides.start_from_start c.args.message.now ≡ accepted first c.in-Consumed.a = sym c.decode_path-first.ensures.answer ∙ ap (λ (d : Decoded). answer_of d first) c.in-Consumed.is in
-    let last : Path = path_in c.decode_path-second.new.from_start.1.1.1.1.0 in
+    let last : Path = path_in c.decode_path-second.new.out in
     let end_told : Gives (path_from []) c.decode_path-second.result last (read_side_in known c.args.sides.end_from_start (drop c.in-Consumed.a c.args.message.now)) = rw (to_end c.in-Consumed.a c.args.message.now) at c.decode_path-second.ensures in
     let end_is : read_side_in known c.args.sides.end_from_start (drop c.in-Consumed.a c.args.message.now) ≡ accepted last c.in-Consumed-second.b = sym end_told.answer ∙ ap (λ (d : Decoded). answer_of d last) c.in-Consumed-second.is in
     omega (arith, end_within c.args.end_open c.args.sides known c.args.message.now fit _ _ start_is c.if-end_open.false _ _ end_is)
@@ -86,9 +86,9 @@ pub returns : goal.returns
 returns c =
     let known : PathRange = paths_with (path_in c.args.reference_start.now) c.args.reference_end_open (path_in c.args.reference_end.now) in
     let fit : (sized known.start && sized known.end) ≡ true = sym c.both_sized-fit.ensures ∙ c.if-not-fit.false in
-    let first : Path = path_in c.decode_path-first.new.from_start.1.1.1.1.0 in
+    let first : Path = path_in c.decode_path-first.new.out in
     let start_is : read_side_in known c.args.sides.start_from_start c.args.message.now ≡ accepted first c.in-Consumed.a = sym c.decode_path-first.ensures.answer ∙ ap (λ (d : Decoded). answer_of d first) c.in-Consumed.is in
-    let last : Path = path_in c.decode_path-second.new.from_start.1.1.1.1.0 in
+    let last : Path = path_in c.decode_path-second.new.out in
     let end_told : Gives (path_from []) c.decode_path-second.result last (read_side_in known c.args.sides.end_from_start (drop c.in-Consumed.a c.args.message.now)) = rw (to_end c.in-Consumed.a c.args.message.now) at c.decode_path-second.ensures in
     let end_is : read_side_in known c.args.sides.end_from_start (drop c.in-Consumed.a c.args.message.now) ≡ accepted last c.in-Consumed-second.b = sym end_told.answer ∙ ap (λ (d : Decoded). answer_of d last) c.in-Consumed-second.is in
     gives_accepted (both_read c.args.end_open c.args.sides known c.args.message.now fit _ _ start_is c.if-end_open.false _ _ end_is)
