@@ -102,12 +102,12 @@ returns-in_default-answer c =
     let reference : Path = path_in c.args.reference.now in
     let told2_sizes : DecodedSizes = c.decode_sizes-sizes.result in
     let path : Path = path_in c.decode_tested-answer.new.out in
-    let tested_are : let h = told2_sizes in let n = c.number-1.given.0 in Gives (path_from []) c.decode_tested-answer.result path (read_tested c.args.within c.args.canonic reference n.0 h.total h.count (drop (c.args.start + n.1.0 + c.in-Consumed.b) c.args.message.now)) = let a = c.args in
+    let tested_are : let h = told2_sizes in Gives (path_from []) c.decode_tested-answer.result path (read_tested c.args.within c.args.canonic reference c.in-Value.shared h.total h.count (drop (c.args.start + c.in-Value.a + c.in-Consumed.b) c.args.message.now)) = let a = c.args in
     rw (to_end (a.start + c.in-Value.a + c.in-Consumed.b) a.message.now) at c.decode_tested-answer.ensures in
     let fits : sized reference ≡ true = sym c.sized-fits.ensures ∙ c.if-not-fits.false in
     let shared_are : let a = c.args in read_standalone a.canonic (drop a.start a.message.now) ≡ accepted c.in-Value.shared c.in-Value.a = sym c.decode-number.ensures ∙ ap number_answer c.in-Value.is in
     let sizes_are : let a = c.args in let h = told2_sizes in read_sizes a.canonic (drop (a.start + c.in-Value.a) a.message.now) ≡ accepted (sizes_from h.total h.count) c.in-Consumed.b = sym (rw c.in-Consumed.is at c.decode_sizes-sizes.ensures.answer) in
-    let tested_at : let h = told2_sizes in let n = c.number-1.given.0 in read_tested_by sized c.args.within c.args.canonic reference (drop c.args.start c.args.message.now) ≡ shift n.1.0 (shift c.in-Consumed.b (read_tested c.args.within c.args.canonic reference n.0 h.total h.count (drop (c.args.start + n.1.0 + c.in-Consumed.b) c.args.message.now))) = by_joined sized c.args.within _ reference _ _ _ _ _ _ _
+    let tested_at : let h = told2_sizes in read_tested_by sized c.args.within c.args.canonic reference (drop c.args.start c.args.message.now) ≡ shift c.in-Value.a (shift c.in-Consumed.b (read_tested c.args.within c.args.canonic reference c.in-Value.shared h.total h.count (drop (c.args.start + c.in-Value.a + c.in-Consumed.b) c.args.message.now))) = by_joined sized c.args.within _ reference _ _ _ _ _ _ _
     (against_joined sized _ reference fits c.args.message.now c.args.start _ _ shared_are _ _ _ sizes_are) in
     rw tested_at (later_refused _ _ c.in_default-answer.not-Consumed (later_refused _ _ c.in_default-answer.not-Consumed tested_are))
 
@@ -119,7 +119,7 @@ overflow_add-result c =
     let sizes_are : let a = c.args in let h = told2_sizes in read_sizes a.canonic (drop (a.start + c.in-Value.a) a.message.now) ≡ accepted (sizes_from h.total h.count) c.in-Consumed.b = sym (rw c.in-Consumed.is at c.decode_sizes-sizes.ensures.answer) in
     let begins : c.args.start + c.in-Value.a + c.in-Consumed.b ≤ length c.args.message.now = let a = c.args in sizes_inside a.canonic a.message.now (a.start + c.in-Value.a) _ _ sizes_are in
     let path : Path = path_in c.decode_tested-answer.new.out in
-    let tested_are : let h = told2_sizes in let n = c.number-1.given.0 in Gives (path_from []) c.decode_tested-answer.result path (read_tested c.args.within c.args.canonic reference n.0 h.total h.count (drop (c.args.start + n.1.0 + c.in-Consumed.b) c.args.message.now)) = let a = c.args in
+    let tested_are : let h = told2_sizes in Gives (path_from []) c.decode_tested-answer.result path (read_tested c.args.within c.args.canonic reference c.in-Value.shared h.total h.count (drop (c.args.start + c.in-Value.a + c.in-Consumed.b) c.args.message.now)) = let a = c.args in
     rw (to_end (a.start + c.in-Value.a + c.in-Consumed.b) a.message.now) at c.decode_tested-answer.ensures in
     let inside : c.args.start + c.in-Value.a + c.in-Consumed.b + c.in-Consumed-answer.m ≤ length c.args.message.now = let at = c.args.start + c.in-Value.a + c.in-Consumed.b in
     let e = sym tested_are.answer ∙ ap (λ (d : Decoded). answer_of d path) c.in-Consumed-answer.is in
@@ -134,7 +134,7 @@ overflow_add-result-2 c =
     let sizes_are : let a = c.args in let h = told2_sizes in read_sizes a.canonic (drop (a.start + c.in-Value.a) a.message.now) ≡ accepted (sizes_from h.total h.count) c.in-Consumed.b = sym (rw c.in-Consumed.is at c.decode_sizes-sizes.ensures.answer) in
     let begins : c.args.start + c.in-Value.a + c.in-Consumed.b ≤ length c.args.message.now = let a = c.args in sizes_inside a.canonic a.message.now (a.start + c.in-Value.a) _ _ sizes_are in
     let path : Path = path_in c.decode_tested-answer.new.out in
-    let tested_are : let h = told2_sizes in let n = c.number-1.given.0 in Gives (path_from []) c.decode_tested-answer.result path (read_tested c.args.within c.args.canonic reference n.0 h.total h.count (drop (c.args.start + n.1.0 + c.in-Consumed.b) c.args.message.now)) = let a = c.args in
+    let tested_are : let h = told2_sizes in Gives (path_from []) c.decode_tested-answer.result path (read_tested c.args.within c.args.canonic reference c.in-Value.shared h.total h.count (drop (c.args.start + c.in-Value.a + c.in-Consumed.b) c.args.message.now)) = let a = c.args in
     rw (to_end (a.start + c.in-Value.a + c.in-Consumed.b) a.message.now) at c.decode_tested-answer.ensures in
     let inside : c.args.start + c.in-Value.a + c.in-Consumed.b + c.in-Consumed-answer.m ≤ length c.args.message.now = let at = c.args.start + c.in-Value.a + c.in-Consumed.b in
     let e = sym tested_are.answer ∙ ap (λ (d : Decoded). answer_of d path) c.in-Consumed-answer.is in
@@ -146,11 +146,11 @@ returns c =
     let reference : Path = path_in c.args.reference.now in
     let told2_sizes : DecodedSizes = c.decode_sizes-sizes.result in
     let path : Path = path_in c.decode_tested-answer.new.out in
-    let tested_are : let h = told2_sizes in let n = c.number-1.given.0 in Gives (path_from []) c.decode_tested-answer.result path (read_tested c.args.within c.args.canonic reference n.0 h.total h.count (drop (c.args.start + n.1.0 + c.in-Consumed.b) c.args.message.now)) = let a = c.args in
+    let tested_are : let h = told2_sizes in Gives (path_from []) c.decode_tested-answer.result path (read_tested c.args.within c.args.canonic reference c.in-Value.shared h.total h.count (drop (c.args.start + c.in-Value.a + c.in-Consumed.b) c.args.message.now)) = let a = c.args in
     rw (to_end (a.start + c.in-Value.a + c.in-Consumed.b) a.message.now) at c.decode_tested-answer.ensures in
     let fits : sized reference ≡ true = sym c.sized-fits.ensures ∙ c.if-not-fits.false in
     let shared_are : let a = c.args in read_standalone a.canonic (drop a.start a.message.now) ≡ accepted c.in-Value.shared c.in-Value.a = sym c.decode-number.ensures ∙ ap number_answer c.in-Value.is in
     let sizes_are : let a = c.args in let h = told2_sizes in read_sizes a.canonic (drop (a.start + c.in-Value.a) a.message.now) ≡ accepted (sizes_from h.total h.count) c.in-Consumed.b = sym (rw c.in-Consumed.is at c.decode_sizes-sizes.ensures.answer) in
-    let tested_at : let h = told2_sizes in let n = c.number-1.given.0 in read_tested_by sized c.args.within c.args.canonic reference (drop c.args.start c.args.message.now) ≡ shift n.1.0 (shift c.in-Consumed.b (read_tested c.args.within c.args.canonic reference n.0 h.total h.count (drop (c.args.start + n.1.0 + c.in-Consumed.b) c.args.message.now))) = by_joined sized c.args.within _ reference _ _ _ _ _ _ _
+    let tested_at : let h = told2_sizes in read_tested_by sized c.args.within c.args.canonic reference (drop c.args.start c.args.message.now) ≡ shift c.in-Value.a (shift c.in-Consumed.b (read_tested c.args.within c.args.canonic reference c.in-Value.shared h.total h.count (drop (c.args.start + c.in-Value.a + c.in-Consumed.b) c.args.message.now))) = by_joined sized c.args.within _ reference _ _ _ _ _ _ _
     (against_joined sized _ reference fits c.args.message.now c.args.start _ _ shared_are _ _ _ sizes_are) in
     rw tested_at (later_accepted _ _ _ refl (later_accepted _ _ _ c.in-Consumed-answer.is tested_are))

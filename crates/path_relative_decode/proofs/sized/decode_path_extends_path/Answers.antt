@@ -46,9 +46,8 @@ overflow_sub-used c =
     let prefix : Path = path_in c.args.extends.now in
     let fits : sized prefix ≡ true = sym c.sized-fits.ensures ∙ c.if-not-fits.false in
     let here : Formed prefix = sized_formed fits in
-    let span_start1 : goal.Start = c in
     let counted : c.count-count.result ≡ prefix.count = c.count-count.ensures ∙ lent_known _ here 0 (λ p. p.count) in
-    let total_sum : c.span-used.result ≡ total_of (components_of (prefix span_start1)) = c.span-used.ensures ∙ span_start _ here c.count-count.result (omega (arith, counted)) ∙ all_total _ fits _ counted in
+    let total_sum : c.span-used.result ≡ total_of (components_of prefix) = c.span-used.ensures ∙ span_start _ here c.count-count.result (omega (arith, counted)) ∙ all_total _ fits _ counted in
     let total_few : c.span-used.result ≤ max_path_length = omega (arith, total_sum, total_small _ here) in
     total_few
 
@@ -57,9 +56,8 @@ returns-then-used-total c =
     let prefix : Path = path_in c.args.extends.now in
     let fits : sized prefix ≡ true = sym c.sized-fits.ensures ∙ c.if-not-fits.false in
     let here : Formed prefix = sized_formed fits in
-    let span_start1 : goal.Start = c in
     let counted : c.count-count.result ≡ prefix.count = c.count-count.ensures ∙ lent_known _ here 0 (λ p. p.count) in
-    let total_sum : c.span-used.result ≡ total_of (components_of (prefix span_start1)) = c.span-used.ensures ∙ span_start _ here c.count-count.result (omega (arith, counted)) ∙ all_total _ fits _ counted in
+    let total_sum : c.span-used.result ≡ total_of (components_of prefix) = c.span-used.ensures ∙ span_start _ here c.count-count.result (omega (arith, counted)) ∙ all_total _ fits _ counted in
     let total_few : c.span-used.result ≤ max_path_length = omega (arith, total_sum, total_small _ here) in
     let told_sizes : DecodedSizes = c.decode_sizes-sizes.result in
     let sizes_are : let a = c.args in let h = told_sizes in read_sizes a.canonic (drop a.start a.message.now) ≡ accepted (sizes_from h.total h.count) c.in-Consumed.n = sym (rw c.in-Consumed.is at c.decode_sizes-sizes.ensures.answer) in
@@ -88,10 +86,9 @@ returns-then-count-more c =
     let told_sizes : DecodedSizes = c.decode_sizes-sizes.result in
     let sizes_are : let a = c.args in let h = told_sizes in read_sizes a.canonic (drop a.start a.message.now) ≡ accepted (sizes_from h.total h.count) c.in-Consumed.n = sym (rw c.in-Consumed.is at c.decode_sizes-sizes.ensures.answer) in
     let bytes : AllBytes c.args.message.now = λ i. omega (arith, c.shared_slice_known-1.given i) in
-    let span_start1 : goal.Start = c in
-    let total_sum : c.span-used.result ≡ total_of (components_of (prefix span_start1)) = c.span-used.ensures ∙ span_start _ here c.count-count.result (omega (arith, counted)) ∙ all_total _ fits _ counted in
+    let total_sum : c.span-used.result ≡ total_of (components_of prefix) = c.span-used.ensures ∙ span_start _ here c.count-count.result (omega (arith, counted)) ∙ all_total _ fits _ counted in
     let total_few : c.span-used.result ≤ max_path_length = omega (arith, total_sum, total_small _ here) in
-    let total_fits : total_of (components_of (prefix span_start1)) + told_sizes.total ≤ max_path_length = omega (arith, c.if-used-total.false, total_few, total_sum) in
+    let total_fits : total_of (components_of prefix) + told_sizes.total ≤ max_path_length = omega (arith, c.if-used-total.false, total_few, total_sum) in
     rw
     (extends_many sized _ prefix fits here c.args.message.now c.args.start _ _ _ sizes_are bytes total_fits
     (omega (arith, c.if-count-more.true, counted, few)))
@@ -133,10 +130,9 @@ returns-in_default-answer c =
     let few : c.count-count.result ≤ max_component_count = omega (arith, counted, here.well.count) in
     let sizes_are : let a = c.args in let h = told_sizes in read_sizes a.canonic (drop a.start a.message.now) ≡ accepted (sizes_from h.total h.count) c.in-Consumed.n = sym (rw c.in-Consumed.is at c.decode_sizes-sizes.ensures.answer) in
     let bytes : AllBytes c.args.message.now = λ i. omega (arith, c.shared_slice_known-1.given i) in
-    let span_start1 : goal.Start = c in
-    let total_sum : c.span-used.result ≡ total_of (components_of (prefix span_start1)) = c.span-used.ensures ∙ span_start _ here c.count-count.result (omega (arith, counted)) ∙ all_total _ fits _ counted in
+    let total_sum : c.span-used.result ≡ total_of (components_of prefix) = c.span-used.ensures ∙ span_start _ here c.count-count.result (omega (arith, counted)) ∙ all_total _ fits _ counted in
     let total_few : c.span-used.result ≤ max_path_length = omega (arith, total_sum, total_small _ here) in
-    let total_fits : total_of (components_of (prefix span_start1)) + told_sizes.total ≤ max_path_length = omega (arith, c.if-used-total.false, total_few, total_sum) in
+    let total_fits : total_of (components_of prefix) + told_sizes.total ≤ max_path_length = omega (arith, c.if-used-total.false, total_few, total_sum) in
     let extends_at : let h = told_sizes in read_extends_by sized c.args.canonic prefix (drop c.args.start c.args.message.now) ≡ shift c.in-Consumed.n (read_more c.args.canonic (components_of prefix) h.total h.count (drop (c.args.start + c.in-Consumed.n) c.args.message.now)) = extends_more sized _ prefix fits here c.args.message.now c.args.start _ _ _ sizes_are bytes total_fits
     (omega (arith, c.if-count-more.false, counted, few)) in
     rw extends_at (later_refused _ _ c.in_default-answer.not-Consumed after)
@@ -173,10 +169,9 @@ returns c =
     let few : c.count-count.result ≤ max_component_count = omega (arith, counted, here.well.count) in
     let sizes_are : let a = c.args in let h = told_sizes in read_sizes a.canonic (drop a.start a.message.now) ≡ accepted (sizes_from h.total h.count) c.in-Consumed.n = sym (rw c.in-Consumed.is at c.decode_sizes-sizes.ensures.answer) in
     let bytes : AllBytes c.args.message.now = λ i. omega (arith, c.shared_slice_known-1.given i) in
-    let span_start1 : goal.Start = c in
-    let total_sum : c.span-used.result ≡ total_of (components_of (prefix span_start1)) = c.span-used.ensures ∙ span_start _ here c.count-count.result (omega (arith, counted)) ∙ all_total _ fits _ counted in
+    let total_sum : c.span-used.result ≡ total_of (components_of prefix) = c.span-used.ensures ∙ span_start _ here c.count-count.result (omega (arith, counted)) ∙ all_total _ fits _ counted in
     let total_few : c.span-used.result ≤ max_path_length = omega (arith, total_sum, total_small _ here) in
-    let total_fits : total_of (components_of (prefix span_start1)) + told_sizes.total ≤ max_path_length = omega (arith, c.if-used-total.false, total_few, total_sum) in
+    let total_fits : total_of (components_of prefix) + told_sizes.total ≤ max_path_length = omega (arith, c.if-used-total.false, total_few, total_sum) in
     let extends_at : let h = told_sizes in read_extends_by sized c.args.canonic prefix (drop c.args.start c.args.message.now) ≡ shift c.in-Consumed.n (read_more c.args.canonic (components_of prefix) h.total h.count (drop (c.args.start + c.in-Consumed.n) c.args.message.now)) = extends_more sized _ prefix fits here c.args.message.now c.args.start _ _ _ sizes_are bytes total_fits
     (omega (arith, c.if-count-more.false, counted, few)) in
     rw extends_at (later_accepted _ _ _ c.in-Consumed-answer.is after)
