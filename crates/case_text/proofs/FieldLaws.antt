@@ -1,5 +1,5 @@
 -- What reading a field of a line in hex answers, and what a line asks for.
-use Rattle.codec.proofs.Prelude.{◌≡◌, refl, sym, ◌∙◌, List, [], ◌∷◌, ⊎_elim, ℕ, OneOf, tag_of, arith, length}
+use Rattle.codec.proofs.Prelude.{◌≡◌, refl, sym, ◌∙◌, List, ℕ, arith, length}
 use Rattle.codec.specs.Answers.{said}
 use Rattle.text.specs.Hex.{unhex}
 use Rattle.text.specs.Fields.{read_hex, hex_answer, hex_buffer}

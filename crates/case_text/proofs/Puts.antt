@@ -1,5 +1,5 @@
 -- Laws of texts put into a buffer, one after another.
-use Rattle.codec.proofs.Prelude.{◌≡◌, refl, sym, ap, ◌∙◌, List, [], ◌∷◌, ◌++◌, ⊎_elim, ℕ, ◌+◌, ◌-◌, ◌≤◌, ◌<◌, OneOf, tag_of, arith, le-leb, lt-leb, length, take, drop, length-append, length-drop, take_at, length-take-le}
+use Rattle.codec.proofs.Prelude.{◌≡◌, refl, sym, ap, ◌∙◌, List, [], ◌∷◌, ◌++◌, ℕ, ◌+◌, ◌-◌, ◌≤◌, ◌<◌, arith, le-leb, lt-leb, length, take, drop, length-append, length-drop, take_at, length-take-le}
 use Rattle.codec.specs.declared.Encoded.{Encoded}
 use Rattle.codec.specs.declared.Encoded.TheVariants as encoded
 use Rattle.codec.specs.Answers.{outcome_of}

@@ -1,4 +1,4 @@
--- Records of entries and their values: each well_formed_lem record is the record of its values, and back.
+-- Records of entries and their values: each well-formed record is the record of its values, and back.
 use Rattle.codec.proofs.Prelude.{◌≡◌, true}
 use Rattle.path.specs.Limits.{PathOk}
 use Rattle.path.specs.Record.{components_of, path_from}

@@ -1,5 +1,5 @@
 -- What the language says of a record, from what owning one tells.
-use Rattle.codec.proofs.Prelude.{◌≡◌, List, ℕ, length, Val, Is}
+use Rattle.codec.proofs.Prelude.{◌≡◌, List, length, Val, Is}
 use denote.Struct.Declared as struct
 use Rattle.entry.specs.declared.EntryFields.{EntryFields}
 

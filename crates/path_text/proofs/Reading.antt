@@ -1,5 +1,5 @@
 -- Laws of reading components one after another.
-use Rattle.codec.proofs.Prelude.{◌≡◌, refl, sym, ap, ◌∙◌, List, [], ◌∷◌, ◌++◌, map, append_assoc, Bool, true, false, cond, ⊎_elim, ℕ, ◌≤◌, ◌&&◌, OneOf, tag_of, arith, leb, ltb, leb-true, le-leb, lt-leb, ltb-true, ltb-false, length, take, drop, length-append, take_all}
+use Rattle.codec.proofs.Prelude.{◌≡◌, refl, sym, ap, ◌∙◌, List, [], ◌∷◌, ◌++◌, map, append_assoc, Bool, true, false, cond, ℕ, ◌≤◌, ◌&&◌, arith, leb, ltb, leb-true, le-leb, lt-leb, ltb-true, ltb-false, length, take, drop, length-append, take_all}
 use Rattle.text.specs.Parts.{before, parts}
 use Rattle.text.specs.Hex.{is_hex, unhex}
 use Rattle.text.proofs.Parts.{parts_last, parts_more}

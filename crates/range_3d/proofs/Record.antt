@@ -1,4 +1,4 @@
--- Records of ranges and their values: each well_formed_lem record is the record of its values.
+-- Records of ranges and their values: each well-formed record is the record of its values.
 use Rattle.codec.proofs.Prelude.{◌≡◌, refl, sym, ap, ◌∙◌, [], Bool, true, false, cond, none, some, eqb, eqb-true}
 use Rattle.codec.specs.Bytes.{same_bytes, zero_id, TypedId}
 use Rattle.codec.proofs.SameBytes.{same_eq}
@@ -51,7 +51,7 @@ path_ok_lem p t w = (apart_path p t (well_formed_lem p w)).ok
 path_made : (p : Path) → TypedPath p → well_formed p ≡ true → path_from (components_of p) ≡ p
 path_made p t w = (apart_path p t (well_formed_lem p w)).made
 
--- a well_formed_lem path of no components is the empty path
+-- a well-formed path of no components is the empty path
 empty_made : (p : Path) → TypedPath p → well_formed p ≡ true → p.count ≡ 0 → path_from [] ≡ p
 empty_made p t w e =
     let none : components_of p ≡ [] = rw e in

@@ -1,5 +1,5 @@
 -- What the language says of a record, from what owning one tells.
-use Rattle.codec.proofs.Prelude.{List, ℕ, Val, Is}
+use Rattle.codec.proofs.Prelude.{List, Val, Is}
 use denote.Struct.Declared as struct
 use Rattle.path.proofs.Typed.{each_byte}
 use Rattle.grouping.specs.Range.{TypedRange}

@@ -44,9 +44,9 @@ module _ (r : TimeRange) (added : Bool) (d x : ℕ) where
   unfolding is_included
   included_relaxes' e = let i = included_of true e in rw (le-leb d (reach_of r added) i.reach, i.included)
 
-  is_included : Included r d x added → (difference_of r x).added ≡ added → is_included true r added d x ≡ true
+  included_taken : Included r d x added → (difference_of r x).added ≡ added → is_included true r added d x ≡ true
   unfolding is_included
-  is_included i f = rw (le-leb d (reach_of r added) i.reach, i.included, f) (flag_same added)
+  included_taken i f = rw (le-leb d (reach_of r added) i.reach, i.included, f) (flag_same added)
 
 -- the difference of the time that it says, from the side that it is from
 says_difference : (r : TimeRange) → TypedRange r → (added : Bool) (d : ℕ) → d ≤ reach_of r added → (difference_of r (time_at r added d)).added ≡ added → (difference_of r (time_at r added d)).difference ≡ d
@@ -99,7 +99,7 @@ module _ (w : ℕ) (r : TimeRange) (added : Bool) (tag : ℕ) where
         value = d;
         named = says;
         stands = (
-          rw says (is_included r added d x (record { reach = reaches added t.near b; included = t.included }) t.near),
+          rw says (included_taken r added d x (record { reach = reaches added t.near b; included = t.included }) t.near),
           record { small = omega (arith, difference_small r x b, ty.end); tagged = t.tagged; bytes = t.bytes },
         );
       }

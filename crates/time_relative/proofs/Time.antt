@@ -68,9 +68,9 @@ module _ (r : TimeRange) (added : Bool) (d x : ℕ) where
   unfolding is_nearest
   nearest_relaxes e = let n = nearest true e in rw (n.inside, eq-eqb _ d n.is)
 
-  is_nearest : Nearest r d x → (difference_of r x).added ≡ added → is_nearest true r added d x ≡ true
+  nearest_taken : Nearest r d x → (difference_of r x).added ≡ added → is_nearest true r added d x ≡ true
   unfolding is_nearest
-  is_nearest n f = rw (n.inside, eq-eqb _ d n.is, f) (flag_same added)
+  nearest_taken n f = rw (n.inside, eq-eqb _ d n.is, f) (flag_same added)
 
 -- ---- reading
 module _ (w : ℕ) (r : TimeRange) (added : Bool) (tag : ℕ) where
@@ -98,7 +98,7 @@ module _ (w : ℕ) (r : TimeRange) (added : Bool) (tag : ℕ) where
         value = d;
         named = says;
         stands = (
-          rw says (is_nearest r added d x (record { inside = t.inside; is = refl }) t.near),
+          rw says (nearest_taken r added d x (record { inside = t.inside; is = refl }) t.near),
           record { small = omega (arith, difference_small r x t.inside, ty.end); tagged = t.tagged; bytes = t.bytes },
         );
       }

@@ -62,14 +62,13 @@ returns-in_default-second_answer c =
 pub overflow_add-at : goal.overflow_add-at
 overflow_add-at c =
     let told_bytes : ℕ = c.in-Consumed.a in
-    let told2_start : goal.Start = c in
     let told2_bytes : ℕ = c.in-Consumed-second_answer.b in
     let subspace_is : let a = c.args in mapped subspace_from (read_subspace a.canonic (subspace_of a.reference.subspace) a.header.id_written) a.message.now ≡ accepted c.decode_subspace-first.result.subspace told_bytes = sym c.decode_subspace-first.ensures ∙ ap (λ (d : Decoded). answer_of d c.decode_subspace-first.result.subspace) c.in-Consumed.is in
     let subspace_inside : told_bytes ≤ length c.args.message.now = let a = c.args in
     (mapped_bounded subspace_from _ (subspace_bounded (subspace_of a.reference.subspace) a.header.id_written a.canonic)).bound a.message.now _ _ subspace_is in
     let times_told : let a = c.args in answer_of c.relative_decode-second.result.answer c.relative_decode-second.result.times ≡ read_times a.canonic a.reference.times a.header (drop told_bytes a.message.now) = rw (to_end told_bytes c.args.message.now) at c.relative_decode-second.ensures.answer in
-    let times_are : let a = told2_start.args in read_times a.canonic a.reference.times a.header (drop told_bytes a.message.now) ≡ accepted c.relative_decode-second.result.times told2_bytes = sym times_told ∙ ap (λ (d : Decoded). answer_of d c.relative_decode-second.result.times) c.in-Consumed-second_answer.is in
-    let times_inside : told_bytes + told2_bytes ≤ length told2_start.args.message.now = let a = told2_start.args in
+    let times_are : let a = c.args in read_times a.canonic a.reference.times a.header (drop told_bytes a.message.now) ≡ accepted c.relative_decode-second.result.times told2_bytes = sym times_told ∙ ap (λ (d : Decoded). answer_of d c.relative_decode-second.result.times) c.in-Consumed-second_answer.is in
+    let times_inside : told_bytes + told2_bytes ≤ length c.args.message.now = let a = c.args in
     let n = told_bytes in
     omega (arith, subspace_inside, (times_bounded a.reference.times a.header a.canonic).bound (drop n a.message.now) _ _ times_are, length-drop n a.message.now) in
     omega (arith, times_inside)
@@ -77,14 +76,13 @@ overflow_add-at c =
 pub slice_bounds-rest-count : goal.slice_bounds-rest-count
 slice_bounds-rest-count c =
     let told_bytes : ℕ = c.in-Consumed.a in
-    let told2_start : goal.Start = c in
     let told2_bytes : ℕ = c.in-Consumed-second_answer.b in
     let subspace_is : let a = c.args in mapped subspace_from (read_subspace a.canonic (subspace_of a.reference.subspace) a.header.id_written) a.message.now ≡ accepted c.decode_subspace-first.result.subspace told_bytes = sym c.decode_subspace-first.ensures ∙ ap (λ (d : Decoded). answer_of d c.decode_subspace-first.result.subspace) c.in-Consumed.is in
     let subspace_inside : told_bytes ≤ length c.args.message.now = let a = c.args in
     (mapped_bounded subspace_from _ (subspace_bounded (subspace_of a.reference.subspace) a.header.id_written a.canonic)).bound a.message.now _ _ subspace_is in
     let times_told : let a = c.args in answer_of c.relative_decode-second.result.answer c.relative_decode-second.result.times ≡ read_times a.canonic a.reference.times a.header (drop told_bytes a.message.now) = rw (to_end told_bytes c.args.message.now) at c.relative_decode-second.ensures.answer in
-    let times_are : let a = told2_start.args in read_times a.canonic a.reference.times a.header (drop told_bytes a.message.now) ≡ accepted c.relative_decode-second.result.times told2_bytes = sym times_told ∙ ap (λ (d : Decoded). answer_of d c.relative_decode-second.result.times) c.in-Consumed-second_answer.is in
-    let times_inside : told_bytes + told2_bytes ≤ length told2_start.args.message.now = let a = told2_start.args in
+    let times_are : let a = c.args in read_times a.canonic a.reference.times a.header (drop told_bytes a.message.now) ≡ accepted c.relative_decode-second.result.times told2_bytes = sym times_told ∙ ap (λ (d : Decoded). answer_of d c.relative_decode-second.result.times) c.in-Consumed-second_answer.is in
+    let times_inside : told_bytes + told2_bytes ≤ length c.args.message.now = let a = c.args in
     let n = told_bytes in
     omega (arith, subspace_inside, (times_bounded a.reference.times a.header a.canonic).bound (drop n a.message.now) _ _ times_are, length-drop n a.message.now) in
     omega (arith, times_inside)
@@ -92,14 +90,13 @@ slice_bounds-rest-count c =
 pub slice_bounds-rest-start : goal.slice_bounds-rest-start
 slice_bounds-rest-start c =
     let told_bytes : ℕ = c.in-Consumed.a in
-    let told2_start : goal.Start = c in
     let told2_bytes : ℕ = c.in-Consumed-second_answer.b in
     let subspace_is : let a = c.args in mapped subspace_from (read_subspace a.canonic (subspace_of a.reference.subspace) a.header.id_written) a.message.now ≡ accepted c.decode_subspace-first.result.subspace told_bytes = sym c.decode_subspace-first.ensures ∙ ap (λ (d : Decoded). answer_of d c.decode_subspace-first.result.subspace) c.in-Consumed.is in
     let subspace_inside : told_bytes ≤ length c.args.message.now = let a = c.args in
     (mapped_bounded subspace_from _ (subspace_bounded (subspace_of a.reference.subspace) a.header.id_written a.canonic)).bound a.message.now _ _ subspace_is in
     let times_told : let a = c.args in answer_of c.relative_decode-second.result.answer c.relative_decode-second.result.times ≡ read_times a.canonic a.reference.times a.header (drop told_bytes a.message.now) = rw (to_end told_bytes c.args.message.now) at c.relative_decode-second.ensures.answer in
-    let times_are : let a = told2_start.args in read_times a.canonic a.reference.times a.header (drop told_bytes a.message.now) ≡ accepted c.relative_decode-second.result.times told2_bytes = sym times_told ∙ ap (λ (d : Decoded). answer_of d c.relative_decode-second.result.times) c.in-Consumed-second_answer.is in
-    let times_inside : told_bytes + told2_bytes ≤ length told2_start.args.message.now = let a = told2_start.args in
+    let times_are : let a = c.args in read_times a.canonic a.reference.times a.header (drop told_bytes a.message.now) ≡ accepted c.relative_decode-second.result.times told2_bytes = sym times_told ∙ ap (λ (d : Decoded). answer_of d c.relative_decode-second.result.times) c.in-Consumed-second_answer.is in
+    let times_inside : told_bytes + told2_bytes ≤ length c.args.message.now = let a = c.args in
     let n = told_bytes in
     omega (arith, subspace_inside, (times_bounded a.reference.times a.header a.canonic).bound (drop n a.message.now) _ _ times_are, length-drop n a.message.now) in
     omega (arith, times_inside)
@@ -108,22 +105,18 @@ pub returns-in_default-answer : goal.returns-in_default-answer
 unfolding well_formed_area
 returns-in_default-answer c =
     let reference : Area = area_with c.args.reference (path_in c.args.reference_path.now) in
-    let told2_start : goal.Start = c in
-    let read_start : goal.Start = told2_start in
     let told_bytes : ℕ = c.in-Consumed.a in
     let subspace_is : let a = c.args in mapped subspace_from (read_subspace a.canonic (subspace_of a.reference.subspace) a.header.id_written) a.message.now ≡ accepted c.decode_subspace-first.result.subspace told_bytes = sym c.decode_subspace-first.ensures ∙ ap (λ (d : Decoded). answer_of d c.decode_subspace-first.result.subspace) c.in-Consumed.is in
     let told2_bytes : ℕ = c.in-Consumed-second_answer.b in
     let times_told : let a = c.args in answer_of c.relative_decode-second.result.answer c.relative_decode-second.result.times ≡ read_times a.canonic a.reference.times a.header (drop told_bytes a.message.now) = rw (to_end told_bytes c.args.message.now) at c.relative_decode-second.ensures.answer in
-    let times_are : let a = told2_start.args in read_times a.canonic a.reference.times a.header (drop told_bytes a.message.now) ≡ accepted c.relative_decode-second.result.times told2_bytes = sym times_told ∙ ap (λ (d : Decoded). answer_of d c.relative_decode-second.result.times) c.in-Consumed-second_answer.is in
+    let times_are : let a = c.args in read_times a.canonic a.reference.times a.header (drop told_bytes a.message.now) ≡ accepted c.relative_decode-second.result.times told2_bytes = sym times_told ∙ ap (λ (d : Decoded). answer_of d c.relative_decode-second.result.times) c.in-Consumed-second_answer.is in
     let fits : sized reference.path ≡ true = well_sized _ (and_right (well_formed_subspace reference.subspace) (well_formed reference.path) c.requires.0) in
     let path : Path = path_in c.decode_path_extends_path-answer.new.out in
-    let path_told : let a = told2_start.args in Gives (path_from []) c.decode_path_extends_path-answer.result path (mapped path_from (read_extension a.canonic (components_of (path_in a.reference_path.now))) (drop (told_bytes + told2_bytes) a.message.now)) = let s = told2_start in
-    rw (to_end (told_bytes + told2_bytes) s.args.message.now, fits s) at c.decode_path_extends_path-answer.ensures in
-    let s = read_start in
+    let path_told : let a = c.args in Gives (path_from []) c.decode_path_extends_path-answer.result path (mapped path_from (read_extension a.canonic (components_of (path_in a.reference_path.now))) (drop (told_bytes + told2_bytes) a.message.now)) = rw (to_end (told_bytes + told2_bytes) c.args.message.now, fits) at c.decode_path_extends_path-answer.ensures in
     let x = no_value c.decode_path_extends_path-answer.result c.in_default-answer.not-Consumed in
     let none = sym path_told.answer ∙ x.beside _ in
     rw c.refuse_head-in_default-answer.ensures (reads_refused _ _ x.why (path_told.value ∙ ap (value_in (path_from [])) none) (x.beside _)
-    (rw (tested_path s.args.canonic (reference s) s.args.header s.args.message.now _ _ subspace_is _ _ times_are x.why none)))
+    (rw (tested_path c.args.canonic reference c.args.header c.args.message.now _ _ subspace_is _ _ times_are x.why none)))
 
 pub overflow_add-result : goal.overflow_add-result
 unfolding well_formed_area
@@ -131,21 +124,16 @@ overflow_add-result c =
     let reference : Area = area_with c.args.reference (path_in c.args.reference_path.now) in
     let told_bytes : ℕ = c.in-Consumed.a in
     let told2_bytes : ℕ = c.in-Consumed-second_answer.b in
-    let told2_start : goal.Start = c in
-    let read_start : goal.Start = told2_start in
     let path : Path = path_in c.decode_path_extends_path-answer.new.out in
     let subspace_is : let a = c.args in mapped subspace_from (read_subspace a.canonic (subspace_of a.reference.subspace) a.header.id_written) a.message.now ≡ accepted c.decode_subspace-first.result.subspace told_bytes = sym c.decode_subspace-first.ensures ∙ ap (λ (d : Decoded). answer_of d c.decode_subspace-first.result.subspace) c.in-Consumed.is in
     let times_told : let a = c.args in answer_of c.relative_decode-second.result.answer c.relative_decode-second.result.times ≡ read_times a.canonic a.reference.times a.header (drop told_bytes a.message.now) = rw (to_end told_bytes c.args.message.now) at c.relative_decode-second.ensures.answer in
-    let times_are : let a = told2_start.args in read_times a.canonic a.reference.times a.header (drop told_bytes a.message.now) ≡ accepted c.relative_decode-second.result.times told2_bytes = sym times_told ∙ ap (λ (d : Decoded). answer_of d c.relative_decode-second.result.times) c.in-Consumed-second_answer.is in
+    let times_are : let a = c.args in read_times a.canonic a.reference.times a.header (drop told_bytes a.message.now) ≡ accepted c.relative_decode-second.result.times told2_bytes = sym times_told ∙ ap (λ (d : Decoded). answer_of d c.relative_decode-second.result.times) c.in-Consumed-second_answer.is in
     let fits : sized reference.path ≡ true = well_sized _ (and_right (well_formed_subspace reference.subspace) (well_formed reference.path) c.requires.0) in
-    let path_told : let a = told2_start.args in Gives (path_from []) c.decode_path_extends_path-answer.result path (mapped path_from (read_extension a.canonic (components_of (path_in a.reference_path.now))) (drop (told_bytes + told2_bytes) a.message.now)) = let s = told2_start in
-    rw (to_end (told_bytes + told2_bytes) s.args.message.now, fits s) at c.decode_path_extends_path-answer.ensures in
-    let area_is : let s = read_start in mapped area_from (read_parts s.args.canonic (area_of (reference s)) s.args.header) s.args.message.now ≡ accepted (area_with (record { subspace = c.decode_subspace-first.result.subspace; times = c.relative_decode-second.result.times }) path) (told_bytes + (told2_bytes + c.in-Consumed-answer.c)) = let s = read_start in
-    tested_read s.args.canonic (reference s) s.args.header s.args.message.now _ _ subspace_is _ _ times_are _ _
+    let path_told : let a = c.args in Gives (path_from []) c.decode_path_extends_path-answer.result path (mapped path_from (read_extension a.canonic (components_of (path_in a.reference_path.now))) (drop (told_bytes + told2_bytes) a.message.now)) = rw (to_end (told_bytes + told2_bytes) c.args.message.now, fits) at c.decode_path_extends_path-answer.ensures in
+    let area_is : mapped area_from (read_parts c.args.canonic (area_of reference) c.args.header) c.args.message.now ≡ accepted (area_with (record { subspace = c.decode_subspace-first.result.subspace; times = c.relative_decode-second.result.times }) path) (told_bytes + (told2_bytes + c.in-Consumed-answer.c)) = tested_read c.args.canonic reference c.args.header c.args.message.now _ _ subspace_is _ _ times_are _ _
     (sym path_told.answer ∙ ap (λ (d : Decoded). answer_of d path) c.in-Consumed-answer.is) in
-    let inside : told_bytes + (told2_bytes + c.in-Consumed-answer.c) ≤ length read_start.args.message.now = let s = read_start in
-    tested_inside s.args.canonic (reference s) s.args.header s.args.message.now _ _ area_is in
-    let small : header_length + length read_start.args.message.now < 2 ^ 64 = read_start.requires.2 in
+    let inside : told_bytes + (told2_bytes + c.in-Consumed-answer.c) ≤ length c.args.message.now = tested_inside c.args.canonic reference c.args.header c.args.message.now _ _ area_is in
+    let small : header_length + length c.args.message.now < 2 ^ 64 = c.requires.2 in
     omega (arith, inside, small)
 
 pub overflow_add-result-2 : goal.overflow_add-result-2
@@ -154,21 +142,16 @@ overflow_add-result-2 c =
     let reference : Area = area_with c.args.reference (path_in c.args.reference_path.now) in
     let told_bytes : ℕ = c.in-Consumed.a in
     let told2_bytes : ℕ = c.in-Consumed-second_answer.b in
-    let told2_start : goal.Start = c in
-    let read_start : goal.Start = told2_start in
     let path : Path = path_in c.decode_path_extends_path-answer.new.out in
     let subspace_is : let a = c.args in mapped subspace_from (read_subspace a.canonic (subspace_of a.reference.subspace) a.header.id_written) a.message.now ≡ accepted c.decode_subspace-first.result.subspace told_bytes = sym c.decode_subspace-first.ensures ∙ ap (λ (d : Decoded). answer_of d c.decode_subspace-first.result.subspace) c.in-Consumed.is in
     let times_told : let a = c.args in answer_of c.relative_decode-second.result.answer c.relative_decode-second.result.times ≡ read_times a.canonic a.reference.times a.header (drop told_bytes a.message.now) = rw (to_end told_bytes c.args.message.now) at c.relative_decode-second.ensures.answer in
-    let times_are : let a = told2_start.args in read_times a.canonic a.reference.times a.header (drop told_bytes a.message.now) ≡ accepted c.relative_decode-second.result.times told2_bytes = sym times_told ∙ ap (λ (d : Decoded). answer_of d c.relative_decode-second.result.times) c.in-Consumed-second_answer.is in
+    let times_are : let a = c.args in read_times a.canonic a.reference.times a.header (drop told_bytes a.message.now) ≡ accepted c.relative_decode-second.result.times told2_bytes = sym times_told ∙ ap (λ (d : Decoded). answer_of d c.relative_decode-second.result.times) c.in-Consumed-second_answer.is in
     let fits : sized reference.path ≡ true = well_sized _ (and_right (well_formed_subspace reference.subspace) (well_formed reference.path) c.requires.0) in
-    let path_told : let a = told2_start.args in Gives (path_from []) c.decode_path_extends_path-answer.result path (mapped path_from (read_extension a.canonic (components_of (path_in a.reference_path.now))) (drop (told_bytes + told2_bytes) a.message.now)) = let s = told2_start in
-    rw (to_end (told_bytes + told2_bytes) s.args.message.now, fits s) at c.decode_path_extends_path-answer.ensures in
-    let area_is : let s = read_start in mapped area_from (read_parts s.args.canonic (area_of (reference s)) s.args.header) s.args.message.now ≡ accepted (area_with (record { subspace = c.decode_subspace-first.result.subspace; times = c.relative_decode-second.result.times }) path) (told_bytes + (told2_bytes + c.in-Consumed-answer.c)) = let s = read_start in
-    tested_read s.args.canonic (reference s) s.args.header s.args.message.now _ _ subspace_is _ _ times_are _ _
+    let path_told : let a = c.args in Gives (path_from []) c.decode_path_extends_path-answer.result path (mapped path_from (read_extension a.canonic (components_of (path_in a.reference_path.now))) (drop (told_bytes + told2_bytes) a.message.now)) = rw (to_end (told_bytes + told2_bytes) c.args.message.now, fits) at c.decode_path_extends_path-answer.ensures in
+    let area_is : mapped area_from (read_parts c.args.canonic (area_of reference) c.args.header) c.args.message.now ≡ accepted (area_with (record { subspace = c.decode_subspace-first.result.subspace; times = c.relative_decode-second.result.times }) path) (told_bytes + (told2_bytes + c.in-Consumed-answer.c)) = tested_read c.args.canonic reference c.args.header c.args.message.now _ _ subspace_is _ _ times_are _ _
     (sym path_told.answer ∙ ap (λ (d : Decoded). answer_of d path) c.in-Consumed-answer.is) in
-    let inside : told_bytes + (told2_bytes + c.in-Consumed-answer.c) ≤ length read_start.args.message.now = let s = read_start in
-    tested_inside s.args.canonic (reference s) s.args.header s.args.message.now _ _ area_is in
-    let small : header_length + length read_start.args.message.now < 2 ^ 64 = read_start.requires.2 in
+    let inside : told_bytes + (told2_bytes + c.in-Consumed-answer.c) ≤ length c.args.message.now = tested_inside c.args.canonic reference c.args.header c.args.message.now _ _ area_is in
+    let small : header_length + length c.args.message.now < 2 ^ 64 = c.requires.2 in
     omega (arith, inside, small)
 
 pub overflow_add-result-3 : goal.overflow_add-result-3
@@ -177,21 +160,16 @@ overflow_add-result-3 c =
     let reference : Area = area_with c.args.reference (path_in c.args.reference_path.now) in
     let told_bytes : ℕ = c.in-Consumed.a in
     let told2_bytes : ℕ = c.in-Consumed-second_answer.b in
-    let told2_start : goal.Start = c in
-    let read_start : goal.Start = told2_start in
     let path : Path = path_in c.decode_path_extends_path-answer.new.out in
     let subspace_is : let a = c.args in mapped subspace_from (read_subspace a.canonic (subspace_of a.reference.subspace) a.header.id_written) a.message.now ≡ accepted c.decode_subspace-first.result.subspace told_bytes = sym c.decode_subspace-first.ensures ∙ ap (λ (d : Decoded). answer_of d c.decode_subspace-first.result.subspace) c.in-Consumed.is in
     let times_told : let a = c.args in answer_of c.relative_decode-second.result.answer c.relative_decode-second.result.times ≡ read_times a.canonic a.reference.times a.header (drop told_bytes a.message.now) = rw (to_end told_bytes c.args.message.now) at c.relative_decode-second.ensures.answer in
-    let times_are : let a = told2_start.args in read_times a.canonic a.reference.times a.header (drop told_bytes a.message.now) ≡ accepted c.relative_decode-second.result.times told2_bytes = sym times_told ∙ ap (λ (d : Decoded). answer_of d c.relative_decode-second.result.times) c.in-Consumed-second_answer.is in
+    let times_are : let a = c.args in read_times a.canonic a.reference.times a.header (drop told_bytes a.message.now) ≡ accepted c.relative_decode-second.result.times told2_bytes = sym times_told ∙ ap (λ (d : Decoded). answer_of d c.relative_decode-second.result.times) c.in-Consumed-second_answer.is in
     let fits : sized reference.path ≡ true = well_sized _ (and_right (well_formed_subspace reference.subspace) (well_formed reference.path) c.requires.0) in
-    let path_told : let a = told2_start.args in Gives (path_from []) c.decode_path_extends_path-answer.result path (mapped path_from (read_extension a.canonic (components_of (path_in a.reference_path.now))) (drop (told_bytes + told2_bytes) a.message.now)) = let s = told2_start in
-    rw (to_end (told_bytes + told2_bytes) s.args.message.now, fits s) at c.decode_path_extends_path-answer.ensures in
-    let area_is : let s = read_start in mapped area_from (read_parts s.args.canonic (area_of (reference s)) s.args.header) s.args.message.now ≡ accepted (area_with (record { subspace = c.decode_subspace-first.result.subspace; times = c.relative_decode-second.result.times }) path) (told_bytes + (told2_bytes + c.in-Consumed-answer.c)) = let s = read_start in
-    tested_read s.args.canonic (reference s) s.args.header s.args.message.now _ _ subspace_is _ _ times_are _ _
+    let path_told : let a = c.args in Gives (path_from []) c.decode_path_extends_path-answer.result path (mapped path_from (read_extension a.canonic (components_of (path_in a.reference_path.now))) (drop (told_bytes + told2_bytes) a.message.now)) = rw (to_end (told_bytes + told2_bytes) c.args.message.now, fits) at c.decode_path_extends_path-answer.ensures in
+    let area_is : mapped area_from (read_parts c.args.canonic (area_of reference) c.args.header) c.args.message.now ≡ accepted (area_with (record { subspace = c.decode_subspace-first.result.subspace; times = c.relative_decode-second.result.times }) path) (told_bytes + (told2_bytes + c.in-Consumed-answer.c)) = tested_read c.args.canonic reference c.args.header c.args.message.now _ _ subspace_is _ _ times_are _ _
     (sym path_told.answer ∙ ap (λ (d : Decoded). answer_of d path) c.in-Consumed-answer.is) in
-    let inside : told_bytes + (told2_bytes + c.in-Consumed-answer.c) ≤ length read_start.args.message.now = let s = read_start in
-    tested_inside s.args.canonic (reference s) s.args.header s.args.message.now _ _ area_is in
-    let small : header_length + length read_start.args.message.now < 2 ^ 64 = read_start.requires.2 in
+    let inside : told_bytes + (told2_bytes + c.in-Consumed-answer.c) ≤ length c.args.message.now = tested_inside c.args.canonic reference c.args.header c.args.message.now _ _ area_is in
+    let small : header_length + length c.args.message.now < 2 ^ 64 = c.requires.2 in
     omega (arith, inside, small)
 
 pub returns : goal.returns
@@ -200,16 +178,12 @@ returns c =
     let reference : Area = area_with c.args.reference (path_in c.args.reference_path.now) in
     let told_bytes : ℕ = c.in-Consumed.a in
     let told2_bytes : ℕ = c.in-Consumed-second_answer.b in
-    let told2_start : goal.Start = c in
-    let read_start : goal.Start = told2_start in
     let path : Path = path_in c.decode_path_extends_path-answer.new.out in
     let subspace_is : let a = c.args in mapped subspace_from (read_subspace a.canonic (subspace_of a.reference.subspace) a.header.id_written) a.message.now ≡ accepted c.decode_subspace-first.result.subspace told_bytes = sym c.decode_subspace-first.ensures ∙ ap (λ (d : Decoded). answer_of d c.decode_subspace-first.result.subspace) c.in-Consumed.is in
     let times_told : let a = c.args in answer_of c.relative_decode-second.result.answer c.relative_decode-second.result.times ≡ read_times a.canonic a.reference.times a.header (drop told_bytes a.message.now) = rw (to_end told_bytes c.args.message.now) at c.relative_decode-second.ensures.answer in
-    let times_are : let a = told2_start.args in read_times a.canonic a.reference.times a.header (drop told_bytes a.message.now) ≡ accepted c.relative_decode-second.result.times told2_bytes = sym times_told ∙ ap (λ (d : Decoded). answer_of d c.relative_decode-second.result.times) c.in-Consumed-second_answer.is in
+    let times_are : let a = c.args in read_times a.canonic a.reference.times a.header (drop told_bytes a.message.now) ≡ accepted c.relative_decode-second.result.times told2_bytes = sym times_told ∙ ap (λ (d : Decoded). answer_of d c.relative_decode-second.result.times) c.in-Consumed-second_answer.is in
     let fits : sized reference.path ≡ true = well_sized _ (and_right (well_formed_subspace reference.subspace) (well_formed reference.path) c.requires.0) in
-    let path_told : let a = told2_start.args in Gives (path_from []) c.decode_path_extends_path-answer.result path (mapped path_from (read_extension a.canonic (components_of (path_in a.reference_path.now))) (drop (told_bytes + told2_bytes) a.message.now)) = let s = told2_start in
-    rw (to_end (told_bytes + told2_bytes) s.args.message.now, fits s) at c.decode_path_extends_path-answer.ensures in
-    let area_is : let s = read_start in mapped area_from (read_parts s.args.canonic (area_of (reference s)) s.args.header) s.args.message.now ≡ accepted (area_with (record { subspace = c.decode_subspace-first.result.subspace; times = c.relative_decode-second.result.times }) path) (told_bytes + (told2_bytes + c.in-Consumed-answer.c)) = let s = read_start in
-    tested_read s.args.canonic (reference s) s.args.header s.args.message.now _ _ subspace_is _ _ times_are _ _
+    let path_told : let a = c.args in Gives (path_from []) c.decode_path_extends_path-answer.result path (mapped path_from (read_extension a.canonic (components_of (path_in a.reference_path.now))) (drop (told_bytes + told2_bytes) a.message.now)) = rw (to_end (told_bytes + told2_bytes) c.args.message.now, fits) at c.decode_path_extends_path-answer.ensures in
+    let area_is : mapped area_from (read_parts c.args.canonic (area_of reference) c.args.header) c.args.message.now ≡ accepted (area_with (record { subspace = c.decode_subspace-first.result.subspace; times = c.relative_decode-second.result.times }) path) (told_bytes + (told2_bytes + c.in-Consumed-answer.c)) = tested_read c.args.canonic reference c.args.header c.args.message.now _ _ subspace_is _ _ times_are _ _
     (sym path_told.answer ∙ ap (λ (d : Decoded). answer_of d path) c.in-Consumed-answer.is) in
     gives_accepted (ap (shift header_length) area_is)

@@ -49,11 +49,10 @@ pub write-requires : goal.write-requires
 write-requires c = value_inside c.asked-asked.ensures c.in-Value.is
 
 pub returns-in-Read : goal.returns-in-Read
-returns-in-Read c = let x = asked in let q =
+returns-in-Read c = let e = a.before in let r = e.before.before in let s =
     let namespace : Says (id_field 2 c.args.line.now) c.read_id-first.result.ok c.read_id-first.result.id = field_says read_id_text (λ r. c.ok) (λ r. c.id) 2 c.args.line.now c.part.ensures c.read_id-first.ensures _ refl in
-    x.before.before.before in
-    let f = q.before.before.before in let a = f.before in let e = a.before in let r = e.before.before in let s = r.before.before.before.before in
-    left_read (left s.args.line.now (namespace r) e.if1.left a.read_area.ensures.0 f.if2.left q.asked.ensures) x.asked2.given.1
+    r.before.before.before.before in
+    left_read (left s.args.line.now (namespace r) e.if1.left c.read_area-area.ensures.0 c.if-not-area.false c.asked-asked.ensures) c.in-Read.is
     (printed entry_text c.relative_decode-read.result.answer (entry_with c.relative_decode-read.result.fields (path_in _)) c.relative_decode-read.ensures.answer (puts_first c.print_entry-k.ensures) c.value.ensures)
 
 pub returns-in-Value : goal.returns-in-Value

@@ -37,9 +37,9 @@ pub write-requires : goal.write-requires
 write-requires c = value_inside c.asked-asked.ensures c.in-Value.is
 
 pub returns-else-canonic : goal.returns-else-canonic
-returns-else-canonic c = let f = lenient in let x = f.before.before in let q = x.before.before.before in let e = q.before.before in let r = e.before in let s = r.before.before.before in
-    left_read (left s.args.line.now r.read_range.ensures.0 e.if1.left q.asked.ensures) x.asked2.given.1
-    (leniently _ f.if2.left (printed range_text c.relative_decode-read.result.answer _ c.relative_decode-read.ensures.answer (puts_first c.print_range-k.ensures) search))
+returns-else-canonic c = let r = e.before in let s = r.before.before.before in
+    left_read (left s.args.line.now r.read_range.ensures.0 c.if-not-reference.false c.asked-asked.ensures) c.in-Read.is
+    (leniently _ c.if-canonic.false (printed range_text c.relative_decode-read.result.answer _ c.relative_decode-read.ensures.answer (puts_first c.print_range-k.ensures) search))
 
 pub returns-in-Value : goal.returns-in-Value
 returns-in-Value c = left_value (left c.args.line.now c.read_range-reference.ensures.0 c.if-not-reference.false c.asked-asked.ensures) c.in-Value.is search

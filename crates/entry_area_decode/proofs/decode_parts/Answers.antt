@@ -18,19 +18,16 @@ use Rattle.entry_area_decode.proofs.decode_parts.Goals as goal
 
 pub returns-in_default : goal.returns-in_default
 returns-in_default c =
-    let told2_told : goal.In-Consumed = c in
     let id_is : let a = c.args in read_id (subspace_of a.reference.subspace) a.header.id_written a.message.now ≡ accepted c.decode_id-first.result.id c.in-Consumed.a = let r = c.decode_id-first in sym r.ensures ∙ ap (λ (d : Decoded). answer_of d r.result.id) c.in-Consumed.is in
     let id_in : c.in-Consumed.a ≤ length c.args.message.now = id_inside c.args.canonic c.args.namespace area c.args.header c.args.message.now _ _ id_is in
     let path : Path = path_in c.decode_path_within-path_answer.new.out in
-    let path_is : let t = told2_told in let s = told_start t in read_within_by sized s.args.canonic (area s).path (drop t.before.answer.given.0.0 s.args.message.now) ≡ accepted path c.in-Consumed-path_answer.b = sym c.decode_path_within-path_answer.ensures.answer ∙ ap (λ (d : Decoded). answer_of d path) c.in-Consumed-path_answer.is in
-    let path_in : let t = told2_told in t.before.answer.given.0.0 + c.in-Consumed-path_answer.b ≤ length (told_start t).args.message.now = let t = told2_told in
-    let s = told_start t in
-    omega (
+    let path_is : read_within_by sized c.args.canonic area.path (drop c.in-Consumed.a c.args.message.now) ≡ accepted path c.in-Consumed-path_answer.b = sym c.decode_path_within-path_answer.ensures.answer ∙ ap (λ (d : Decoded). answer_of d path) c.in-Consumed-path_answer.is in
+    let path_in : c.in-Consumed.a + c.in-Consumed-path_answer.b ≤ length c.args.message.now = omega (
       arith,
-      within_inside s.args.canonic s.args.namespace t.before.before.before.decode_id.result.id (area s).path s.pre.1 s.args.reference.times s.args.header
-          (drop t.before.answer.given.0.0 s.args.message.now) _ _ path_is,
-      length-drop t.before.answer.given.0.0 s.args.message.now,
-      id_in t,
+      within_inside c.args.canonic c.args.namespace c.decode_id-first.result.id area.path c.requires.1 c.args.reference.times c.args.header
+          (drop c.in-Consumed.a c.args.message.now) _ _ path_is,
+      length-drop c.in-Consumed.a c.args.message.now,
+      id_in,
     ) in
     let area : Area = area_with c.args.reference (path_in c.args.reference_path.now) in
     let r = c.decode_id-first in
@@ -40,19 +37,16 @@ returns-in_default c =
 
 pub returns-in_default-path_answer : goal.returns-in_default-path_answer
 returns-in_default-path_answer c =
-    let told2_told : goal.In-Consumed = c in
     let id_is : let a = c.args in read_id (subspace_of a.reference.subspace) a.header.id_written a.message.now ≡ accepted c.decode_id-first.result.id c.in-Consumed.a = let r = c.decode_id-first in sym r.ensures ∙ ap (λ (d : Decoded). answer_of d r.result.id) c.in-Consumed.is in
     let id_in : c.in-Consumed.a ≤ length c.args.message.now = id_inside c.args.canonic c.args.namespace area c.args.header c.args.message.now _ _ id_is in
     let path : Path = path_in c.decode_path_within-path_answer.new.out in
-    let path_is : let t = told2_told in let s = told_start t in read_within_by sized s.args.canonic (area s).path (drop t.before.answer.given.0.0 s.args.message.now) ≡ accepted path c.in-Consumed-path_answer.b = sym c.decode_path_within-path_answer.ensures.answer ∙ ap (λ (d : Decoded). answer_of d path) c.in-Consumed-path_answer.is in
-    let path_in : let t = told2_told in t.before.answer.given.0.0 + c.in-Consumed-path_answer.b ≤ length (told_start t).args.message.now = let t = told2_told in
-    let s = told_start t in
-    omega (
+    let path_is : read_within_by sized c.args.canonic area.path (drop c.in-Consumed.a c.args.message.now) ≡ accepted path c.in-Consumed-path_answer.b = sym c.decode_path_within-path_answer.ensures.answer ∙ ap (λ (d : Decoded). answer_of d path) c.in-Consumed-path_answer.is in
+    let path_in : c.in-Consumed.a + c.in-Consumed-path_answer.b ≤ length c.args.message.now = omega (
       arith,
-      within_inside s.args.canonic s.args.namespace t.before.before.before.decode_id.result.id (area s).path s.pre.1 s.args.reference.times s.args.header
-          (drop t.before.answer.given.0.0 s.args.message.now) _ _ path_is,
-      length-drop t.before.answer.given.0.0 s.args.message.now,
-      id_in t,
+      within_inside c.args.canonic c.args.namespace c.decode_id-first.result.id area.path c.requires.1 c.args.reference.times c.args.header
+          (drop c.in-Consumed.a c.args.message.now) _ _ path_is,
+      length-drop c.in-Consumed.a c.args.message.now,
+      id_in,
     ) in
     let area : Area = area_with c.args.reference (path_in c.args.reference_path.now) in
     let rest_at : let a = c.args in shift header_length (mapped entry_from (read_parts a.canonic a.namespace (area_of area) a.header) a.message.now) ≡ shift (header_length + c.in-Consumed.a) (mapped entry_from (read_rest a.canonic a.namespace c.decode_id-first.result.id (components_of area.path) a.reference.times a.header) (drop c.in-Consumed.a a.message.now)) = parts_rest c.args.canonic c.args.namespace area c.args.header c.args.message.now _ _ id_is in
@@ -65,211 +59,169 @@ returns-in_default-path_answer c =
 pub overflow_add-at : goal.overflow_add-at
 overflow_add-at c =
     let area : Area = area_with c.args.reference (path_in c.args.reference_path.now) in
-    let told2_told : goal.In-Consumed = c in
     let id_is : let a = c.args in read_id (subspace_of a.reference.subspace) a.header.id_written a.message.now ≡ accepted c.decode_id-first.result.id c.in-Consumed.a = let r = c.decode_id-first in sym r.ensures ∙ ap (λ (d : Decoded). answer_of d r.result.id) c.in-Consumed.is in
     let id_in : c.in-Consumed.a ≤ length c.args.message.now = id_inside c.args.canonic c.args.namespace area c.args.header c.args.message.now _ _ id_is in
     let path : Path = path_in c.decode_path_within-path_answer.new.out in
-    let path_is : let t = told2_told in let s = told_start t in read_within_by sized s.args.canonic (area s).path (drop t.before.answer.given.0.0 s.args.message.now) ≡ accepted path c.in-Consumed-path_answer.b = sym c.decode_path_within-path_answer.ensures.answer ∙ ap (λ (d : Decoded). answer_of d path) c.in-Consumed-path_answer.is in
-    let path_in : let t = told2_told in t.before.answer.given.0.0 + c.in-Consumed-path_answer.b ≤ length (told_start t).args.message.now = let t = told2_told in
-    let s = told_start t in
-    omega (
+    let path_is : read_within_by sized c.args.canonic area.path (drop c.in-Consumed.a c.args.message.now) ≡ accepted path c.in-Consumed-path_answer.b = sym c.decode_path_within-path_answer.ensures.answer ∙ ap (λ (d : Decoded). answer_of d path) c.in-Consumed-path_answer.is in
+    let path_in : c.in-Consumed.a + c.in-Consumed-path_answer.b ≤ length c.args.message.now = omega (
       arith,
-      within_inside s.args.canonic s.args.namespace t.before.before.before.decode_id.result.id (area s).path s.pre.1 s.args.reference.times s.args.header
-          (drop t.before.answer.given.0.0 s.args.message.now) _ _ path_is,
-      length-drop t.before.answer.given.0.0 s.args.message.now,
-      id_in t,
+      within_inside c.args.canonic c.args.namespace c.decode_id-first.result.id area.path c.requires.1 c.args.reference.times c.args.header
+          (drop c.in-Consumed.a c.args.message.now) _ _ path_is,
+      length-drop c.in-Consumed.a c.args.message.now,
+      id_in,
     ) in
     omega (arith, path_in, c.requires.0)
 
 pub slice_bounds-relative_decode-count : goal.slice_bounds-relative_decode-count
 slice_bounds-relative_decode-count c =
     let area : Area = area_with c.args.reference (path_in c.args.reference_path.now) in
-    let told2_told : goal.In-Consumed = c in
     let id_is : let a = c.args in read_id (subspace_of a.reference.subspace) a.header.id_written a.message.now ≡ accepted c.decode_id-first.result.id c.in-Consumed.a = let r = c.decode_id-first in sym r.ensures ∙ ap (λ (d : Decoded). answer_of d r.result.id) c.in-Consumed.is in
     let id_in : c.in-Consumed.a ≤ length c.args.message.now = id_inside c.args.canonic c.args.namespace area c.args.header c.args.message.now _ _ id_is in
     let path : Path = path_in c.decode_path_within-path_answer.new.out in
-    let path_is : let t = told2_told in let s = told_start t in read_within_by sized s.args.canonic (area s).path (drop t.before.answer.given.0.0 s.args.message.now) ≡ accepted path c.in-Consumed-path_answer.b = sym c.decode_path_within-path_answer.ensures.answer ∙ ap (λ (d : Decoded). answer_of d path) c.in-Consumed-path_answer.is in
-    let path_in : let t = told2_told in t.before.answer.given.0.0 + c.in-Consumed-path_answer.b ≤ length (told_start t).args.message.now = let t = told2_told in
-    let s = told_start t in
-    omega (
+    let path_is : read_within_by sized c.args.canonic area.path (drop c.in-Consumed.a c.args.message.now) ≡ accepted path c.in-Consumed-path_answer.b = sym c.decode_path_within-path_answer.ensures.answer ∙ ap (λ (d : Decoded). answer_of d path) c.in-Consumed-path_answer.is in
+    let path_in : c.in-Consumed.a + c.in-Consumed-path_answer.b ≤ length c.args.message.now = omega (
       arith,
-      within_inside s.args.canonic s.args.namespace t.before.before.before.decode_id.result.id (area s).path s.pre.1 s.args.reference.times s.args.header
-          (drop t.before.answer.given.0.0 s.args.message.now) _ _ path_is,
-      length-drop t.before.answer.given.0.0 s.args.message.now,
-      id_in t,
+      within_inside c.args.canonic c.args.namespace c.decode_id-first.result.id area.path c.requires.1 c.args.reference.times c.args.header
+          (drop c.in-Consumed.a c.args.message.now) _ _ path_is,
+      length-drop c.in-Consumed.a c.args.message.now,
+      id_in,
     ) in
     path_in
 
 pub slice_bounds-relative_decode-start : goal.slice_bounds-relative_decode-start
 slice_bounds-relative_decode-start c =
     let area : Area = area_with c.args.reference (path_in c.args.reference_path.now) in
-    let told2_told : goal.In-Consumed = c in
     let id_is : let a = c.args in read_id (subspace_of a.reference.subspace) a.header.id_written a.message.now ≡ accepted c.decode_id-first.result.id c.in-Consumed.a = let r = c.decode_id-first in sym r.ensures ∙ ap (λ (d : Decoded). answer_of d r.result.id) c.in-Consumed.is in
     let id_in : c.in-Consumed.a ≤ length c.args.message.now = id_inside c.args.canonic c.args.namespace area c.args.header c.args.message.now _ _ id_is in
     let path : Path = path_in c.decode_path_within-path_answer.new.out in
-    let path_is : let t = told2_told in let s = told_start t in read_within_by sized s.args.canonic (area s).path (drop t.before.answer.given.0.0 s.args.message.now) ≡ accepted path c.in-Consumed-path_answer.b = sym c.decode_path_within-path_answer.ensures.answer ∙ ap (λ (d : Decoded). answer_of d path) c.in-Consumed-path_answer.is in
-    let path_in : let t = told2_told in t.before.answer.given.0.0 + c.in-Consumed-path_answer.b ≤ length (told_start t).args.message.now = let t = told2_told in
-    let s = told_start t in
-    omega (
+    let path_is : read_within_by sized c.args.canonic area.path (drop c.in-Consumed.a c.args.message.now) ≡ accepted path c.in-Consumed-path_answer.b = sym c.decode_path_within-path_answer.ensures.answer ∙ ap (λ (d : Decoded). answer_of d path) c.in-Consumed-path_answer.is in
+    let path_in : c.in-Consumed.a + c.in-Consumed-path_answer.b ≤ length c.args.message.now = omega (
       arith,
-      within_inside s.args.canonic s.args.namespace t.before.before.before.decode_id.result.id (area s).path s.pre.1 s.args.reference.times s.args.header
-          (drop t.before.answer.given.0.0 s.args.message.now) _ _ path_is,
-      length-drop t.before.answer.given.0.0 s.args.message.now,
-      id_in t,
+      within_inside c.args.canonic c.args.namespace c.decode_id-first.result.id area.path c.requires.1 c.args.reference.times c.args.header
+          (drop c.in-Consumed.a c.args.message.now) _ _ path_is,
+      length-drop c.in-Consumed.a c.args.message.now,
+      id_in,
     ) in
     omega (arith, path_in)
 
 pub returns-in_default-last_answer : goal.returns-in_default-last_answer
 returns-in_default-last_answer c =
-    let told2_told : goal.In-Consumed = c in
     let id_is : let a = c.args in read_id (subspace_of a.reference.subspace) a.header.id_written a.message.now ≡ accepted c.decode_id-first.result.id c.in-Consumed.a = let r = c.decode_id-first in sym r.ensures ∙ ap (λ (d : Decoded). answer_of d r.result.id) c.in-Consumed.is in
     let id_in : c.in-Consumed.a ≤ length c.args.message.now = id_inside c.args.canonic c.args.namespace area c.args.header c.args.message.now _ _ id_is in
     let path : Path = path_in c.decode_path_within-path_answer.new.out in
-    let path_is : let t = told2_told in let s = told_start t in read_within_by sized s.args.canonic (area s).path (drop t.before.answer.given.0.0 s.args.message.now) ≡ accepted path c.in-Consumed-path_answer.b = sym c.decode_path_within-path_answer.ensures.answer ∙ ap (λ (d : Decoded). answer_of d path) c.in-Consumed-path_answer.is in
-    let path_in : let t = told2_told in t.before.answer.given.0.0 + c.in-Consumed-path_answer.b ≤ length (told_start t).args.message.now = let t = told2_told in
-    let s = told_start t in
-    omega (
+    let path_is : read_within_by sized c.args.canonic area.path (drop c.in-Consumed.a c.args.message.now) ≡ accepted path c.in-Consumed-path_answer.b = sym c.decode_path_within-path_answer.ensures.answer ∙ ap (λ (d : Decoded). answer_of d path) c.in-Consumed-path_answer.is in
+    let path_in : c.in-Consumed.a + c.in-Consumed-path_answer.b ≤ length c.args.message.now = omega (
       arith,
-      within_inside s.args.canonic s.args.namespace t.before.before.before.decode_id.result.id (area s).path s.pre.1 s.args.reference.times s.args.header
-          (drop t.before.answer.given.0.0 s.args.message.now) _ _ path_is,
-      length-drop t.before.answer.given.0.0 s.args.message.now,
-      id_in t,
+      within_inside c.args.canonic c.args.namespace c.decode_id-first.result.id area.path c.requires.1 c.args.reference.times c.args.header
+          (drop c.in-Consumed.a c.args.message.now) _ _ path_is,
+      length-drop c.in-Consumed.a c.args.message.now,
+      id_in,
     ) in
     let area : Area = area_with c.args.reference (path_in c.args.reference_path.now) in
     let rest_at : let a = c.args in shift header_length (mapped entry_from (read_parts a.canonic a.namespace (area_of area) a.header) a.message.now) ≡ shift (header_length + c.in-Consumed.a) (mapped entry_from (read_rest a.canonic a.namespace c.decode_id-first.result.id (components_of area.path) a.reference.times a.header) (drop c.in-Consumed.a a.message.now)) = parts_rest c.args.canonic c.args.namespace area c.args.header c.args.message.now _ _ id_is in
-    let end_told : let t = told2_told in let a = (told_start t).args in answer_of c.relative_decode-last.result.answer c.relative_decode-last.result.end ≡ read_after_path a.canonic a.reference.times a.header (drop c.in-Consumed-path_answer.b (drop t.before.answer.given.0.0 a.message.now)) = let t = told2_told in
-    let a = (told_start t).args in
-    rw drop-drop (rw (to_end (t.before.answer.given.0.0 + c.in-Consumed-path_answer.b) a.message.now) at c.relative_decode-last.ensures.answer) in
-    let t = told2_told in
-    let s = told_start t in
+    let end_told : let a = c.args in answer_of c.relative_decode-last.result.answer c.relative_decode-last.result.end ≡ read_after_path a.canonic a.reference.times a.header (drop c.in-Consumed-path_answer.b (drop c.in-Consumed.a a.message.now)) = let a = c.args in
+    rw drop-drop (rw (to_end (c.in-Consumed.a + c.in-Consumed-path_answer.b) a.message.now) at c.relative_decode-last.ensures.answer) in
     let x = no_value c.relative_decode-last.result.answer c.in_default-last_answer.not-Consumed in
     rw c.refuse_fields-in_default-last_answer.ensures (reads_refused _ _ x.why (x.beside _) (ap path_in c.clear.ensures ∙ in_empty)
-    (rest_at t ∙ rw (within_end s.args.canonic s.args.namespace t.before.before.before.decode_id.result.id (area s).path s.pre.1 s.args.reference.times s.args.header
-    (drop t.before.answer.given.0.0 s.args.message.now) _ _ path_is x.why (sym end_told ∙ x.beside _))))
+    (rest_at ∙ rw (within_end c.args.canonic c.args.namespace c.decode_id-first.result.id area.path c.requires.1 c.args.reference.times c.args.header
+    (drop c.in-Consumed.a c.args.message.now) _ _ path_is x.why (sym end_told ∙ x.beside _))))
 
 pub overflow_add-result : goal.overflow_add-result
 overflow_add-result c =
-    let told2_told : goal.In-Consumed = c in
-    let told3_start : goal.Start = told_start told2_told in
     let id_is : let a = c.args in read_id (subspace_of a.reference.subspace) a.header.id_written a.message.now ≡ accepted c.decode_id-first.result.id c.in-Consumed.a = let r = c.decode_id-first in sym r.ensures ∙ ap (λ (d : Decoded). answer_of d r.result.id) c.in-Consumed.is in
     let id_in : c.in-Consumed.a ≤ length c.args.message.now = id_inside c.args.canonic c.args.namespace area c.args.header c.args.message.now _ _ id_is in
     let path : Path = path_in c.decode_path_within-path_answer.new.out in
-    let path_is : let t = told2_told in let s = told_start t in read_within_by sized s.args.canonic (area s).path (drop t.before.answer.given.0.0 s.args.message.now) ≡ accepted path c.in-Consumed-path_answer.b = sym c.decode_path_within-path_answer.ensures.answer ∙ ap (λ (d : Decoded). answer_of d path) c.in-Consumed-path_answer.is in
-    let path_in : let t = told2_told in t.before.answer.given.0.0 + c.in-Consumed-path_answer.b ≤ length (told_start t).args.message.now = let t = told2_told in
-    let s = told_start t in
-    omega (
+    let path_is : read_within_by sized c.args.canonic area.path (drop c.in-Consumed.a c.args.message.now) ≡ accepted path c.in-Consumed-path_answer.b = sym c.decode_path_within-path_answer.ensures.answer ∙ ap (λ (d : Decoded). answer_of d path) c.in-Consumed-path_answer.is in
+    let path_in : c.in-Consumed.a + c.in-Consumed-path_answer.b ≤ length c.args.message.now = omega (
       arith,
-      within_inside s.args.canonic s.args.namespace t.before.before.before.decode_id.result.id (area s).path s.pre.1 s.args.reference.times s.args.header
-          (drop t.before.answer.given.0.0 s.args.message.now) _ _ path_is,
-      length-drop t.before.answer.given.0.0 s.args.message.now,
-      id_in t,
+      within_inside c.args.canonic c.args.namespace c.decode_id-first.result.id area.path c.requires.1 c.args.reference.times c.args.header
+          (drop c.in-Consumed.a c.args.message.now) _ _ path_is,
+      length-drop c.in-Consumed.a c.args.message.now,
+      id_in,
     ) in
     let area : Area = area_with c.args.reference (path_in c.args.reference_path.now) in
-    let end_told : let t = told2_told in let a = (told_start t).args in answer_of c.relative_decode-last.result.answer c.relative_decode-last.result.end ≡ read_after_path a.canonic a.reference.times a.header (drop c.in-Consumed-path_answer.b (drop t.before.answer.given.0.0 a.message.now)) = let t = told2_told in
-    let a = (told_start t).args in
-    rw drop-drop (rw (to_end (t.before.answer.given.0.0 + c.in-Consumed-path_answer.b) a.message.now) at c.relative_decode-last.ensures.answer) in
-    let end_is : let t = told2_told in let a = (told_start t).args in read_after_path a.canonic a.reference.times a.header (drop c.in-Consumed-path_answer.b (drop t.before.answer.given.0.0 a.message.now)) ≡ accepted c.relative_decode-last.result.end c.in-Consumed-last_answer.c = sym end_told ∙ ap (λ (d : Decoded). answer_of d c.relative_decode-last.result.end) c.in-Consumed-last_answer.is in
-    let inside : let t = told2_told in t.before.answer.given.0.0 + (c.in-Consumed-path_answer.b + c.in-Consumed-last_answer.c) ≤ length (told_start t).args.message.now = let t = told2_told in
-    let s = told_start t in
-    omega (
+    let end_told : let a = c.args in answer_of c.relative_decode-last.result.answer c.relative_decode-last.result.end ≡ read_after_path a.canonic a.reference.times a.header (drop c.in-Consumed-path_answer.b (drop c.in-Consumed.a a.message.now)) = let a = c.args in
+    rw drop-drop (rw (to_end (c.in-Consumed.a + c.in-Consumed-path_answer.b) a.message.now) at c.relative_decode-last.ensures.answer) in
+    let end_is : let a = c.args in read_after_path a.canonic a.reference.times a.header (drop c.in-Consumed-path_answer.b (drop c.in-Consumed.a a.message.now)) ≡ accepted c.relative_decode-last.result.end c.in-Consumed-last_answer.c = sym end_told ∙ ap (λ (d : Decoded). answer_of d c.relative_decode-last.result.end) c.in-Consumed-last_answer.is in
+    let inside : c.in-Consumed.a + (c.in-Consumed-path_answer.b + c.in-Consumed-last_answer.c) ≤ length c.args.message.now = omega (
       arith,
-      within_whole s.args.canonic s.args.namespace t.before.before.before.decode_id.result.id (area s).path s.pre.1 s.args.reference.times s.args.header
-          (drop t.before.answer.given.0.0 s.args.message.now) _ _ path_is _ _ end_is,
-      length-drop t.before.answer.given.0.0 s.args.message.now,
-      id_in t,
+      within_whole c.args.canonic c.args.namespace c.decode_id-first.result.id area.path c.requires.1 c.args.reference.times c.args.header
+          (drop c.in-Consumed.a c.args.message.now) _ _ path_is _ _ end_is,
+      length-drop c.in-Consumed.a c.args.message.now,
+      id_in,
     ) in
-    omega (arith, inside, told3_start.pre.0)
+    omega (arith, inside, c.requires.0)
 
 pub overflow_add-result-2 : goal.overflow_add-result-2
 overflow_add-result-2 c =
-    let told2_told : goal.In-Consumed = c in
-    let told3_start : goal.Start = told_start told2_told in
     let id_is : let a = c.args in read_id (subspace_of a.reference.subspace) a.header.id_written a.message.now ≡ accepted c.decode_id-first.result.id c.in-Consumed.a = let r = c.decode_id-first in sym r.ensures ∙ ap (λ (d : Decoded). answer_of d r.result.id) c.in-Consumed.is in
     let id_in : c.in-Consumed.a ≤ length c.args.message.now = id_inside c.args.canonic c.args.namespace area c.args.header c.args.message.now _ _ id_is in
     let path : Path = path_in c.decode_path_within-path_answer.new.out in
-    let path_is : let t = told2_told in let s = told_start t in read_within_by sized s.args.canonic (area s).path (drop t.before.answer.given.0.0 s.args.message.now) ≡ accepted path c.in-Consumed-path_answer.b = sym c.decode_path_within-path_answer.ensures.answer ∙ ap (λ (d : Decoded). answer_of d path) c.in-Consumed-path_answer.is in
-    let path_in : let t = told2_told in t.before.answer.given.0.0 + c.in-Consumed-path_answer.b ≤ length (told_start t).args.message.now = let t = told2_told in
-    let s = told_start t in
-    omega (
+    let path_is : read_within_by sized c.args.canonic area.path (drop c.in-Consumed.a c.args.message.now) ≡ accepted path c.in-Consumed-path_answer.b = sym c.decode_path_within-path_answer.ensures.answer ∙ ap (λ (d : Decoded). answer_of d path) c.in-Consumed-path_answer.is in
+    let path_in : c.in-Consumed.a + c.in-Consumed-path_answer.b ≤ length c.args.message.now = omega (
       arith,
-      within_inside s.args.canonic s.args.namespace t.before.before.before.decode_id.result.id (area s).path s.pre.1 s.args.reference.times s.args.header
-          (drop t.before.answer.given.0.0 s.args.message.now) _ _ path_is,
-      length-drop t.before.answer.given.0.0 s.args.message.now,
-      id_in t,
+      within_inside c.args.canonic c.args.namespace c.decode_id-first.result.id area.path c.requires.1 c.args.reference.times c.args.header
+          (drop c.in-Consumed.a c.args.message.now) _ _ path_is,
+      length-drop c.in-Consumed.a c.args.message.now,
+      id_in,
     ) in
     let area : Area = area_with c.args.reference (path_in c.args.reference_path.now) in
-    let end_told : let t = told2_told in let a = (told_start t).args in answer_of c.relative_decode-last.result.answer c.relative_decode-last.result.end ≡ read_after_path a.canonic a.reference.times a.header (drop c.in-Consumed-path_answer.b (drop t.before.answer.given.0.0 a.message.now)) = let t = told2_told in
-    let a = (told_start t).args in
-    rw drop-drop (rw (to_end (t.before.answer.given.0.0 + c.in-Consumed-path_answer.b) a.message.now) at c.relative_decode-last.ensures.answer) in
-    let end_is : let t = told2_told in let a = (told_start t).args in read_after_path a.canonic a.reference.times a.header (drop c.in-Consumed-path_answer.b (drop t.before.answer.given.0.0 a.message.now)) ≡ accepted c.relative_decode-last.result.end c.in-Consumed-last_answer.c = sym end_told ∙ ap (λ (d : Decoded). answer_of d c.relative_decode-last.result.end) c.in-Consumed-last_answer.is in
-    let inside : let t = told2_told in t.before.answer.given.0.0 + (c.in-Consumed-path_answer.b + c.in-Consumed-last_answer.c) ≤ length (told_start t).args.message.now = let t = told2_told in
-    let s = told_start t in
-    omega (
+    let end_told : let a = c.args in answer_of c.relative_decode-last.result.answer c.relative_decode-last.result.end ≡ read_after_path a.canonic a.reference.times a.header (drop c.in-Consumed-path_answer.b (drop c.in-Consumed.a a.message.now)) = let a = c.args in
+    rw drop-drop (rw (to_end (c.in-Consumed.a + c.in-Consumed-path_answer.b) a.message.now) at c.relative_decode-last.ensures.answer) in
+    let end_is : let a = c.args in read_after_path a.canonic a.reference.times a.header (drop c.in-Consumed-path_answer.b (drop c.in-Consumed.a a.message.now)) ≡ accepted c.relative_decode-last.result.end c.in-Consumed-last_answer.c = sym end_told ∙ ap (λ (d : Decoded). answer_of d c.relative_decode-last.result.end) c.in-Consumed-last_answer.is in
+    let inside : c.in-Consumed.a + (c.in-Consumed-path_answer.b + c.in-Consumed-last_answer.c) ≤ length c.args.message.now = omega (
       arith,
-      within_whole s.args.canonic s.args.namespace t.before.before.before.decode_id.result.id (area s).path s.pre.1 s.args.reference.times s.args.header
-          (drop t.before.answer.given.0.0 s.args.message.now) _ _ path_is _ _ end_is,
-      length-drop t.before.answer.given.0.0 s.args.message.now,
-      id_in t,
+      within_whole c.args.canonic c.args.namespace c.decode_id-first.result.id area.path c.requires.1 c.args.reference.times c.args.header
+          (drop c.in-Consumed.a c.args.message.now) _ _ path_is _ _ end_is,
+      length-drop c.in-Consumed.a c.args.message.now,
+      id_in,
     ) in
-    omega (arith, inside, told3_start.pre.0)
+    omega (arith, inside, c.requires.0)
 
 pub overflow_add-result-3 : goal.overflow_add-result-3
 overflow_add-result-3 c =
-    let told2_told : goal.In-Consumed = c in
-    let told3_start : goal.Start = told_start told2_told in
     let id_is : let a = c.args in read_id (subspace_of a.reference.subspace) a.header.id_written a.message.now ≡ accepted c.decode_id-first.result.id c.in-Consumed.a = let r = c.decode_id-first in sym r.ensures ∙ ap (λ (d : Decoded). answer_of d r.result.id) c.in-Consumed.is in
     let id_in : c.in-Consumed.a ≤ length c.args.message.now = id_inside c.args.canonic c.args.namespace area c.args.header c.args.message.now _ _ id_is in
     let path : Path = path_in c.decode_path_within-path_answer.new.out in
-    let path_is : let t = told2_told in let s = told_start t in read_within_by sized s.args.canonic (area s).path (drop t.before.answer.given.0.0 s.args.message.now) ≡ accepted path c.in-Consumed-path_answer.b = sym c.decode_path_within-path_answer.ensures.answer ∙ ap (λ (d : Decoded). answer_of d path) c.in-Consumed-path_answer.is in
-    let path_in : let t = told2_told in t.before.answer.given.0.0 + c.in-Consumed-path_answer.b ≤ length (told_start t).args.message.now = let t = told2_told in
-    let s = told_start t in
-    omega (
+    let path_is : read_within_by sized c.args.canonic area.path (drop c.in-Consumed.a c.args.message.now) ≡ accepted path c.in-Consumed-path_answer.b = sym c.decode_path_within-path_answer.ensures.answer ∙ ap (λ (d : Decoded). answer_of d path) c.in-Consumed-path_answer.is in
+    let path_in : c.in-Consumed.a + c.in-Consumed-path_answer.b ≤ length c.args.message.now = omega (
       arith,
-      within_inside s.args.canonic s.args.namespace t.before.before.before.decode_id.result.id (area s).path s.pre.1 s.args.reference.times s.args.header
-          (drop t.before.answer.given.0.0 s.args.message.now) _ _ path_is,
-      length-drop t.before.answer.given.0.0 s.args.message.now,
-      id_in t,
+      within_inside c.args.canonic c.args.namespace c.decode_id-first.result.id area.path c.requires.1 c.args.reference.times c.args.header
+          (drop c.in-Consumed.a c.args.message.now) _ _ path_is,
+      length-drop c.in-Consumed.a c.args.message.now,
+      id_in,
     ) in
     let area : Area = area_with c.args.reference (path_in c.args.reference_path.now) in
-    let end_told : let t = told2_told in let a = (told_start t).args in answer_of c.relative_decode-last.result.answer c.relative_decode-last.result.end ≡ read_after_path a.canonic a.reference.times a.header (drop c.in-Consumed-path_answer.b (drop t.before.answer.given.0.0 a.message.now)) = let t = told2_told in
-    let a = (told_start t).args in
-    rw drop-drop (rw (to_end (t.before.answer.given.0.0 + c.in-Consumed-path_answer.b) a.message.now) at c.relative_decode-last.ensures.answer) in
-    let end_is : let t = told2_told in let a = (told_start t).args in read_after_path a.canonic a.reference.times a.header (drop c.in-Consumed-path_answer.b (drop t.before.answer.given.0.0 a.message.now)) ≡ accepted c.relative_decode-last.result.end c.in-Consumed-last_answer.c = sym end_told ∙ ap (λ (d : Decoded). answer_of d c.relative_decode-last.result.end) c.in-Consumed-last_answer.is in
-    let inside : let t = told2_told in t.before.answer.given.0.0 + (c.in-Consumed-path_answer.b + c.in-Consumed-last_answer.c) ≤ length (told_start t).args.message.now = let t = told2_told in
-    let s = told_start t in
-    omega (
+    let end_told : let a = c.args in answer_of c.relative_decode-last.result.answer c.relative_decode-last.result.end ≡ read_after_path a.canonic a.reference.times a.header (drop c.in-Consumed-path_answer.b (drop c.in-Consumed.a a.message.now)) = let a = c.args in
+    rw drop-drop (rw (to_end (c.in-Consumed.a + c.in-Consumed-path_answer.b) a.message.now) at c.relative_decode-last.ensures.answer) in
+    let end_is : let a = c.args in read_after_path a.canonic a.reference.times a.header (drop c.in-Consumed-path_answer.b (drop c.in-Consumed.a a.message.now)) ≡ accepted c.relative_decode-last.result.end c.in-Consumed-last_answer.c = sym end_told ∙ ap (λ (d : Decoded). answer_of d c.relative_decode-last.result.end) c.in-Consumed-last_answer.is in
+    let inside : c.in-Consumed.a + (c.in-Consumed-path_answer.b + c.in-Consumed-last_answer.c) ≤ length c.args.message.now = omega (
       arith,
-      within_whole s.args.canonic s.args.namespace t.before.before.before.decode_id.result.id (area s).path s.pre.1 s.args.reference.times s.args.header
-          (drop t.before.answer.given.0.0 s.args.message.now) _ _ path_is _ _ end_is,
-      length-drop t.before.answer.given.0.0 s.args.message.now,
-      id_in t,
+      within_whole c.args.canonic c.args.namespace c.decode_id-first.result.id area.path c.requires.1 c.args.reference.times c.args.header
+          (drop c.in-Consumed.a c.args.message.now) _ _ path_is _ _ end_is,
+      length-drop c.in-Consumed.a c.args.message.now,
+      id_in,
     ) in
-    omega (arith, inside, told3_start.pre.0)
+    omega (arith, inside, c.requires.0)
 
 pub returns : goal.returns
 returns c =
-    let told2_told : goal.In-Consumed = c in
     let id_is : let a = c.args in read_id (subspace_of a.reference.subspace) a.header.id_written a.message.now ≡ accepted c.decode_id-first.result.id c.in-Consumed.a = let r = c.decode_id-first in sym r.ensures ∙ ap (λ (d : Decoded). answer_of d r.result.id) c.in-Consumed.is in
     let id_in : c.in-Consumed.a ≤ length c.args.message.now = id_inside c.args.canonic c.args.namespace area c.args.header c.args.message.now _ _ id_is in
     let path : Path = path_in c.decode_path_within-path_answer.new.out in
-    let path_is : let t = told2_told in let s = told_start t in read_within_by sized s.args.canonic (area s).path (drop t.before.answer.given.0.0 s.args.message.now) ≡ accepted path c.in-Consumed-path_answer.b = sym c.decode_path_within-path_answer.ensures.answer ∙ ap (λ (d : Decoded). answer_of d path) c.in-Consumed-path_answer.is in
-    let path_in : let t = told2_told in t.before.answer.given.0.0 + c.in-Consumed-path_answer.b ≤ length (told_start t).args.message.now = let t = told2_told in
-    let s = told_start t in
-    omega (
+    let path_is : read_within_by sized c.args.canonic area.path (drop c.in-Consumed.a c.args.message.now) ≡ accepted path c.in-Consumed-path_answer.b = sym c.decode_path_within-path_answer.ensures.answer ∙ ap (λ (d : Decoded). answer_of d path) c.in-Consumed-path_answer.is in
+    let path_in : c.in-Consumed.a + c.in-Consumed-path_answer.b ≤ length c.args.message.now = omega (
       arith,
-      within_inside s.args.canonic s.args.namespace t.before.before.before.decode_id.result.id (area s).path s.pre.1 s.args.reference.times s.args.header
-          (drop t.before.answer.given.0.0 s.args.message.now) _ _ path_is,
-      length-drop t.before.answer.given.0.0 s.args.message.now,
-      id_in t,
+      within_inside c.args.canonic c.args.namespace c.decode_id-first.result.id area.path c.requires.1 c.args.reference.times c.args.header
+          (drop c.in-Consumed.a c.args.message.now) _ _ path_is,
+      length-drop c.in-Consumed.a c.args.message.now,
+      id_in,
     ) in
     let area : Area = area_with c.args.reference (path_in c.args.reference_path.now) in
     let rest_at : let a = c.args in shift header_length (mapped entry_from (read_parts a.canonic a.namespace (area_of area) a.header) a.message.now) ≡ shift (header_length + c.in-Consumed.a) (mapped entry_from (read_rest a.canonic a.namespace c.decode_id-first.result.id (components_of area.path) a.reference.times a.header) (drop c.in-Consumed.a a.message.now)) = parts_rest c.args.canonic c.args.namespace area c.args.header c.args.message.now _ _ id_is in
-    let end_told : let t = told2_told in let a = (told_start t).args in answer_of c.relative_decode-last.result.answer c.relative_decode-last.result.end ≡ read_after_path a.canonic a.reference.times a.header (drop c.in-Consumed-path_answer.b (drop t.before.answer.given.0.0 a.message.now)) = let t = told2_told in
-    let a = (told_start t).args in
-    rw drop-drop (rw (to_end (t.before.answer.given.0.0 + c.in-Consumed-path_answer.b) a.message.now) at c.relative_decode-last.ensures.answer) in
-    let end_is : let t = told2_told in let a = (told_start t).args in read_after_path a.canonic a.reference.times a.header (drop c.in-Consumed-path_answer.b (drop t.before.answer.given.0.0 a.message.now)) ≡ accepted c.relative_decode-last.result.end c.in-Consumed-last_answer.c = sym end_told ∙ ap (λ (d : Decoded). answer_of d c.relative_decode-last.result.end) c.in-Consumed-last_answer.is in
-    let t = told2_told in
-    let s = told_start t in
-    gives_accepted (rest_at t ∙ ap (shift (header_length + t.before.answer.given.0.0))
-    (within_read s.args.canonic s.args.namespace t.before.before.before.decode_id.result.id (area s).path s.pre.1 s.args.reference.times s.args.header
-    (drop t.before.answer.given.0.0 s.args.message.now) _ _ path_is _ _ end_is))
+    let end_told : let a = c.args in answer_of c.relative_decode-last.result.answer c.relative_decode-last.result.end ≡ read_after_path a.canonic a.reference.times a.header (drop c.in-Consumed-path_answer.b (drop c.in-Consumed.a a.message.now)) = let a = c.args in
+    rw drop-drop (rw (to_end (c.in-Consumed.a + c.in-Consumed-path_answer.b) a.message.now) at c.relative_decode-last.ensures.answer) in
+    let end_is : let a = c.args in read_after_path a.canonic a.reference.times a.header (drop c.in-Consumed-path_answer.b (drop c.in-Consumed.a a.message.now)) ≡ accepted c.relative_decode-last.result.end c.in-Consumed-last_answer.c = sym end_told ∙ ap (λ (d : Decoded). answer_of d c.relative_decode-last.result.end) c.in-Consumed-last_answer.is in
+    gives_accepted (rest_at ∙ ap (shift (header_length + c.in-Consumed.a))
+    (within_read c.args.canonic c.args.namespace c.decode_id-first.result.id area.path c.requires.1 c.args.reference.times c.args.header
+    (drop c.in-Consumed.a c.args.message.now) _ _ path_is _ _ end_is))

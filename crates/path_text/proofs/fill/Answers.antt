@@ -1,5 +1,4 @@
 use Rattle.codec.proofs.Prelude.{◌+◌, ◌≤◌, ◌<◌, ◌≡◌, refl, ap, ◌∙◌, sym, [], ◌∷◌, ◌++◌, arith, length, drop}
-use Rattle.codec.specs.Format.{over}
 use Rattle.text.specs.Hex.{hex_text}
 use Rattle.text.proofs.Buffer.{over_at_none, over_at_start}
 use Rattle.path.specs.Record.{Path, components_of, length_at}

@@ -1,4 +1,4 @@
-use Rattle.codec.proofs.Prelude.{◌≡◌, ◌∙◌, sym, true, arith, rules}
+use Rattle.codec.proofs.Prelude.{◌≡◌, ◌∙◌, sym, true, arith}
 use Rattle.path.specs.Record.{components_of, well_formed}
 use Rattle.path.specs.Flat.{path_in}
 use Rattle.path_text.specs.PathText.{tail_text}

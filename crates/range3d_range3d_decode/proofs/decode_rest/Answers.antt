@@ -29,58 +29,50 @@ returns-in_default c =
 pub slice_bounds-relative_decode-count : goal.slice_bounds-relative_decode-count
 slice_bounds-relative_decode-count c =
     let known : PathRange = paths_with (path_in c.args.reference_start.now) c.args.reference.end_open (path_in c.args.reference_end.now) in
-    let told_start : goal.Start = c in
     let paths : PathRange = paths_with (path_in c.relative_decode-first.new.start) c.args.header.path_end_open
     (path_in c.relative_decode-first.new.end) in
-    let paths_are : let s = told_start in read_paths_by sized_paths s.args.header.path_end_open (sides_in s.args.header) (known s) s.args.message.now ≡ accepted paths c.in-Consumed.a = sym c.relative_decode-first.ensures.answer ∙ ap (λ (d : Decoded). answer_of d paths) c.in-Consumed.is in
-    let paths_in : c.in-Consumed.a ≤ length told_start.args.message.now = let s = told_start in
-    paths_within (known s) s.args.reference.times s.args.header s.args.times s.args.message.now _ _ paths_are in
+    let paths_are : read_paths_by sized_paths c.args.header.path_end_open (sides_in c.args.header) known c.args.message.now ≡ accepted paths c.in-Consumed.a = sym c.relative_decode-first.ensures.answer ∙ ap (λ (d : Decoded). answer_of d paths) c.in-Consumed.is in
+    let paths_in : c.in-Consumed.a ≤ length c.args.message.now = paths_within known c.args.reference.times c.args.header c.args.times c.args.message.now _ _ paths_are in
     paths_in
 
 pub slice_bounds-relative_decode-start : goal.slice_bounds-relative_decode-start
 slice_bounds-relative_decode-start c =
     let known : PathRange = paths_with (path_in c.args.reference_start.now) c.args.reference.end_open (path_in c.args.reference_end.now) in
-    let told_start : goal.Start = c in
     let paths : PathRange = paths_with (path_in c.relative_decode-first.new.start) c.args.header.path_end_open
     (path_in c.relative_decode-first.new.end) in
-    let paths_are : let s = told_start in read_paths_by sized_paths s.args.header.path_end_open (sides_in s.args.header) (known s) s.args.message.now ≡ accepted paths c.in-Consumed.a = sym c.relative_decode-first.ensures.answer ∙ ap (λ (d : Decoded). answer_of d paths) c.in-Consumed.is in
-    let paths_in : c.in-Consumed.a ≤ length told_start.args.message.now = let s = told_start in
-    paths_within (known s) s.args.reference.times s.args.header s.args.times s.args.message.now _ _ paths_are in
+    let paths_are : read_paths_by sized_paths c.args.header.path_end_open (sides_in c.args.header) known c.args.message.now ≡ accepted paths c.in-Consumed.a = sym c.relative_decode-first.ensures.answer ∙ ap (λ (d : Decoded). answer_of d paths) c.in-Consumed.is in
+    let paths_in : c.in-Consumed.a ≤ length c.args.message.now = paths_within known c.args.reference.times c.args.header c.args.times c.args.message.now _ _ paths_are in
     omega (arith, paths_in)
 
 pub returns-in_default-answer : goal.returns-in_default-answer
 returns-in_default-answer c =
     let known : PathRange = paths_with (path_in c.args.reference_start.now) c.args.reference.end_open (path_in c.args.reference_end.now) in
-    let told_start : goal.Start = c in
     let paths : PathRange = paths_with (path_in c.relative_decode-first.new.start) c.args.header.path_end_open
     (path_in c.relative_decode-first.new.end) in
-    let paths_are : let s = told_start in read_paths_by sized_paths s.args.header.path_end_open (sides_in s.args.header) (known s) s.args.message.now ≡ accepted paths c.in-Consumed.a = sym c.relative_decode-first.ensures.answer ∙ ap (λ (d : Decoded). answer_of d paths) c.in-Consumed.is in
-    let times_told : let s = told_start in Gives no_times c.relative_decode-second.result.answer c.relative_decode-second.result.times (read_times s.args.reference.times s.args.header.times_end_open (unpackTimes s.args.times) (drop c.in-Consumed.a s.args.message.now)) = rw (to_end c.in-Consumed.a told_start.args.message.now) at c.relative_decode-second.ensures in
-    let s = told_start in
+    let paths_are : read_paths_by sized_paths c.args.header.path_end_open (sides_in c.args.header) known c.args.message.now ≡ accepted paths c.in-Consumed.a = sym c.relative_decode-first.ensures.answer ∙ ap (λ (d : Decoded). answer_of d paths) c.in-Consumed.is in
+    let times_told : Gives no_times c.relative_decode-second.result.answer c.relative_decode-second.result.times (read_times c.args.reference.times c.args.header.times_end_open (unpackTimes c.args.times) (drop c.in-Consumed.a c.args.message.now)) = rw (to_end c.in-Consumed.a c.args.message.now) at c.relative_decode-second.ensures in
     let x = no_value c.relative_decode-second.result.answer c.in_default-answer.not-Consumed in
     let e = sym times_told.answer ∙ x.beside _ in
     let none : c.relative_decode-second.result.times ≡ no_times = rw e at times_told.value in
     rw (c.clear.ensures, c.clear-in_default-answer.ensures, in_empty, none)
-    (gives_refused x.why (x.beside _) (times_refused (known s) s.args.reference.times s.args.header s.args.times s.args.message.now _ _ paths_are x.why e))
+    (gives_refused x.why (x.beside _) (times_refused known c.args.reference.times c.args.header c.args.times c.args.message.now _ _ paths_are x.why e))
 
 pub overflow_add-result : goal.overflow_add-result
 overflow_add-result c =
     let known : PathRange = paths_with (path_in c.args.reference_start.now) c.args.reference.end_open (path_in c.args.reference_end.now) in
-    let told_start : goal.Start = c in
     let paths : PathRange = paths_with (path_in c.relative_decode-first.new.start) c.args.header.path_end_open
     (path_in c.relative_decode-first.new.end) in
-    let paths_are : let s = told_start in read_paths_by sized_paths s.args.header.path_end_open (sides_in s.args.header) (known s) s.args.message.now ≡ accepted paths c.in-Consumed.a = sym c.relative_decode-first.ensures.answer ∙ ap (λ (d : Decoded). answer_of d paths) c.in-Consumed.is in
-    let times_told : let s = told_start in Gives no_times c.relative_decode-second.result.answer c.relative_decode-second.result.times (read_times s.args.reference.times s.args.header.times_end_open (unpackTimes s.args.times) (drop c.in-Consumed.a s.args.message.now)) = rw (to_end c.in-Consumed.a told_start.args.message.now) at c.relative_decode-second.ensures in
-    let times_are : let s = told_start in read_times s.args.reference.times s.args.header.times_end_open (unpackTimes s.args.times) (drop c.in-Consumed.a s.args.message.now) ≡ accepted c.relative_decode-second.result.times c.in-Consumed-answer.b = sym times_told.answer ∙ ap (λ (d : Decoded). answer_of d c.relative_decode-second.result.times) c.in-Consumed-answer.is in
+    let paths_are : read_paths_by sized_paths c.args.header.path_end_open (sides_in c.args.header) known c.args.message.now ≡ accepted paths c.in-Consumed.a = sym c.relative_decode-first.ensures.answer ∙ ap (λ (d : Decoded). answer_of d paths) c.in-Consumed.is in
+    let times_told : Gives no_times c.relative_decode-second.result.answer c.relative_decode-second.result.times (read_times c.args.reference.times c.args.header.times_end_open (unpackTimes c.args.times) (drop c.in-Consumed.a c.args.message.now)) = rw (to_end c.in-Consumed.a c.args.message.now) at c.relative_decode-second.ensures in
+    let times_are : read_times c.args.reference.times c.args.header.times_end_open (unpackTimes c.args.times) (drop c.in-Consumed.a c.args.message.now) ≡ accepted c.relative_decode-second.result.times c.in-Consumed-answer.b = sym times_told.answer ∙ ap (λ (d : Decoded). answer_of d c.relative_decode-second.result.times) c.in-Consumed-answer.is in
     omega (arith, ends_within known c.args.reference.times c.args.header c.args.times c.args.message.now _ _ paths_are _ _ times_are)
 
 pub returns : goal.returns
 returns c =
     let known : PathRange = paths_with (path_in c.args.reference_start.now) c.args.reference.end_open (path_in c.args.reference_end.now) in
-    let told_start : goal.Start = c in
     let paths : PathRange = paths_with (path_in c.relative_decode-first.new.start) c.args.header.path_end_open
     (path_in c.relative_decode-first.new.end) in
-    let paths_are : let s = told_start in read_paths_by sized_paths s.args.header.path_end_open (sides_in s.args.header) (known s) s.args.message.now ≡ accepted paths c.in-Consumed.a = sym c.relative_decode-first.ensures.answer ∙ ap (λ (d : Decoded). answer_of d paths) c.in-Consumed.is in
-    let times_told : let s = told_start in Gives no_times c.relative_decode-second.result.answer c.relative_decode-second.result.times (read_times s.args.reference.times s.args.header.times_end_open (unpackTimes s.args.times) (drop c.in-Consumed.a s.args.message.now)) = rw (to_end c.in-Consumed.a told_start.args.message.now) at c.relative_decode-second.ensures in
-    let times_are : let s = told_start in read_times s.args.reference.times s.args.header.times_end_open (unpackTimes s.args.times) (drop c.in-Consumed.a s.args.message.now) ≡ accepted c.relative_decode-second.result.times c.in-Consumed-answer.b = sym times_told.answer ∙ ap (λ (d : Decoded). answer_of d c.relative_decode-second.result.times) c.in-Consumed-answer.is in
+    let paths_are : read_paths_by sized_paths c.args.header.path_end_open (sides_in c.args.header) known c.args.message.now ≡ accepted paths c.in-Consumed.a = sym c.relative_decode-first.ensures.answer ∙ ap (λ (d : Decoded). answer_of d paths) c.in-Consumed.is in
+    let times_told : Gives no_times c.relative_decode-second.result.answer c.relative_decode-second.result.times (read_times c.args.reference.times c.args.header.times_end_open (unpackTimes c.args.times) (drop c.in-Consumed.a c.args.message.now)) = rw (to_end c.in-Consumed.a c.args.message.now) at c.relative_decode-second.ensures in
+    let times_are : read_times c.args.reference.times c.args.header.times_end_open (unpackTimes c.args.times) (drop c.in-Consumed.a c.args.message.now) ≡ accepted c.relative_decode-second.result.times c.in-Consumed-answer.b = sym times_told.answer ∙ ap (λ (d : Decoded). answer_of d c.relative_decode-second.result.times) c.in-Consumed-answer.is in
     gives_accepted (ends_read known c.args.reference.times c.args.header c.args.times c.args.message.now _ _ paths_are _ _ times_are)

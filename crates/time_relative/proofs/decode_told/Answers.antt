@@ -14,14 +14,6 @@ returns-in_default c =
     let n = refused_number c.relative_decode-number.result c.in_default.not-Value in
     n.number ∙ sym (told_refused a.canonic (bits a.width) a.range a.added a.tag s a.included n.why (sym c.relative_decode-number.ensures ∙ n.number))
 
-pub returns-then-reach-told : goal.returns-then-reach-told
-returns-then-reach-told c =
-    let told : let a = c.args in read_number a.canonic (bits a.width) a.tag (drop a.start a.message.now) ≡ accepted c.in-Value.told c.in-Value.n = sym c.relative_decode-number.ensures ∙ ap number_answer c.in-Value.is in
-    let a = c.args in
-    let s = drop a.start a.message.now in
-    sym (told_past a.canonic (bits a.width) a.range a.added a.tag s _ _ told a.included
-    (typed_range a.range c.type_inv.1.1.1.0) (omega (arith, c.reach.ensures, c.if-reach-told.true)))
-
 pub time_at-time-requires : goal.time_at-time-requires
 time_at-time-requires c = omega (arith, c.reach.ensures, c.if-reach-told.false)
 
@@ -41,3 +33,11 @@ returns c =
     rw c.time_at-time.ensures
     (sym (told_tested a.canonic (bits a.width) a.range a.added a.tag s _ _ told (omega (arith, c.reach.ensures, c.if-reach-told.false)) true a.included
     (rw c.time_at-time.ensures at (sym c.is_taken-taken.ensures ∙ c.if-not-taken.false))))
+
+pub returns-then-reach-told : goal.returns-then-reach-told
+returns-then-reach-told c =
+    let told : let a = c.args in read_number a.canonic (bits a.width) a.tag (drop a.start a.message.now) ≡ accepted c.in-Value.told c.in-Value.n = sym c.relative_decode-number.ensures ∙ ap number_answer c.in-Value.is in
+    let a = c.args in
+    let s = drop a.start a.message.now in
+    sym (told_past a.canonic (bits a.width) a.range a.added a.tag s _ _ told a.included
+    (typed_range a.range c.well_formed.1.1.1.0) (omega (arith, c.reach.ensures, c.if-reach-told.true)))

@@ -11,6 +11,6 @@ returns-in_default c = asks_none (λ k. fields_are c.args.line.now c.part_count.
 
 pub returns : goal.returns
 returns c = record {
-      said = λ k. sym (fields_are c.args.line.now c.part_count.ensures (c.args.j + 1) _ (omega arith) ∙ hex_bytes c.hex-bytes.ensures c.in-Bytes.is k.write);
-      inside = hex_inside c.hex-bytes.ensures c.in-Bytes.is;
-    }
+  said = λ k. sym (fields_are c.args.line.now c.part_count.ensures (c.args.j + 1) _ (omega arith) ∙ hex_bytes c.hex-bytes.ensures c.in-Bytes.is k.write);
+  inside = hex_inside c.hex-bytes.ensures c.in-Bytes.is;
+}

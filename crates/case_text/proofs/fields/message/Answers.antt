@@ -19,9 +19,9 @@ returns-in_default-bytes c = asks_none
 
 pub returns : goal.returns
 returns c = record {
-      said = λ k. sym
-          (fields_are c.args.line.now c.part_count.ensures (c.args.i + 2) _ (omega arith)
-          ∙ decimal_value_lem c.args.i c.args.line.now c.part.ensures c.read_decimal-from.ensures c.in-Value.is _
-          ∙ hex_bytes c.hex-bytes.ensures c.in-Bytes.is (k.read c.args.canonic c.in-Value.s));
-      inside = hex_inside c.hex-bytes.ensures c.in-Bytes.is;
-    }
+  said = λ k. sym
+      (fields_are c.args.line.now c.part_count.ensures (c.args.i + 2) _ (omega arith)
+      ∙ decimal_value_lem c.args.i c.args.line.now c.part.ensures c.read_decimal-from.ensures c.in-Value.is _
+      ∙ hex_bytes c.hex-bytes.ensures c.in-Bytes.is (k.read c.args.canonic c.in-Value.s));
+  inside = hex_inside c.hex-bytes.ensures c.in-Bytes.is;
+}

@@ -1,4 +1,4 @@
-use Rattle.codec.proofs.Prelude.{sym, [], ◌∷◌, arith, take, length-take-le, take_all}
+use Rattle.codec.proofs.Prelude.{[], ◌∷◌, arith, take, length-take-le, take_all}
 use Rattle.case_text.specs.Limits.{max_bytes}
 use Rattle.case_text.proofs.Puts.{puts_two}
 use Rattle.case_text.proofs.put.tab_bytes.Goals as goal
@@ -7,9 +7,6 @@ pub returns-then-bytes-n : goal.returns-then-bytes-n
 returns-then-bytes-n c =
     let l = c.args.bytes.now in
     rw (take_all c.args.n l (omega arith)) (puts_two (9 ∷ []) l max_bytes c.requires.1 c.requires.0 c.put_bytes-p.ensures c.put_bytes.ensures)
-
-pub slice-aggregate-put-bytes-2 : goal.slice-aggregate-put-bytes-2
-slice-aggregate-put-bytes-2 c = sym (length-take-le _ _ (omega arith))
 
 pub returns : goal.returns
 returns c =
