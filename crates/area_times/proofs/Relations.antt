@@ -14,7 +14,7 @@ use Rattle.area_times.specs.Times.{end_bytes, times_bytes}
 
 -- that an open end lies in the range, `includes_range` says
 pub record EndAs (r : TimeRange) (opens added : Bool) (tag : ℕ) (end : RangeEnd) (e : List ℕ) : Type 0 where
-  pub is_open_lem : is_open end ≡ opens
+  pub open_is : is_open end ≡ opens
   pub near : (end_difference r end).added ≡ added
   pub tagged : min_tag end_tag_width (end_difference r end).difference ≡ tag
   pub inside : opens ≡ false → bounds r (end_value end) ≡ true

@@ -1,5 +1,5 @@
 -- The laws of an area's times against the reference's.
-use Rattle.codec.proofs.Prelude.{◌≡◌, refl, sym, ap, ◌∙◌, List, Bool, true, false, ◌&&◌, ◌||◌, not, true≢false, false≢true, ℕ, arith, leb, eqb, le-leb, eqb-true}
+use Rattle.codec.proofs.Prelude.{◌≡◌, refl, sym, List, Bool, true, false, ◌&&◌, ◌||◌, not, true≢false, false≢true, ℕ, arith, leb, eqb, le-leb, eqb-true}
 use Rattle.codec.specs.Reader.{give, and_then, mapped}
 use Rattle.codec.specs.Reads.{Reads, Relaxes, Bounded}
 use Rattle.codec.proofs.Relations.{Given, Tested, Mapped, Chosen}
@@ -52,7 +52,7 @@ module _ (r : TimeRange) (added : Bool) (tag : ℕ) where
   end_there : (opens : Bool) → (opens ≡ true → (added ≡ false) × (tag ≡ 0)) → (end : RangeEnd) (e : List ℕ) → EndRel opens end e → EndAs r opens added tag end e
   unfolding EndRel min_tag
   end_there true q end e j = rw (← j.1.0, j.1.1) (record {
-    is_open_lem = refl;
+    open_is = refl;
     near = sym (q refl).0;
     tagged = sym (q refl).1;
     inside = λ f. absurd (true≢false f);
@@ -60,13 +60,13 @@ module _ (r : TimeRange) (added : Bool) (tag : ℕ) where
   })
   end_there false q end e m =
       let t = m.stands in
-      rw (← m.named) (record { is_open_lem = refl; near = t.near; tagged = t.tagged; inside = λ f. t.inside; bytes = t.bytes })
+      rw (← m.named) (record { open_is = refl; near = t.near; tagged = t.tagged; inside = λ f. t.inside; bytes = t.bytes })
 
   end_back : (opens : Bool) (end : RangeEnd) (e : List ℕ) → EndAs r opens added tag end e → EndRel opens end e
   unfolding EndRel
   end_back true Open e a = (rw (← a.near), (refl, a.bytes))
-  end_back true (Closed x) e a = absurd (false≢true a.is_open)
-  end_back false Open e a = absurd (true≢false a.is_open)
+  end_back true (Closed x) e a = absurd (false≢true a.open_is)
+  end_back false Open e a = absurd (true≢false a.open_is)
   end_back false (Closed x) e a = record { value = x; named = refl; stands = record { inside = a.inside refl; near = a.near; tagged = a.tagged; bytes = a.bytes } }
 
 module _ (r : TimeRange) (h : AreaHeader) where
@@ -135,19 +135,19 @@ module _ (r : TimeRange) (h : AreaHeader) where
       (λ t e j. let s = j.1.start in let n = j.1.end in record {
         start_added = s.near;
         start_tag = s.tagged;
-        end_open = n.is_open;
+        end_open = n.open_is;
         end_added = n.near;
         end_tag = n.tagged;
         included = j.0;
         start = s.inside;
-        end = end_inside r t ty j.0 h.end_open n.is_open n.inside;
+        end = end_inside r t ty j.0 h.end_open n.open_is n.inside;
         bytes = j.1.bytes;
       })
       (λ t e a. (
         a.included,
         record {
           start = record { inside = a.start; near = a.start_added; tagged = a.start_tag; bytes = refl };
-          end = record { is_open_lem = a.end_open; near = a.end_added; tagged = a.end_tag; inside = λ f. a.end; bytes = refl };
+          end = record { open_is = a.end_open; near = a.end_added; tagged = a.end_tag; inside = λ f. a.end; bytes = refl };
           bytes = a.bytes;
         },
       ))

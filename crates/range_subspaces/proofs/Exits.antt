@@ -1,6 +1,5 @@
 -- What the definitions say at each exit of the code.
-use Rattle.codec.proofs.Prelude.{◌≡◌, refl, List, [], ◌∷◌, ◌++◌, append-nil, true, false, ⊎_elim, none, some, ℕ, ◌+◌, ◌≤◌, add-zero, arith, OneOf, length, drop, length-append}
-use denote.Enum.Declared as declared
+use Rattle.codec.proofs.Prelude.{◌≡◌, refl, List, [], ◌++◌, append-nil, true, false, none, some, ℕ, ◌+◌, ◌≤◌, add-zero, arith, length, drop, length-append}
 use Rattle.codec.specs.Answers.{accepted, refused}
 use Rattle.codec.specs.Reader.{some_bytes, mapped}
 use Rattle.range_3d.specs.Range3d.{Range}

@@ -5,7 +5,6 @@ use Rattle.path.specs.Flat.{path_in}
 use Rattle.path_text.specs.PathText.{path_text_of}
 use Rattle.path_text.proofs.Back.{path_text_laws}
 use Rattle.area_text.specs.AreaText.{subspace_text, end_text}
-use Rattle.grouping.proofs.Typed.{typed_id}
 use Rattle.case_text.specs.Texts.{after_tab}
 use Rattle.case_text.proofs.Puts.{puts_tab, puts_fits}
 use Rattle.area_text.proofs.Short.{subspace_few, end_few}
@@ -18,7 +17,7 @@ returns c =
     let p = path_text_of (path_in c.args.path.now) in
     let d = decimal_text a.times.start in
     let e = end_text a.times.end in
-    let sf = subspace_few a.subspace (typed_id a.subspace c.type_inv.0.1.1.0).0 in
+    let sf = subspace_few a.subspace (omega arith) in
     let pf = path_text_laws.path_few (path_in c.args.path.now) in
     let df = decimal_few a.times.start in
     let ef = end_few a.times.end in

@@ -7,7 +7,7 @@ use Rattle.area_text.specs.AreaText.{area_field, field_area}
 use Rattle.case_areas.proofs.write.Goals as goal
 
 pub returns-then-not-value : goal.returns-then-not-value
-returns-then-not-value c = says_not area_field 6 _ (value_text (against_area (field_area c.args.t4)) c.args.output c.args.t6) c.read_area-value.ensures.0 (search) search
+returns-then-not-value c = says_not area_field 6 _ (value_text (against_area (field_area c.args.reference)) c.args.output c.args.buffer) c.read_area-value.ensures.0 (search) search
 
 pub slice_bounds-buffer-end : goal.slice_bounds-buffer-end
 slice_bounds-buffer-end c = lent_inside c.requires c.in-Buffer.is
@@ -16,6 +16,6 @@ pub slice_bounds-relative_encode-end : goal.slice_bounds-relative_encode-end
 slice_bounds-relative_encode-end c = sym (length-take-le _ _ (lent_inside c.requires c.in-Buffer.is))
 
 pub returns : goal.returns
-returns c = ⊎_elim (λ w. value_written area_field (against_area (field_area c.args.t4)) 6 _ c.args.t6 c.read_area-value.ensures.0 c.if-not-value.false w.1.given.1 (lent_inside c.requires w.1.given.1)
+returns c = ⊎_elim (λ w. value_written area_field (against_area (field_area c.args.reference)) 6 _ c.args.buffer c.read_area-value.ensures.0 c.if-not-value.false w.1.given.1 (lent_inside c.requires w.1.given.1)
     (w.12.ensures.answer, w.12.ensures.buffer) w.12.kept.0 w.14 w.15 w.16 search)
-    (λ w. value_measured area_field (against_area (field_area c.args.t4)) 6 _ c.args.t6 c.read_area-value.ensures.0 c.if-not-value.false w.1.given.1 w.10.ensures w.11 w.12 w.13 search) c.match-output.came
+    (λ w. value_measured area_field (against_area (field_area c.args.reference)) 6 _ c.args.buffer c.read_area-value.ensures.0 c.if-not-value.false w.1.given.1 w.10.ensures w.11 w.12 w.13 search) c.match-output.came

@@ -30,7 +30,7 @@ left line {n = n} {a} s e s' e' asks =
 pub returns-then-not-first : goal.returns-then-not-first
 returns-then-not-first c =
     let namespace : Says (id_field 2 c.args.line.now) c.read_id-first.result.ok c.read_id-first.result.id = field_says read_id_text (λ r. c.ok) (λ r. c.id) 2 c.args.line.now c.part.ensures c.read_id-first.ensures _ refl in
-    says_not id_field 2 _ (on_namespace c.args.line.now) namespace (search) search
+    says_not id_field 2 _ (on_namespace c.args.line.now) namespace search
 
 pub returns-then-not-area : goal.returns-then-not-area
 returns-then-not-area c =
@@ -49,9 +49,9 @@ pub write-requires : goal.write-requires
 write-requires c = value_inside c.asked-asked.ensures c.in-Value.is
 
 pub returns-in-Read : goal.returns-in-Read
-returns-in-Read c = let e = a.before in let r = e.before.before in let s =
+returns-in-Read c =
     let namespace : Says (id_field 2 c.args.line.now) c.read_id-first.result.ok c.read_id-first.result.id = field_says read_id_text (λ r. c.ok) (λ r. c.id) 2 c.args.line.now c.part.ensures c.read_id-first.ensures _ refl in
-    r.before.before.before.before in
+    let e = a.before in let r = e.before.before in let s = r.before.before.before.before in
     left_read (left s.args.line.now (namespace r) e.if1.left c.read_area-area.ensures.0 c.if-not-area.false c.asked-asked.ensures) c.in-Read.is
     (printed entry_text c.relative_decode-read.result.answer (entry_with c.relative_decode-read.result.fields (path_in _)) c.relative_decode-read.ensures.answer (puts_first c.print_entry-k.ensures) c.value.ensures)
 

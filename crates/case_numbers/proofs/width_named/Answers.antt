@@ -1,4 +1,4 @@
-use Rattle.codec.proofs.Prelude.{ne_eqb}
+use Rattle.codec.proofs.Prelude.{arith, ne_eqb}
 use Rattle.case_numbers.specs.Lines.{on_width}
 use Rattle.case_numbers.proofs.width_named.Goals as goal
 
@@ -34,13 +34,12 @@ pub returns-in_default : goal.returns-in_default
 unfolding on_width
 returns-in_default c k =
     let n = c.args.digit in
-    let no = c.in_default.rest in
     rw (
-      ne_eqb n 50 no.0.0.0.0.0.0.1,
-      ne_eqb n 51 no.0.0.0.0.0.1,
-      ne_eqb n 52 no.0.0.0.0.1,
-      ne_eqb n 53 no.0.0.0.1,
-      ne_eqb n 54 no.0.0.1,
-      ne_eqb n 55 no.0.1,
-      ne_eqb n 56 no.1,
+      ne_eqb n 50 (λ e. omega arith),
+      ne_eqb n 51 (λ e. omega arith),
+      ne_eqb n 52 (λ e. omega arith),
+      ne_eqb n 53 (λ e. omega arith),
+      ne_eqb n 54 (λ e. omega arith),
+      ne_eqb n 55 (λ e. omega arith),
+      ne_eqb n 56 (λ e. omega arith),
     )

@@ -11,8 +11,8 @@ pub slice_bounds-relative_encode-end : goal.slice_bounds-relative_encode-end
 slice_bounds-relative_encode-end c = sym (length-take-le _ _ (lent_inside c.requires c.in-Buffer.is))
 
 pub returns-in-Buffer : goal.returns-in-Buffer
-returns-in-Buffer c = number_written (bits c.args.width) c.args.v c.args.t6 c.in-Buffer.is (lent_inside c.requires c.in-Buffer.is) c.min_tag-tag.ensures c.relative_encode-answer.ensures
+returns-in-Buffer c = number_written (bits c.args.width) c.args.v c.args.buffer c.in-Buffer.is (lent_inside c.requires c.in-Buffer.is) c.min_tag-tag.ensures c.relative_encode-answer.ensures
     c.relative_encode-answer.auto.buffer search
 
 pub returns-in-Length : goal.returns-in-Length
-returns-in-Length c = number_measured (bits c.args.width) c.args.v c.args.t6 c.in-Length.is c.relative_len_of_encoding.ensures.0 search
+returns-in-Length c = number_measured (bits c.args.width) c.args.v c.args.buffer c.in-Length.is c.relative_len_of_encoding.ensures.0 search

@@ -27,3 +27,13 @@ slice_bounds-decode-end c = sym (length-take-le _ _ (read_inside c.asked-asked.e
 
 pub write-requires : goal.write-requires
 write-requires c = value_inside c.asked-asked.ensures c.in-Value.is
+
+pub returns-in-Read : goal.returns-in-Read
+returns-in-Read c = left_read (left c.args.encoding (path_in c.args.reference.flat) c.args.i c.args.line.now c.asked-asked.ensures) c.in-Read.is
+    (printed path_text_of c.decode-answer.result (path_in _) c.decode-answer.ensures.answer c.print-k.ensures search)
+
+pub returns-in-Value : goal.returns-in-Value
+returns-in-Value c = left_value (left c.args.encoding (path_in c.args.reference.flat) c.args.i c.args.line.now c.asked-asked.ensures) c.in-Value.is search
+
+pub returns-in-Refused : goal.returns-in-Refused
+returns-in-Refused c = left_refused (left c.args.encoding (path_in c.args.reference.flat) c.args.i c.args.line.now c.asked-asked.ensures) c.in-Refused.is search

@@ -7,6 +7,9 @@ use Rattle.case_text.proofs.Ways.{says_not, value_written, value_measured}
 use Rattle.case_paths.specs.Lines.{encoding_format}
 use Rattle.case_paths.proofs.write.Goals as goal
 
+pub returns-in_default : goal.returns-in_default
+returns-in_default c = says_not path_field c.args.i _ (value_text (encoding_format c.args.encoding (path_in c.args.reference.flat)) c.args.output c.args.buffer) (path_says_no _ _ {x = c.path-field.result} (search) c.path-field.ensures) refl search
+
 pub slice_bounds-buffer-end : goal.slice_bounds-buffer-end
 slice_bounds-buffer-end c = lent_inside c.requires c.in-Buffer.is
 

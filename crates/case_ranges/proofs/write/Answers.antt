@@ -7,7 +7,7 @@ use Rattle.case_text.proofs.Ways.{says_not, value_written, value_measured}
 use Rattle.case_ranges.proofs.write.Goals as goal
 
 pub returns-then-not-value : goal.returns-then-not-value
-returns-then-not-value c = says_not range_field 8 _ (value_text (against_range (range_said c.args.t4)) c.args.output c.args.t6) c.read_range-value.ensures.0 (search) search
+returns-then-not-value c = says_not range_field 8 _ (value_text (against_range (range_said c.args.reference)) c.args.output c.args.buffer) c.read_range-value.ensures.0 (search) search
 
 pub slice_bounds-buffer-end : goal.slice_bounds-buffer-end
 slice_bounds-buffer-end c = lent_inside c.requires c.in-Buffer.is
@@ -16,6 +16,6 @@ pub slice_bounds-relative_encode-end : goal.slice_bounds-relative_encode-end
 slice_bounds-relative_encode-end c = sym (length-take-le _ _ (lent_inside c.requires c.in-Buffer.is))
 
 pub returns : goal.returns
-returns c = ⊎_elim (λ w. value_written range_field (against_range (range_said c.args.t4)) 8 _ c.args.t6 c.read_range-value.ensures.0 c.if-not-value.false w.1.given.1 (lent_inside c.requires w.1.given.1)
+returns c = ⊎_elim (λ w. value_written range_field (against_range (range_said c.args.reference)) 8 _ c.args.buffer c.read_range-value.ensures.0 c.if-not-value.false w.1.given.1 (lent_inside c.requires w.1.given.1)
     (w.16.ensures.answer, w.16.ensures.buffer) w.16.kept.0 w.18 w.19 w.20 search)
-    (λ w. value_measured range_field (against_range (range_said c.args.t4)) 8 _ c.args.t6 c.read_range-value.ensures.0 c.if-not-value.false w.1.given.1 w.14.ensures w.15 w.16 w.17 search) c.match-output.came
+    (λ w. value_measured range_field (against_range (range_said c.args.reference)) 8 _ c.args.buffer c.read_range-value.ensures.0 c.if-not-value.false w.1.given.1 w.14.ensures w.15 w.16 w.17 search) c.match-output.came

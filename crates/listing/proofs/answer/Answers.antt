@@ -13,24 +13,24 @@ returns-then-line-gt-MAX_LINE c = within_same (long_refused c.args.line.now (ome
 pub returns-in-Strict : goal.returns-in-Strict
 returns-in-Strict c =
     let told : (x : Op) → c.op-op.result ≡ x → let line = c.args.line.now in answer_to line ≡ ended (mode_line x line) = λ x e. mode_told c.args.line.now (omega arith) c.part.ensures c.op-op.ensures e in
-    within_same (told (search) op.Strict (search)) search
+    within_same (told op.Strict (search)) search
 
 pub returns-in-Lenient : goal.returns-in-Lenient
 returns-in-Lenient c =
     let told : (x : Op) → c.op-op.result ≡ x → let line = c.args.line.now in answer_to line ≡ ended (mode_line x line) = λ x e. mode_told c.args.line.now (omega arith) c.part.ensures c.op-op.ensures e in
-    within_same (told (search) op.Lenient (search)) search
+    within_same (told op.Lenient (search)) search
 
 pub returns-in-Write : goal.returns-in-Write
 returns-in-Write c =
     let told : (x : Op) → c.op-op.result ≡ x → let line = c.args.line.now in answer_to line ≡ ended (mode_line x line) = λ x e. mode_told c.args.line.now (omega arith) c.part.ensures c.op-op.ensures e in
-    within_same (told (search) op.Write (search)) search
+    within_same (told op.Write (search)) search
 
 pub returns-in-Length : goal.returns-in-Length
 returns-in-Length c =
     let told : (x : Op) → c.op-op.result ≡ x → let line = c.args.line.now in answer_to line ≡ ended (mode_line x line) = λ x e. mode_told c.args.line.now (omega arith) c.part.ensures c.op-op.ensures e in
-    within_same (told (search) op.Length (search)) search
+    within_same (told op.Length (search)) search
 
 pub returns-in-Unknown : goal.returns-in-Unknown
 returns-in-Unknown c =
     let told : (x : Op) → c.op-op.result ≡ x → let line = c.args.line.now in answer_to line ≡ ended (mode_line x line) = λ x e. mode_told c.args.line.now (omega arith) c.part.ensures c.op-op.ensures e in
-    within_same (told (search) op.Unknown (search)) search
+    within_same (told op.Unknown (search)) search

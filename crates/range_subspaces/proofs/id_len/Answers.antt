@@ -14,4 +14,4 @@ pub returns : goal.returns
 returns c =
     let a = c.args in
     let e = id_bytes_lem (subspaces_of a.reference) a.id (ap is_written (sym c.source-told.ensures ∙ c.in-Written.is)) in
-    (sym (ap length e ∙ c.type_inv.0.1.0.1), omega arith)
+    (sym (ap length e ∙ c.well_formed.0.1.0.1), omega arith)

@@ -9,12 +9,12 @@ use Rattle.range_subspaces.proofs.put_id.Goals as goal
 pub returns-in_default : goal.returns-in_default
 returns-in_default c =
     let a = c.args in
-    let e = no_bytes (subspaces_of a.reference) a.t2 (ap is_written (sym c.source-told.ensures) ∙ not_written c.source-told.result c.in_default.not-Written) in
+    let e = no_bytes (subspaces_of a.reference) a.id (ap is_written (sym c.source-told.ensures) ∙ not_written c.source-told.result c.in_default.not-Written) in
     (sym (ap length e), rw e)
 
 pub returns : goal.returns
 returns c =
     let a = c.args in
     let l = a.buffer.now in
-    let e = id_bytes_lem (subspaces_of a.reference) a.t2 (ap is_written (sym c.source-told.ensures ∙ c.in-Written.is)) in
-    (sym (ap length e ∙ c.type_inv.1.0.1.0.1), c.put_bytes.ensures.1 ∙ put_over a.t2 l (omega (arith, c.requires, ap length e)) ∙ ap (λ (bs : List ℕ). over bs l) (sym e))
+    let e = id_bytes_lem (subspaces_of a.reference) a.id (ap is_written (sym c.source-told.ensures ∙ c.in-Written.is)) in
+    (sym (ap length e ∙ c.well_formed.1.0.1.0.1), c.put_bytes.ensures.1 ∙ put_over a.id l (omega (arith, c.requires, ap length e)) ∙ ap (λ (bs : List ℕ). over bs l) (sym e))

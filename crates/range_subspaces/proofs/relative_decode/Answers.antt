@@ -42,7 +42,7 @@ pub returns-in_default-second_answer : goal.returns-in_default-second_answer
 returns-in_default-second_answer c =
     let start_is : let a = c.args in read_id (subspaces_of a.reference) a.sources.start a.message.now ≡ accepted c.decode_id-first.result.id c.in-Consumed.a = sym c.decode_id-first.ensures ∙ ap (λ (d : Decoded). answer_of d c.decode_id-first.result.id) c.in-Consumed.is in
     let a = c.args in
-    let x = no_value c.decode_id-second.result.answer c.in_default-second_answer.not-Consumed-second_answer in
+    let x = no_value c.decode_id-second.result.answer c.in_default-second_answer.not-Consumed in
     let e = rw (to_end c.in-Consumed.a a.message.now) at (sym c.decode_id-second.ensures ∙ x.beside _) in
     rw (c.refuse-in_default-second_answer.ensures.0, c.refuse-in_default-second_answer.ensures.1)
     (gives_refused x.why (x.beside no_subspaces)

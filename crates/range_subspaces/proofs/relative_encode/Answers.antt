@@ -84,7 +84,7 @@ returns c =
     let fits = put_fits allowed (subspaces_bytes (subspaces_of a.reference) (subspaces_of a.subspaces)) l refl
     c.relative_len_of_encoding-n.result c.relative_len_of_encoding-n.ensures.0
     (omega (arith, c.if-buffer-n.false)) in
-    let rest = rw (to_end p.result p.last.0) at q.ensures.1 in (
+    let rest = rw (to_end p.result p.new.buffer) at q.ensures.1 in (
       fits.0,
-      put_end p.result p.last.0 q.new.0 ∙ rw (rest, p.ensures.1, p.ensures.0) (over_then l x y) ∙ ap (λ (bs : List ℕ). over bs l) (sym bytes) ∙ fits.1,
+      put_end p.result p.new.buffer q.new.buffer ∙ rw (rest, p.ensures.1, p.ensures.0) (over_then l x y) ∙ ap (λ (bs : List ℕ). over bs l) (sym bytes) ∙ fits.1,
     )
