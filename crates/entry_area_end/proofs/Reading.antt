@@ -16,7 +16,6 @@ use Rattle.time_relative.specs.Difference.{difference_of, read_included}
 use Rattle.time_relative.proofs.Relations.{IncludedAs}
 use Rattle.time_relative.proofs.Included.{included_reads, included_relaxes, included_bounded}
 use Rattle.entry_area_end.specs.declared.EntryAreaHeader.{EntryAreaHeader}
-use Rattle.entry_area_end.specs.declared.End.{End}
 use Rattle.entry_area_end.specs.Header.{time_tag_width, length_tag_width}
 use Rattle.entry_area_end.specs.End.{end_of, end_from, read_after_path}
 use Rattle.entry_area_end.proofs.Relations.{EndAs}

@@ -14,9 +14,9 @@ use Rattle.grouping.specs.Range.{times_from}
 
 -- ---- reading
 module _ (r : TimeRange) (end_open : Bool) (h : RangeTimesHeader) (s : List ℕ) where
-  pub end_open : end_open ≡ true → read_end r end_open h s ≡ accepted Open 0
+  pub end_is_open : end_open ≡ true → read_end r end_open h s ≡ accepted Open 0
   unfolding read_end
-  end_open o = rw o
+  end_is_open o = rw o
 
   pub end_closed : end_open ≡ false → read_end r end_open h s ≡ named Closed (read_from end_tag_width (side_of r h.end_from_start) h.end_added h.end_tag s)
   unfolding read_end

@@ -8,6 +8,7 @@ use Rattle.area_times.specs.declared.AreaHeader.{AreaHeader}
 use Rattle.area_times.specs.Header.{header_length, unpack_header, spare_bits}
 use Rattle.area_area.proofs.DecodeExits.{reads_refused, area_malformed, tested_none, tested_spare, tested_parts}
 use Rattle.area_area_decode.proofs.relative_decode.Goals as goal
+use Rattle.area_area_decode.proofs.relative_decode.Goals.{then-canonic+else-spare, else-canonic}
 
 pub returns-then-not-well : goal.returns-then-not-well
 returns-then-not-well c =
@@ -45,9 +46,9 @@ returns c =
     let reference : Area = area_with c.args.reference (path_in c.args.reference_path.now) in
     let well : well_formed_area reference ≡ true = sym c.well_formed-well.ensures ∙ c.if-not-well.false in
     let header_here : AreaHeader = let a = c.args in unpack_header (get_or a.message.now a.start 0) in
-    let unspared : c.args.canonic ≡ true → spare_bits header_here ≡ false = λ k. ⊎_elim
-    (λ w. rw c.unpack-header.ensures at (sym w.1.ensures ∙ w.2.left))
-    (λ w. let z : true ≡ false = sym k ∙ w.left in cc)
-    c.if-canonic.branch in
+    let unspared : c.args.canonic ≡ true → spare_bits header_here ≡ false = λ k. elim c.if-canonic.branch [
+      then-canonic+else-spare w ↦ rw c.unpack-header.ensures at (sym w.spare_bits-spare.ensures ∙ w.if-spare.false)
+      | else-canonic w ↦ (let z : true ≡ false = sym k ∙ w.if-canonic.false in cc)
+    ] in
     rw (tested_parts c.args.canonic reference well c.args.message.now c.args.start (omega (arith, c.if-message-start.false)) unspared)
     (rw (c.unpack-header.ensures, to_end (c.args.start + header_length) c.args.message.now) at c.decode_parts.ensures)

@@ -1,9 +1,8 @@
-use Rattle.codec.proofs.Prelude.{length, length-append, ◌≡◌, arith, ◌++◌, rules}
+use Rattle.codec.proofs.Prelude.{length, length-append, ◌≡◌, arith, ◌++◌}
 use Rattle.text.specs.Hex.{hex_text}
 use Rattle.text.proofs.HexSteps.{hex_text_long}
 use Rattle.path.specs.Flat.{path_in}
 use Rattle.entry.specs.Record.{entry_with}
-use Rattle.entry.proofs.Typed.{namespace_long, subspace_long, digest_long}
 use Rattle.case_text.specs.Limits.{max_bytes}
 use Rattle.case_text.specs.Texts.{after_tab}
 use Rattle.text.specs.Decimal.{decimal_text}
@@ -12,10 +11,6 @@ use Rattle.case_text.proofs.Puts.{puts_tab}
 use Rattle.case_entry_text.specs.Fields.{names_text}
 use Rattle.case_entry_text.proofs.Printed.{names_few}
 use Rattle.case_entry_text.proofs.print_entry.Goals as goal
-
-pub slice_bounds-put_hex-end-2 : goal.slice_bounds-put_hex-end-2
-slice_bounds-put_hex-end-2 c =
-    search (rules, digest_long c.args.fields c.type_inv.0)
 
 pub returns : goal.returns
 returns c =
@@ -27,11 +22,10 @@ returns c =
     let d = decimal_text a.timestamp in
     let z = decimal_text a.payload_length in
     let h = hex_text a.payload_digest in
-    let xf = names_few a (namespace_long f c.type_inv.0) (subspace_long f c.type_inv.0) in
+    let xf = names_few a (omega arith) (omega arith) in
     let df = decimal_few a.timestamp in
     let zf = decimal_few a.payload_length in
     let hl = hex_text_long a.payload_digest in
-    let ht = digest_long f c.type_inv.0 in
     let xd = length-append x (after_tab d) in
     let xdz = length-append (x ++ after_tab d) (after_tab z) in
     puts_tab

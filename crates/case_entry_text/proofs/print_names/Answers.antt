@@ -4,7 +4,6 @@ use Rattle.text.proofs.HexSteps.{hex_text_long}
 use Rattle.path_text.specs.PathText.{path_text_of}
 use Rattle.path_text.proofs.Back.{path_text_laws}
 use Rattle.path.specs.Flat.{path_in}
-use Rattle.entry.proofs.Typed.{namespace_long, subspace_long}
 use Rattle.case_text.specs.Texts.{after_tab}
 use Rattle.case_text.proofs.Puts.{puts_fits, puts_tab}
 use Rattle.case_entry_text.proofs.print_names.Goals as goal
@@ -18,8 +17,6 @@ returns c =
     let p = path_text_of q in
     let nl = hex_text_long a.namespace_id in
     let sl = hex_text_long a.subspace_id in
-    let nt = namespace_long a c.type_inv.0 in
-    let st = subspace_long a c.type_inv.0 in
     let pf = path_text_laws.path_few q in
     let ns = length-append n (after_tab s) in (
       puts_tab

@@ -52,23 +52,23 @@ returns-in_default c = rw c.no_entry-in_default.ensures (no_time _ _ c.read_name
 pub returns-in_default-fifth : goal.returns-in_default-fifth
 unfolding no_entry
 returns-in_default-fifth c = rw c.no_entry-in_default-fifth.ensures (
-      no_size _ _ c.read_names-first.ensures (search) c.read_decimal-fourth.ensures (search) c.in-Value.is {x3 = c.read_decimal-fifth.result} c.read_decimal-fifth.ensures (search) _
-          (search),
-      refl,
-    )
+  no_size _ _ c.read_names-first.ensures (search) c.read_decimal-fourth.ensures (search) c.in-Value.is {x3 = c.read_decimal-fifth.result} c.read_decimal-fifth.ensures (search) _
+      (search),
+  refl,
+)
 
 pub returns-then-not-sixth : goal.returns-then-not-sixth
 unfolding no_entry
 returns-then-not-sixth c = rw c.no_entry-then-not-sixth.ensures (
-      no_digest _ _ c.read_names-first.ensures (search) c.read_decimal-fourth.ensures (search) c.in-Value.is c.read_decimal-fifth.ensures (search)
-          c.in-Value-fifth.is c.read_id-sixth.ensures (search) _ (search),
-      refl,
-    )
+  no_digest _ _ c.read_names-first.ensures (search) c.read_decimal-fourth.ensures (search) c.in-Value.is c.read_decimal-fifth.ensures (search)
+      c.in-Value-fifth.is c.read_id-sixth.ensures (search) _ (search),
+  refl,
+)
 
 pub returns : goal.returns
 unfolding no_entry
 returns c = (
-      all_read _ _ c.read_names-first.ensures (search) c.read_decimal-fourth.ensures (search) c.in-Value.is c.read_decimal-fifth.ensures (search) c.in-Value-fifth.is
-          c.read_id-sixth.ensures (search) c.if-not-sixth.false,
-      refl,
-    )
+  all_read _ _ c.read_names-first.ensures (search) c.read_decimal-fourth.ensures (search) c.in-Value.is c.read_decimal-fifth.ensures (search) c.in-Value-fifth.is
+      c.read_id-sixth.ensures (search) c.if-not-sixth.false,
+  refl,
+)

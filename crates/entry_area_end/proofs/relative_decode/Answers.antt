@@ -22,7 +22,7 @@ returns-in_default-second c =
     let first_is : let a = c.args in first_read a.canonic a.times a.header a.message.now ≡ accepted c.in-Value.time c.in-Value.a = sym c.decode_included-first.ensures ∙ ap number_answer c.in-Value.is in
     let call = c.relative_decode-second in
     let a = c.args in
-    let x = refused_number call.result c.in_default-second.not-Value-second in
+    let x = refused_number call.result c.in_default-second.not-Value in
     rw (c.refuse-in_default-second.ensures.0, c.refuse-in_default-second.ensures.1)
     (gives_refused x.why (x.whole no_end c.unvalued-in_default-second.result c.unvalued-in_default-second.ensures)
     (end_second a.canonic a.times a.header a.message.now _ _ first_is x.why (sym call.ensures ∙ x.number)))

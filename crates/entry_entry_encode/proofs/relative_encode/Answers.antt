@@ -53,7 +53,7 @@ returns-then-buffer-len c =
     sym (path_check reference entry) ∙ sym (shared_against reference.path entry.path _ k).0 ∙ rest_allowed reference.path entry.path _ k in
     let path_is : c.in-Length.n ≡ length ((against_path reference.path).encode entry.path) = (length_wrote (shared_by sized c.in-Components.k) entry.path _ (sym c.shared_len-shared.ensures ∙ ap outcome_of c.in-Length.is)).1
     ∙ ap length (shared_against reference.path entry.path c.in-Components.k shared_of).1 in
-    let long : c.entry_len-len.result ≡ length ((against_entry reference).encode entry) = c.entry_len-len.ensures ∙ entry_long reference entry _ path_is (digest_long c.args.fields c.type_inv.1.0) in
+    let long : c.entry_len-len.result ≡ length ((against_entry reference).encode entry) = c.entry_len-len.ensures ∙ entry_long reference entry _ path_is (digest_long c.args.fields c.well_formed.1.0) in
     writes_into (put_full ((against_entry reference).check entry) ((against_entry reference).encode entry) c.args.buffer.now valid _ long c.if-buffer-len.true)
 
 pub put_entry-requires : goal.put_entry-requires
@@ -63,7 +63,7 @@ put_entry-requires c =
     let shared_of : let r = reference.path in let p = entry.path in said c.in-Components.k ≡ said_if (well_formed r && well_formed p) (shared (components_of r) (components_of p)) = sym (ap count_answer c.in-Components.is) ∙ c.longest_common_prefix-common.ensures in
     let path_is : c.in-Length.n ≡ length ((against_path reference.path).encode entry.path) = (length_wrote (shared_by sized c.in-Components.k) entry.path _ (sym c.shared_len-shared.ensures ∙ ap outcome_of c.in-Length.is)).1
     ∙ ap length (shared_against reference.path entry.path c.in-Components.k shared_of).1 in
-    let long : c.entry_len-len.result ≡ length ((against_entry reference).encode entry) = c.entry_len-len.ensures ∙ entry_long reference entry _ path_is (digest_long c.args.fields c.type_inv.1.0) in
+    let long : c.entry_len-len.result ≡ length ((against_entry reference).encode entry) = c.entry_len-len.ensures ∙ entry_long reference entry _ path_is (digest_long c.args.fields c.well_formed.1.0) in
     let same = (shared_against reference.path entry.path c.in-Components.k shared_of).1 in (
       rest_allowed reference.path entry.path c.in-Components.k shared_of,
       omega
@@ -79,7 +79,7 @@ returns c =
     sym (path_check reference entry) ∙ sym (shared_against reference.path entry.path _ k).0 ∙ rest_allowed reference.path entry.path _ k in
     let path_is : c.in-Length.n ≡ length ((against_path reference.path).encode entry.path) = (length_wrote (shared_by sized c.in-Components.k) entry.path _ (sym c.shared_len-shared.ensures ∙ ap outcome_of c.in-Length.is)).1
     ∙ ap length (shared_against reference.path entry.path c.in-Components.k shared_of).1 in
-    let long : c.entry_len-len.result ≡ length ((against_entry reference).encode entry) = c.entry_len-len.ensures ∙ entry_long reference entry _ path_is (digest_long c.args.fields c.type_inv.1.0) in
+    let long : c.entry_len-len.result ≡ length ((against_entry reference).encode entry) = c.entry_len-len.ensures ∙ entry_long reference entry _ path_is (digest_long c.args.fields c.well_formed.1.0) in
     let l = c.args.buffer.now in
     let same = (shared_against reference.path entry.path _ shared_of).1 in
     let put = put_fits ((against_entry reference).check entry) ((against_entry reference).encode entry) l valid _ long c.if-buffer-len.false in

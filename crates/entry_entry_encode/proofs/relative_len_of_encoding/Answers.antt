@@ -33,4 +33,4 @@ returns c =
     let path_is : ((against_entry reference).check entry ≡ allowed) × (c.in-Length.n ≡ length ((against_path reference.path).encode entry.path)) = let l = length_wrote (against_path reference.path) entry.path _ (sym c.relative_len_of_encoding-len.ensures ∙ ap outcome_of c.in-Length.is) in
     (sym (path_check reference entry) ∙ l.0, l.1) in
     let p = path_is in
-    length_allowed (against_entry reference) entry _ p.0 (c.entry_len.ensures ∙ entry_long reference entry _ p.1 (digest_long c.args.fields c.type_inv.0))
+    length_allowed (against_entry reference) entry _ p.0 (c.entry_len.ensures ∙ entry_long reference entry _ p.1 (digest_long c.args.fields c.well_formed.0))

@@ -22,7 +22,7 @@ pub returns-in_default-second : goal.returns-in_default-second
 returns-in_default-second c =
     let time_is : let a = c.args in read_from time_tag_width (Closed a.reference) a.header.time_added a.header.time_tag a.message.now ≡ accepted c.in-Value.time c.in-Value.a = sym c.relative_decode-first.ensures ∙ ap number_answer c.in-Value.is in
     let a = c.args in
-    let x = refused_number c.relative_decode-second.result c.in_default-second.not-Value-second in
+    let x = refused_number c.relative_decode-second.result c.in_default-second.not-Value in
     rw (c.refuse-in_default-second.ensures.0, c.refuse-in_default-second.ensures.1)
     (gives_refused x.why (x.whole no_numbers c.unvalued-in_default-second.result c.unvalued-in_default-second.ensures)
     (numbers_second a.reference a.header a.message.now _ _ time_is x.why (sym c.relative_decode-second.ensures ∙ x.number)))

@@ -1,4 +1,3 @@
-use Rattle.codec.proofs.Prelude.{ne_eqb}
 use Rattle.range_header.proofs.source_from.Goals as goal
 
 pub returns-in-0 : goal.returns-in-0
@@ -9,9 +8,3 @@ returns-in-1 c = rw c.in-1.is
 
 pub returns-in-2 : goal.returns-in-2
 returns-in-2 c = rw c.in-2.is
-
-pub returns-in_default : goal.returns-in_default
-returns-in_default c =
-    let n = c.args.bits in
-    let no = c.in_default.rest in
-    rw (ne_eqb n 0 no.0.0.1, ne_eqb n 1 no.0.1, ne_eqb n 2 no.1)

@@ -1,10 +1,10 @@
 use Rattle.codec.proofs.Prelude.{drop}
 use Rattle.codec.proofs.Answers.{gives_accepted}
-use Rattle.range_times.proofs.Exits.{end_open, end_closed}
+use Rattle.range_times.proofs.Exits.{end_is_open, end_closed}
 use Rattle.range_times.proofs.decode_end.Goals as goal
 
 pub returns-then-end_open : goal.returns-then-end_open
-returns-then-end_open c = gives_accepted (end_open _ _ _ _ c.if-end_open.true)
+returns-then-end_open c = gives_accepted (end_is_open _ _ _ _ c.if-end_open.true)
 
 pub returns : goal.returns
 returns c =

@@ -11,7 +11,7 @@ returns-then-written c =
     let l = a.buffer.now in
     let id = a.subspace.id in
     let e = written_bytes a.subspace a.reference (sym c.id_written-written.ensures ∙ c.if-written.true) in
-    let long = (typed_id a.subspace c.type_inv.1.0).0 in
+    let long = (typed_id a.subspace c.well_formed.1.0).0 in
     (sym (ap length e ∙ long), c.put_bytes.ensures.1 ∙ put_over id l (omega (arith, c.requires, ap length e)) ∙ ap (λ (bs : List ℕ). over bs l) (sym e))
 
 pub returns : goal.returns

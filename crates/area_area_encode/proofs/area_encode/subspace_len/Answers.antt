@@ -7,7 +7,7 @@ pub returns-then-written : goal.returns-then-written
 returns-then-written c =
     let a = c.args in
     let e = written_bytes a.subspace a.reference (sym c.id_written-written.ensures ∙ c.if-written.true) in
-    (sym (ap length e ∙ (typed_id a.subspace c.well_formed_lem.0).0), omega arith)
+    (sym (ap length e ∙ (typed_id a.subspace c.well_formed.0).0), omega arith)
 
 pub returns : goal.returns
 returns c =

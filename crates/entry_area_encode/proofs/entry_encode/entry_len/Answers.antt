@@ -41,6 +41,6 @@ returns c =
     let h = start_of c.args.reference.times (subspace_of c.args.reference.subspace) f.subspace_id (end_in f) in
     let x = (shared_by sized c.args.k).encode path in
     let y = end_of c.args.reference.times (end_in f) in
-    let start : c.start_len-a.result ≡ length h = omega (arith, c.start_len-a.ensures.0 f.subspace_id (subspace_long f c.type_inv.0)) in
+    let start : c.start_len-a.result ≡ length h = omega (arith, c.start_len-a.ensures.0 f.subspace_id (subspace_long f c.well_formed.0)) in
     let end : c.relative_len_of_encoding.result ≡ length y = rw c.end_of-end.ensures at c.relative_len_of_encoding.ensures.0 in
     ap wrote (omega (arith, start, end, path_is.0, length-append h (x ++ y), length-append x y))

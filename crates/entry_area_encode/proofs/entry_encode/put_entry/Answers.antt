@@ -14,14 +14,14 @@ pub returns-then-buffer-a : goal.returns-then-buffer-a
 returns-then-buffer-a c =
     let head : List ℕ = start_of c.args.reference.times (subspace_of c.args.reference.subspace) c.args.fields.subspace_id (end_in c.args.fields) in
     let tail : List ℕ = tail_bytes c.args.reference.times (end_in c.args.fields) (path_in c.args.path.now) c.args.k in
-    let head_is : c.start_len-a.result ≡ length head = omega (arith, c.start_len-a.ensures.0 c.args.fields.subspace_id (subspace_long c.args.fields c.type_inv.1.0)) in
+    let head_is : c.start_len-a.result ≡ length head = omega (arith, c.start_len-a.ensures.0 c.args.fields.subspace_id (subspace_long c.args.fields c.well_formed.1.0)) in
     put_full allowed (head ++ tail) c.args.buffer.now refl _ refl (omega (arith, c.if-buffer-a.true, head_is, length-append head tail))
 
 pub returns-in_default : goal.returns-in_default
 returns-in_default c =
     let head : List ℕ = start_of c.args.reference.times (subspace_of c.args.reference.subspace) c.args.fields.subspace_id (end_in c.args.fields) in
     let tail : List ℕ = tail_bytes c.args.reference.times (end_in c.args.fields) (path_in c.args.path.now) c.args.k in
-    let head_is : c.start_len-a.result ≡ length head = omega (arith, c.start_len-a.ensures.0 c.args.fields.subspace_id (subspace_long c.args.fields c.type_inv.1.0)) in
+    let head_is : c.start_len-a.result ≡ length head = omega (arith, c.start_len-a.ensures.0 c.args.fields.subspace_id (subspace_long c.args.fields c.well_formed.1.0)) in
     let a = c.start_len-a.result in
     let l = c.args.buffer.now in
     let w = c.put_rest-rest in
@@ -34,7 +34,7 @@ returns-in_default c =
 pub put_start-requires : goal.put_start-requires
 put_start-requires c =
     let head : List ℕ = start_of c.args.reference.times (subspace_of c.args.reference.subspace) c.args.fields.subspace_id (end_in c.args.fields) in
-    let head_is : c.start_len-a.result ≡ length head = omega (arith, c.start_len-a.ensures.0 c.args.fields.subspace_id (subspace_long c.args.fields c.type_inv.1.0)) in
+    let head_is : c.start_len-a.result ≡ length head = omega (arith, c.start_len-a.ensures.0 c.args.fields.subspace_id (subspace_long c.args.fields c.well_formed.1.0)) in
     let a = c.start_len-a.result in
     omega (arith, head_is, c.if-buffer-a.false, put_end_long a c.args.buffer.now c.put_rest-rest.new.tail c.if-buffer-a.false c.put_rest-rest.auto.tail)
 
@@ -42,20 +42,20 @@ pub overflow_add-result : goal.overflow_add-result
 overflow_add-result c =
     let head : List ℕ = start_of c.args.reference.times (subspace_of c.args.reference.subspace) c.args.fields.subspace_id (end_in c.args.fields) in
     let tail : List ℕ = tail_bytes c.args.reference.times (end_in c.args.fields) (path_in c.args.path.now) c.args.k in
-    let head_is : c.start_len-a.result ≡ length head = omega (arith, c.start_len-a.ensures.0 c.args.fields.subspace_id (subspace_long c.args.fields c.type_inv.1.0)) in
+    let head_is : c.start_len-a.result ≡ length head = omega (arith, c.start_len-a.ensures.0 c.args.fields.subspace_id (subspace_long c.args.fields c.well_formed.1.0)) in
     let written : let l = c.args.buffer.now in let a = c.start_len-a.result in (wrote (a + c.in-Length.n) ≡ put_answer allowed (head ++ tail) (length l)) × (over head (take a l ++ c.put_rest-rest.new.tail) ≡ put_buffer allowed (head ++ tail) l) = let a = c.start_len-a.result in
     let l = c.args.buffer.now in
     let w = c.put_rest-rest in
     let answer = rw (to_end a l, c.end_of-end.ensures) at w.ensures.0 in
     let bytes = rw (to_end a l, c.end_of-end.ensures) at w.ensures.1 in
     rest_written head tail l a head_is c.if-buffer-a.false _ w.new.tail (sym answer ∙ ap outcome_of c.in-Length.is) bytes in
-    omega (arith, (put_wrote allowed (head ++ tail) (length c.args.buffer.now) _ (sym written.0)).fits, c.type_inv.0)
+    omega (arith, (put_wrote allowed (head ++ tail) (length c.args.buffer.now) _ (sym written.0)).fits, c.well_formed.0)
 
 pub returns : goal.returns
 returns c =
     let head : List ℕ = start_of c.args.reference.times (subspace_of c.args.reference.subspace) c.args.fields.subspace_id (end_in c.args.fields) in
     let tail : List ℕ = tail_bytes c.args.reference.times (end_in c.args.fields) (path_in c.args.path.now) c.args.k in
-    let head_is : c.start_len-a.result ≡ length head = omega (arith, c.start_len-a.ensures.0 c.args.fields.subspace_id (subspace_long c.args.fields c.type_inv.1.0)) in
+    let head_is : c.start_len-a.result ≡ length head = omega (arith, c.start_len-a.ensures.0 c.args.fields.subspace_id (subspace_long c.args.fields c.well_formed.1.0)) in
     let written : let l = c.args.buffer.now in let a = c.start_len-a.result in (wrote (a + c.in-Length.n) ≡ put_answer allowed (head ++ tail) (length l)) × (over head (take a l ++ c.put_rest-rest.new.tail) ≡ put_buffer allowed (head ++ tail) l) = let a = c.start_len-a.result in
     let l = c.args.buffer.now in
     let w = c.put_rest-rest in

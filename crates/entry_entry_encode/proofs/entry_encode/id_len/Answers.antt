@@ -5,7 +5,7 @@ use Rattle.entry_entry_encode.proofs.entry_encode.id_len.Goals as goal
 pub returns-then-written : goal.returns-then-written
 returns-then-written c =
     let a = c.args in
-    (sym (ap length (id_there a.reference a.id c.id_written-written.ensures c.if-written.true) ∙ c.well_formed_lem.0.1.0.1), omega arith)
+    (sym (ap length (id_there a.reference a.id c.id_written-written.ensures c.if-written.true) ∙ c.well_formed.0.1.0.1), omega arith)
 
 pub returns : goal.returns
 returns c =

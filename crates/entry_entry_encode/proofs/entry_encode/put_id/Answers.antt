@@ -10,7 +10,7 @@ returns-then-written c =
     let l = a.buffer.now in
     let is = id_there a.reference a.t2 c.id_written-written.ensures c.if-written.true in
     let long : length a.t2 ≤ length l = omega (arith, c.requires, ap length is) in (
-      sym (ap length is ∙ c.type_inv.1.0.1.0.1),
+      sym (ap length is ∙ c.well_formed.1.0.1.0.1),
       c.put_bytes.ensures.1 ∙ put_over a.t2 l long ∙ ap (λ (bs : List ℕ). over bs l) (sym is),
     )
 

@@ -1,5 +1,5 @@
 use Rattle.calls.proofs.Calls.{encodes, encodes_of}
-use Rattle.codec.proofs.Prelude.{◌≡◌, sym, ◌∙◌, ◌&&◌, ⊎_elim}
+use Rattle.codec.proofs.Prelude.{◌≡◌, sym, ◌∙◌, ◌&&◌, ⊎_elim, not-true}
 use Rattle.codec.proofs.Tests.{and_left, and_right}
 use Rattle.codec.proofs.Lending.{put_refused_value}
 use Rattle.path.specs.Flat.{path_in}
@@ -15,7 +15,7 @@ returns-then-not-marked c =
     (λ t. rw (← c.is_marked.ensures, t.0.taken) (t.2 ∙ t.1.ensures))
     (λ e. rw (← c.is_marked.ensures, e.0.left) (e.1 ∙ e.0.left))
     c.if-is_marked.branch in
-    let bad = areas_unmarked _ _ (sym both ∙ c.if-not-marked.true) in
+    let bad = areas_unmarked _ _ (sym both ∙ not-true c.if-is_marked.marked c.if-not-marked.true) in
     encodes (put_refused_value ((against_area (area_in c.args.reference.now)).check (area_in c.args.area.now)) _ c.args.buffer.now 5 (rw bad)) c.tell_length.ensures
 
 pub returns : goal.returns

@@ -1,5 +1,5 @@
 use Rattle.calls.proofs.Calls.{told_as}
-use Rattle.codec.proofs.Prelude.{◌≡◌, sym, ◌∙◌, ◌&&◌, ⊎_elim}
+use Rattle.codec.proofs.Prelude.{◌≡◌, sym, ◌∙◌, ◌&&◌, ⊎_elim, not-true}
 use Rattle.codec.specs.Format.{length_answer}
 use Rattle.codec.proofs.Tests.{and_left, and_right}
 use Rattle.codec.proofs.Lending.{length_refused_value}
@@ -16,7 +16,7 @@ returns-then-not-marked c =
     (λ t. rw (← c.is_marked.ensures, t.0.taken) (t.2 ∙ t.1.ensures))
     (λ e. rw (← c.is_marked.ensures, e.0.left) (e.1 ∙ e.0.left))
     c.if-is_marked.branch in
-    let bad = areas_unmarked _ _ (sym both ∙ c.if-not-marked.true) in
+    let bad = areas_unmarked _ _ (sym both ∙ not-true c.if-is_marked.marked c.if-not-marked.true) in
     told_as c.tell_length.ensures (length_refused_value (against_area (area_in c.args.reference.now)) (area_in c.args.area.now) 5 (rw bad))
 
 pub returns : goal.returns
