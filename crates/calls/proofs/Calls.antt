@@ -1,11 +1,11 @@
 -- Laws of what a call tells and leaves.
-use Rattle.codec.proofs.Prelude.{◌≡◌, refl, ◌∙◌, List, [], ◌∷◌, ℕ, OneOf, length}
-use denote.Enum.Declared as declared
+use Rattle.codec.proofs.Prelude.{◌≡◌, refl, ◌∙◌, List, ℕ, length}
 use Rattle.codec.specs.Answers.{Answer, refused, Outcome, answer_of, outcome_of}
 use Rattle.codec.specs.Format.{Format, write_answer, write_buffer, WritesInto}
 use Rattle.codec.specs.declared.Decoded.{Decoded}
 use Rattle.codec.specs.declared.Decoded.TheVariants as decoded
 use Rattle.codec.specs.declared.Encoded.{Encoded}
+use Rattle.codec.specs.declared.Encoded.TheVariants as encoded
 use Rattle.codec.proofs.Answers.{no_value}
 use Rattle.codec.proofs.Lending.{no_length}
 use Rattle.calls.specs.Calls.{code_of, Told, Encodes, read_code, Stores}

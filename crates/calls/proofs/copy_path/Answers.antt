@@ -10,5 +10,5 @@ returns c =
     let l = c.args.flat.now in
     let past : length l ≤ length p = omega (arith, c.requires) in
     let none = drop_of_length-le l past in
-    let stored = path_stores p (omega (arith, c.requires)) (λ i. omega (arith, c.shared_slice_known-1.given i)) ∙ take_all path_size p (omega (arith, c.requires)) in
+    let stored = path_stores p (omega (arith, c.requires)) (λ i. omega (arith, c.type_inv.path i)) ∙ take_all path_size p (omega (arith, c.requires)) in
     c.put_bytes.ensures.1 ∙ put_over p l (omega (arith, c.requires)) ∙ rw none (append-nil p) ∙ sym stored

@@ -18,17 +18,6 @@ use Rattle.entry_area_decode.proofs.decode_parts.Goals as goal
 
 pub returns-in_default : goal.returns-in_default
 returns-in_default c =
-    let id_is : let a = c.args in read_id (subspace_of a.reference.subspace) a.header.id_written a.message.now ≡ accepted c.decode_id-first.result.id c.in-Consumed.a = let r = c.decode_id-first in sym r.ensures ∙ ap (λ (d : Decoded). answer_of d r.result.id) c.in-Consumed.is in
-    let id_in : c.in-Consumed.a ≤ length c.args.message.now = id_inside c.args.canonic c.args.namespace area c.args.header c.args.message.now _ _ id_is in
-    let path : Path = path_in c.decode_path_within-path_answer.new.out in
-    let path_is : read_within_by sized c.args.canonic area.path (drop c.in-Consumed.a c.args.message.now) ≡ accepted path c.in-Consumed-path_answer.b = sym c.decode_path_within-path_answer.ensures.answer ∙ ap (λ (d : Decoded). answer_of d path) c.in-Consumed-path_answer.is in
-    let path_in : c.in-Consumed.a + c.in-Consumed-path_answer.b ≤ length c.args.message.now = omega (
-      arith,
-      within_inside c.args.canonic c.args.namespace c.decode_id-first.result.id area.path c.requires.1 c.args.reference.times c.args.header
-          (drop c.in-Consumed.a c.args.message.now) _ _ path_is,
-      length-drop c.in-Consumed.a c.args.message.now,
-      id_in,
-    ) in
     let area : Area = area_with c.args.reference (path_in c.args.reference_path.now) in
     let r = c.decode_id-first in
     let x = no_value r.result.answer c.in_default.not-Consumed in
@@ -37,18 +26,8 @@ returns-in_default c =
 
 pub returns-in_default-path_answer : goal.returns-in_default-path_answer
 returns-in_default-path_answer c =
-    let id_is : let a = c.args in read_id (subspace_of a.reference.subspace) a.header.id_written a.message.now ≡ accepted c.decode_id-first.result.id c.in-Consumed.a = let r = c.decode_id-first in sym r.ensures ∙ ap (λ (d : Decoded). answer_of d r.result.id) c.in-Consumed.is in
-    let id_in : c.in-Consumed.a ≤ length c.args.message.now = id_inside c.args.canonic c.args.namespace area c.args.header c.args.message.now _ _ id_is in
-    let path : Path = path_in c.decode_path_within-path_answer.new.out in
-    let path_is : read_within_by sized c.args.canonic area.path (drop c.in-Consumed.a c.args.message.now) ≡ accepted path c.in-Consumed-path_answer.b = sym c.decode_path_within-path_answer.ensures.answer ∙ ap (λ (d : Decoded). answer_of d path) c.in-Consumed-path_answer.is in
-    let path_in : c.in-Consumed.a + c.in-Consumed-path_answer.b ≤ length c.args.message.now = omega (
-      arith,
-      within_inside c.args.canonic c.args.namespace c.decode_id-first.result.id area.path c.requires.1 c.args.reference.times c.args.header
-          (drop c.in-Consumed.a c.args.message.now) _ _ path_is,
-      length-drop c.in-Consumed.a c.args.message.now,
-      id_in,
-    ) in
     let area : Area = area_with c.args.reference (path_in c.args.reference_path.now) in
+    let id_is : let a = c.args in read_id (subspace_of a.reference.subspace) a.header.id_written a.message.now ≡ accepted c.decode_id-first.result.id c.in-Consumed.a = let r = c.decode_id-first in sym r.ensures ∙ ap (λ (d : Decoded). answer_of d r.result.id) c.in-Consumed.is in
     let rest_at : let a = c.args in shift header_length (mapped entry_from (read_parts a.canonic a.namespace (area_of area) a.header) a.message.now) ≡ shift (header_length + c.in-Consumed.a) (mapped entry_from (read_rest a.canonic a.namespace c.decode_id-first.result.id (components_of area.path) a.reference.times a.header) (drop c.in-Consumed.a a.message.now)) = parts_rest c.args.canonic c.args.namespace area c.args.header c.args.message.now _ _ id_is in
     let x = no_value c.decode_path_within-path_answer.result c.in_default-path_answer.not-Consumed in
     let e = sym c.decode_path_within-path_answer.ensures.answer ∙ x.beside _ in
@@ -63,14 +42,14 @@ overflow_add-at c =
     let id_in : c.in-Consumed.a ≤ length c.args.message.now = id_inside c.args.canonic c.args.namespace area c.args.header c.args.message.now _ _ id_is in
     let path : Path = path_in c.decode_path_within-path_answer.new.out in
     let path_is : read_within_by sized c.args.canonic area.path (drop c.in-Consumed.a c.args.message.now) ≡ accepted path c.in-Consumed-path_answer.b = sym c.decode_path_within-path_answer.ensures.answer ∙ ap (λ (d : Decoded). answer_of d path) c.in-Consumed-path_answer.is in
-    let path_in : c.in-Consumed.a + c.in-Consumed-path_answer.b ≤ length c.args.message.now = omega (
+    let path_in_here : c.in-Consumed.a + c.in-Consumed-path_answer.b ≤ length c.args.message.now = omega (
       arith,
       within_inside c.args.canonic c.args.namespace c.decode_id-first.result.id area.path c.requires.1 c.args.reference.times c.args.header
           (drop c.in-Consumed.a c.args.message.now) _ _ path_is,
       length-drop c.in-Consumed.a c.args.message.now,
       id_in,
     ) in
-    omega (arith, path_in, c.requires.0)
+    omega (arith, path_in_here, c.requires.0)
 
 pub slice_bounds-relative_decode-count : goal.slice_bounds-relative_decode-count
 slice_bounds-relative_decode-count c =
@@ -79,14 +58,14 @@ slice_bounds-relative_decode-count c =
     let id_in : c.in-Consumed.a ≤ length c.args.message.now = id_inside c.args.canonic c.args.namespace area c.args.header c.args.message.now _ _ id_is in
     let path : Path = path_in c.decode_path_within-path_answer.new.out in
     let path_is : read_within_by sized c.args.canonic area.path (drop c.in-Consumed.a c.args.message.now) ≡ accepted path c.in-Consumed-path_answer.b = sym c.decode_path_within-path_answer.ensures.answer ∙ ap (λ (d : Decoded). answer_of d path) c.in-Consumed-path_answer.is in
-    let path_in : c.in-Consumed.a + c.in-Consumed-path_answer.b ≤ length c.args.message.now = omega (
+    let path_in_here : c.in-Consumed.a + c.in-Consumed-path_answer.b ≤ length c.args.message.now = omega (
       arith,
       within_inside c.args.canonic c.args.namespace c.decode_id-first.result.id area.path c.requires.1 c.args.reference.times c.args.header
           (drop c.in-Consumed.a c.args.message.now) _ _ path_is,
       length-drop c.in-Consumed.a c.args.message.now,
       id_in,
     ) in
-    path_in
+    path_in_here
 
 pub slice_bounds-relative_decode-start : goal.slice_bounds-relative_decode-start
 slice_bounds-relative_decode-start c =
@@ -95,30 +74,22 @@ slice_bounds-relative_decode-start c =
     let id_in : c.in-Consumed.a ≤ length c.args.message.now = id_inside c.args.canonic c.args.namespace area c.args.header c.args.message.now _ _ id_is in
     let path : Path = path_in c.decode_path_within-path_answer.new.out in
     let path_is : read_within_by sized c.args.canonic area.path (drop c.in-Consumed.a c.args.message.now) ≡ accepted path c.in-Consumed-path_answer.b = sym c.decode_path_within-path_answer.ensures.answer ∙ ap (λ (d : Decoded). answer_of d path) c.in-Consumed-path_answer.is in
-    let path_in : c.in-Consumed.a + c.in-Consumed-path_answer.b ≤ length c.args.message.now = omega (
+    let path_in_here : c.in-Consumed.a + c.in-Consumed-path_answer.b ≤ length c.args.message.now = omega (
       arith,
       within_inside c.args.canonic c.args.namespace c.decode_id-first.result.id area.path c.requires.1 c.args.reference.times c.args.header
           (drop c.in-Consumed.a c.args.message.now) _ _ path_is,
       length-drop c.in-Consumed.a c.args.message.now,
       id_in,
     ) in
-    omega (arith, path_in)
+    omega (arith, path_in_here)
 
 pub returns-in_default-last_answer : goal.returns-in_default-last_answer
 returns-in_default-last_answer c =
+    let area : Area = area_with c.args.reference (path_in c.args.reference_path.now) in
     let id_is : let a = c.args in read_id (subspace_of a.reference.subspace) a.header.id_written a.message.now ≡ accepted c.decode_id-first.result.id c.in-Consumed.a = let r = c.decode_id-first in sym r.ensures ∙ ap (λ (d : Decoded). answer_of d r.result.id) c.in-Consumed.is in
-    let id_in : c.in-Consumed.a ≤ length c.args.message.now = id_inside c.args.canonic c.args.namespace area c.args.header c.args.message.now _ _ id_is in
+    let rest_at : let a = c.args in shift header_length (mapped entry_from (read_parts a.canonic a.namespace (area_of area) a.header) a.message.now) ≡ shift (header_length + c.in-Consumed.a) (mapped entry_from (read_rest a.canonic a.namespace c.decode_id-first.result.id (components_of area.path) a.reference.times a.header) (drop c.in-Consumed.a a.message.now)) = parts_rest c.args.canonic c.args.namespace area c.args.header c.args.message.now _ _ id_is in
     let path : Path = path_in c.decode_path_within-path_answer.new.out in
     let path_is : read_within_by sized c.args.canonic area.path (drop c.in-Consumed.a c.args.message.now) ≡ accepted path c.in-Consumed-path_answer.b = sym c.decode_path_within-path_answer.ensures.answer ∙ ap (λ (d : Decoded). answer_of d path) c.in-Consumed-path_answer.is in
-    let path_in : c.in-Consumed.a + c.in-Consumed-path_answer.b ≤ length c.args.message.now = omega (
-      arith,
-      within_inside c.args.canonic c.args.namespace c.decode_id-first.result.id area.path c.requires.1 c.args.reference.times c.args.header
-          (drop c.in-Consumed.a c.args.message.now) _ _ path_is,
-      length-drop c.in-Consumed.a c.args.message.now,
-      id_in,
-    ) in
-    let area : Area = area_with c.args.reference (path_in c.args.reference_path.now) in
-    let rest_at : let a = c.args in shift header_length (mapped entry_from (read_parts a.canonic a.namespace (area_of area) a.header) a.message.now) ≡ shift (header_length + c.in-Consumed.a) (mapped entry_from (read_rest a.canonic a.namespace c.decode_id-first.result.id (components_of area.path) a.reference.times a.header) (drop c.in-Consumed.a a.message.now)) = parts_rest c.args.canonic c.args.namespace area c.args.header c.args.message.now _ _ id_is in
     let end_told : let a = c.args in answer_of c.relative_decode-last.result.answer c.relative_decode-last.result.end ≡ read_after_path a.canonic a.reference.times a.header (drop c.in-Consumed-path_answer.b (drop c.in-Consumed.a a.message.now)) = let a = c.args in
     rw drop-drop (rw (to_end (c.in-Consumed.a + c.in-Consumed-path_answer.b) a.message.now) at c.relative_decode-last.ensures.answer) in
     let x = no_value c.relative_decode-last.result.answer c.in_default-last_answer.not-Consumed in
@@ -128,18 +99,11 @@ returns-in_default-last_answer c =
 
 pub overflow_add-result : goal.overflow_add-result
 overflow_add-result c =
+    let area : Area = area_with c.args.reference (path_in c.args.reference_path.now) in
     let id_is : let a = c.args in read_id (subspace_of a.reference.subspace) a.header.id_written a.message.now ≡ accepted c.decode_id-first.result.id c.in-Consumed.a = let r = c.decode_id-first in sym r.ensures ∙ ap (λ (d : Decoded). answer_of d r.result.id) c.in-Consumed.is in
     let id_in : c.in-Consumed.a ≤ length c.args.message.now = id_inside c.args.canonic c.args.namespace area c.args.header c.args.message.now _ _ id_is in
     let path : Path = path_in c.decode_path_within-path_answer.new.out in
     let path_is : read_within_by sized c.args.canonic area.path (drop c.in-Consumed.a c.args.message.now) ≡ accepted path c.in-Consumed-path_answer.b = sym c.decode_path_within-path_answer.ensures.answer ∙ ap (λ (d : Decoded). answer_of d path) c.in-Consumed-path_answer.is in
-    let path_in : c.in-Consumed.a + c.in-Consumed-path_answer.b ≤ length c.args.message.now = omega (
-      arith,
-      within_inside c.args.canonic c.args.namespace c.decode_id-first.result.id area.path c.requires.1 c.args.reference.times c.args.header
-          (drop c.in-Consumed.a c.args.message.now) _ _ path_is,
-      length-drop c.in-Consumed.a c.args.message.now,
-      id_in,
-    ) in
-    let area : Area = area_with c.args.reference (path_in c.args.reference_path.now) in
     let end_told : let a = c.args in answer_of c.relative_decode-last.result.answer c.relative_decode-last.result.end ≡ read_after_path a.canonic a.reference.times a.header (drop c.in-Consumed-path_answer.b (drop c.in-Consumed.a a.message.now)) = let a = c.args in
     rw drop-drop (rw (to_end (c.in-Consumed.a + c.in-Consumed-path_answer.b) a.message.now) at c.relative_decode-last.ensures.answer) in
     let end_is : let a = c.args in read_after_path a.canonic a.reference.times a.header (drop c.in-Consumed-path_answer.b (drop c.in-Consumed.a a.message.now)) ≡ accepted c.relative_decode-last.result.end c.in-Consumed-last_answer.c = sym end_told ∙ ap (λ (d : Decoded). answer_of d c.relative_decode-last.result.end) c.in-Consumed-last_answer.is in
@@ -154,18 +118,11 @@ overflow_add-result c =
 
 pub overflow_add-result-2 : goal.overflow_add-result-2
 overflow_add-result-2 c =
+    let area : Area = area_with c.args.reference (path_in c.args.reference_path.now) in
     let id_is : let a = c.args in read_id (subspace_of a.reference.subspace) a.header.id_written a.message.now ≡ accepted c.decode_id-first.result.id c.in-Consumed.a = let r = c.decode_id-first in sym r.ensures ∙ ap (λ (d : Decoded). answer_of d r.result.id) c.in-Consumed.is in
     let id_in : c.in-Consumed.a ≤ length c.args.message.now = id_inside c.args.canonic c.args.namespace area c.args.header c.args.message.now _ _ id_is in
     let path : Path = path_in c.decode_path_within-path_answer.new.out in
     let path_is : read_within_by sized c.args.canonic area.path (drop c.in-Consumed.a c.args.message.now) ≡ accepted path c.in-Consumed-path_answer.b = sym c.decode_path_within-path_answer.ensures.answer ∙ ap (λ (d : Decoded). answer_of d path) c.in-Consumed-path_answer.is in
-    let path_in : c.in-Consumed.a + c.in-Consumed-path_answer.b ≤ length c.args.message.now = omega (
-      arith,
-      within_inside c.args.canonic c.args.namespace c.decode_id-first.result.id area.path c.requires.1 c.args.reference.times c.args.header
-          (drop c.in-Consumed.a c.args.message.now) _ _ path_is,
-      length-drop c.in-Consumed.a c.args.message.now,
-      id_in,
-    ) in
-    let area : Area = area_with c.args.reference (path_in c.args.reference_path.now) in
     let end_told : let a = c.args in answer_of c.relative_decode-last.result.answer c.relative_decode-last.result.end ≡ read_after_path a.canonic a.reference.times a.header (drop c.in-Consumed-path_answer.b (drop c.in-Consumed.a a.message.now)) = let a = c.args in
     rw drop-drop (rw (to_end (c.in-Consumed.a + c.in-Consumed-path_answer.b) a.message.now) at c.relative_decode-last.ensures.answer) in
     let end_is : let a = c.args in read_after_path a.canonic a.reference.times a.header (drop c.in-Consumed-path_answer.b (drop c.in-Consumed.a a.message.now)) ≡ accepted c.relative_decode-last.result.end c.in-Consumed-last_answer.c = sym end_told ∙ ap (λ (d : Decoded). answer_of d c.relative_decode-last.result.end) c.in-Consumed-last_answer.is in
@@ -180,18 +137,11 @@ overflow_add-result-2 c =
 
 pub overflow_add-result-3 : goal.overflow_add-result-3
 overflow_add-result-3 c =
+    let area : Area = area_with c.args.reference (path_in c.args.reference_path.now) in
     let id_is : let a = c.args in read_id (subspace_of a.reference.subspace) a.header.id_written a.message.now ≡ accepted c.decode_id-first.result.id c.in-Consumed.a = let r = c.decode_id-first in sym r.ensures ∙ ap (λ (d : Decoded). answer_of d r.result.id) c.in-Consumed.is in
     let id_in : c.in-Consumed.a ≤ length c.args.message.now = id_inside c.args.canonic c.args.namespace area c.args.header c.args.message.now _ _ id_is in
     let path : Path = path_in c.decode_path_within-path_answer.new.out in
     let path_is : read_within_by sized c.args.canonic area.path (drop c.in-Consumed.a c.args.message.now) ≡ accepted path c.in-Consumed-path_answer.b = sym c.decode_path_within-path_answer.ensures.answer ∙ ap (λ (d : Decoded). answer_of d path) c.in-Consumed-path_answer.is in
-    let path_in : c.in-Consumed.a + c.in-Consumed-path_answer.b ≤ length c.args.message.now = omega (
-      arith,
-      within_inside c.args.canonic c.args.namespace c.decode_id-first.result.id area.path c.requires.1 c.args.reference.times c.args.header
-          (drop c.in-Consumed.a c.args.message.now) _ _ path_is,
-      length-drop c.in-Consumed.a c.args.message.now,
-      id_in,
-    ) in
-    let area : Area = area_with c.args.reference (path_in c.args.reference_path.now) in
     let end_told : let a = c.args in answer_of c.relative_decode-last.result.answer c.relative_decode-last.result.end ≡ read_after_path a.canonic a.reference.times a.header (drop c.in-Consumed-path_answer.b (drop c.in-Consumed.a a.message.now)) = let a = c.args in
     rw drop-drop (rw (to_end (c.in-Consumed.a + c.in-Consumed-path_answer.b) a.message.now) at c.relative_decode-last.ensures.answer) in
     let end_is : let a = c.args in read_after_path a.canonic a.reference.times a.header (drop c.in-Consumed-path_answer.b (drop c.in-Consumed.a a.message.now)) ≡ accepted c.relative_decode-last.result.end c.in-Consumed-last_answer.c = sym end_told ∙ ap (λ (d : Decoded). answer_of d c.relative_decode-last.result.end) c.in-Consumed-last_answer.is in
@@ -206,19 +156,11 @@ overflow_add-result-3 c =
 
 pub returns : goal.returns
 returns c =
+    let area : Area = area_with c.args.reference (path_in c.args.reference_path.now) in
     let id_is : let a = c.args in read_id (subspace_of a.reference.subspace) a.header.id_written a.message.now ≡ accepted c.decode_id-first.result.id c.in-Consumed.a = let r = c.decode_id-first in sym r.ensures ∙ ap (λ (d : Decoded). answer_of d r.result.id) c.in-Consumed.is in
-    let id_in : c.in-Consumed.a ≤ length c.args.message.now = id_inside c.args.canonic c.args.namespace area c.args.header c.args.message.now _ _ id_is in
+    let rest_at : let a = c.args in shift header_length (mapped entry_from (read_parts a.canonic a.namespace (area_of area) a.header) a.message.now) ≡ shift (header_length + c.in-Consumed.a) (mapped entry_from (read_rest a.canonic a.namespace c.decode_id-first.result.id (components_of area.path) a.reference.times a.header) (drop c.in-Consumed.a a.message.now)) = parts_rest c.args.canonic c.args.namespace area c.args.header c.args.message.now _ _ id_is in
     let path : Path = path_in c.decode_path_within-path_answer.new.out in
     let path_is : read_within_by sized c.args.canonic area.path (drop c.in-Consumed.a c.args.message.now) ≡ accepted path c.in-Consumed-path_answer.b = sym c.decode_path_within-path_answer.ensures.answer ∙ ap (λ (d : Decoded). answer_of d path) c.in-Consumed-path_answer.is in
-    let path_in : c.in-Consumed.a + c.in-Consumed-path_answer.b ≤ length c.args.message.now = omega (
-      arith,
-      within_inside c.args.canonic c.args.namespace c.decode_id-first.result.id area.path c.requires.1 c.args.reference.times c.args.header
-          (drop c.in-Consumed.a c.args.message.now) _ _ path_is,
-      length-drop c.in-Consumed.a c.args.message.now,
-      id_in,
-    ) in
-    let area : Area = area_with c.args.reference (path_in c.args.reference_path.now) in
-    let rest_at : let a = c.args in shift header_length (mapped entry_from (read_parts a.canonic a.namespace (area_of area) a.header) a.message.now) ≡ shift (header_length + c.in-Consumed.a) (mapped entry_from (read_rest a.canonic a.namespace c.decode_id-first.result.id (components_of area.path) a.reference.times a.header) (drop c.in-Consumed.a a.message.now)) = parts_rest c.args.canonic c.args.namespace area c.args.header c.args.message.now _ _ id_is in
     let end_told : let a = c.args in answer_of c.relative_decode-last.result.answer c.relative_decode-last.result.end ≡ read_after_path a.canonic a.reference.times a.header (drop c.in-Consumed-path_answer.b (drop c.in-Consumed.a a.message.now)) = let a = c.args in
     rw drop-drop (rw (to_end (c.in-Consumed.a + c.in-Consumed-path_answer.b) a.message.now) at c.relative_decode-last.ensures.answer) in
     let end_is : let a = c.args in read_after_path a.canonic a.reference.times a.header (drop c.in-Consumed-path_answer.b (drop c.in-Consumed.a a.message.now)) ≡ accepted c.relative_decode-last.result.end c.in-Consumed-last_answer.c = sym end_told ∙ ap (λ (d : Decoded). answer_of d c.relative_decode-last.result.end) c.in-Consumed-last_answer.is in

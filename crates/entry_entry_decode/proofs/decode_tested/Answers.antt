@@ -15,15 +15,7 @@ use Rattle.entry_entry.proofs.DecodeExits.{reads_refused, head_inside, entry_hea
 use Rattle.entry_entry_decode.proofs.decode_tested.Goals as goal
 
 pub returns-in_default : goal.returns-in_default
-unfolding read_against_path
 returns-in_default c =
-    let told_bytes : ℕ = c.in-Consumed.a in
-    let told2_bytes : ℕ = c.in-Consumed-answer.b in
-    let head_is : let a = c.args in read_head a.reference.namespace_id a.reference.subspace_id a.reference.timestamp (drop a.start a.message.now) ≡ accepted c.decode_head-first.result.head told_bytes = sym c.decode_head-first.ensures ∙ ap (λ (d : Decoded). answer_of d c.decode_head-first.result.head) c.in-Consumed.is in
-    let path : Path = path_in c.relative_decode-answer.new.out in
-    let path_told : Gives (path_from []) c.relative_decode-answer.result path (read_against_path false reference.path (drop (c.args.start + told_bytes) c.args.message.now)) = rw c.requires.0 (rw (to_end (c.args.start + told_bytes) c.args.message.now, well_sized _ c.requires.0) at c.relative_decode-answer.ensures) in
-    let path_is : read_against_path false reference.path (drop (c.args.start + told_bytes) c.args.message.now) ≡ accepted path told2_bytes = sym path_told.answer ∙ ap (λ (d : Decoded). answer_of d path) c.in-Consumed-answer.is in
-    let path_in : c.args.start + told_bytes + told2_bytes ≤ length c.args.message.now = path_inside reference c.args.message.now c.args.start _ _ head_is _ _ path_is in
     let reference : Entry = entry_with c.args.reference (path_in c.args.reference_path.now) in
     let x = no_value c.decode_head-first.result.answer c.in_default.not-Consumed in
     rw c.refuse_fields.ensures
@@ -57,14 +49,11 @@ slice_bounds-relative_decode-start c =
 pub returns-in_default-answer : goal.returns-in_default-answer
 unfolding read_against_path
 returns-in_default-answer c =
+    let reference : Entry = entry_with c.args.reference (path_in c.args.reference_path.now) in
     let told_bytes : ℕ = c.in-Consumed.a in
-    let told2_bytes : ℕ = c.in-Consumed-answer.b in
     let head_is : let a = c.args in read_head a.reference.namespace_id a.reference.subspace_id a.reference.timestamp (drop a.start a.message.now) ≡ accepted c.decode_head-first.result.head told_bytes = sym c.decode_head-first.ensures ∙ ap (λ (d : Decoded). answer_of d c.decode_head-first.result.head) c.in-Consumed.is in
     let path : Path = path_in c.relative_decode-answer.new.out in
     let path_told : Gives (path_from []) c.relative_decode-answer.result path (read_against_path false reference.path (drop (c.args.start + told_bytes) c.args.message.now)) = rw c.requires.0 (rw (to_end (c.args.start + told_bytes) c.args.message.now, well_sized _ c.requires.0) at c.relative_decode-answer.ensures) in
-    let path_is : read_against_path false reference.path (drop (c.args.start + told_bytes) c.args.message.now) ≡ accepted path told2_bytes = sym path_told.answer ∙ ap (λ (d : Decoded). answer_of d path) c.in-Consumed-answer.is in
-    let path_in : c.args.start + told_bytes + told2_bytes ≤ length c.args.message.now = path_inside reference c.args.message.now c.args.start _ _ head_is _ _ path_is in
-    let reference : Entry = entry_with c.args.reference (path_in c.args.reference_path.now) in
     let x = no_value c.relative_decode-answer.result c.in_default-answer.not-Consumed in
     let none = sym path_told.answer ∙ x.beside _ in
     rw c.refuse_fields-in_default-answer.ensures
@@ -81,20 +70,19 @@ overflow_add-at-2 c =
     let path : Path = path_in c.relative_decode-answer.new.out in
     let path_told : Gives (path_from []) c.relative_decode-answer.result path (read_against_path false reference.path (drop (c.args.start + told_bytes) c.args.message.now)) = rw c.requires.0 (rw (to_end (c.args.start + told_bytes) c.args.message.now, well_sized _ c.requires.0) at c.relative_decode-answer.ensures) in
     let path_is : read_against_path false reference.path (drop (c.args.start + told_bytes) c.args.message.now) ≡ accepted path told2_bytes = sym path_told.answer ∙ ap (λ (d : Decoded). answer_of d path) c.in-Consumed-answer.is in
-    let path_in : c.args.start + told_bytes + told2_bytes ≤ length c.args.message.now = path_inside reference c.args.message.now c.args.start _ _ head_is _ _ path_is in
-    omega (arith, path_in)
+    let path_in_here : c.args.start + told_bytes + told2_bytes ≤ length c.args.message.now = path_inside reference c.args.message.now c.args.start _ _ head_is _ _ path_is in
+    omega (arith, path_in_here)
 
 pub returns-in_default-digest_answer : goal.returns-in_default-digest_answer
 unfolding read_against_path
 returns-in_default-digest_answer c =
+    let reference : Entry = entry_with c.args.reference (path_in c.args.reference_path.now) in
     let told_bytes : ℕ = c.in-Consumed.a in
-    let told2_bytes : ℕ = c.in-Consumed-answer.b in
     let head_is : let a = c.args in read_head a.reference.namespace_id a.reference.subspace_id a.reference.timestamp (drop a.start a.message.now) ≡ accepted c.decode_head-first.result.head told_bytes = sym c.decode_head-first.ensures ∙ ap (λ (d : Decoded). answer_of d c.decode_head-first.result.head) c.in-Consumed.is in
     let path : Path = path_in c.relative_decode-answer.new.out in
+    let told2_bytes : ℕ = c.in-Consumed-answer.b in
     let path_told : Gives (path_from []) c.relative_decode-answer.result path (read_against_path false reference.path (drop (c.args.start + told_bytes) c.args.message.now)) = rw c.requires.0 (rw (to_end (c.args.start + told_bytes) c.args.message.now, well_sized _ c.requires.0) at c.relative_decode-answer.ensures) in
     let path_is : read_against_path false reference.path (drop (c.args.start + told_bytes) c.args.message.now) ≡ accepted path told2_bytes = sym path_told.answer ∙ ap (λ (d : Decoded). answer_of d path) c.in-Consumed-answer.is in
-    let path_in : c.args.start + told_bytes + told2_bytes ≤ length c.args.message.now = path_inside reference c.args.message.now c.args.start _ _ head_is _ _ path_is in
-    let reference : Entry = entry_with c.args.reference (path_in c.args.reference_path.now) in
     let x = no_value c.decode_id-digest.result.answer c.in_default-digest_answer.not-Consumed in
     rw c.refuse_fields-in_default-digest_answer.ensures
     (reads_refused _ _ x.why (rw c.clear.ensures in_empty) (x.beside _)
@@ -103,15 +91,14 @@ returns-in_default-digest_answer c =
 pub overflow_add-result : goal.overflow_add-result
 unfolding read_against_path
 overflow_add-result c =
+    let reference : Entry = entry_with c.args.reference (path_in c.args.reference_path.now) in
     let told_bytes : ℕ = c.in-Consumed.a in
     let told2_bytes : ℕ = c.in-Consumed-answer.b in
+    let told3_bytes : ℕ = c.in-Consumed-digest_answer.c in
     let head_is : let a = c.args in read_head a.reference.namespace_id a.reference.subspace_id a.reference.timestamp (drop a.start a.message.now) ≡ accepted c.decode_head-first.result.head told_bytes = sym c.decode_head-first.ensures ∙ ap (λ (d : Decoded). answer_of d c.decode_head-first.result.head) c.in-Consumed.is in
     let path : Path = path_in c.relative_decode-answer.new.out in
     let path_told : Gives (path_from []) c.relative_decode-answer.result path (read_against_path false reference.path (drop (c.args.start + told_bytes) c.args.message.now)) = rw c.requires.0 (rw (to_end (c.args.start + told_bytes) c.args.message.now, well_sized _ c.requires.0) at c.relative_decode-answer.ensures) in
     let path_is : read_against_path false reference.path (drop (c.args.start + told_bytes) c.args.message.now) ≡ accepted path told2_bytes = sym path_told.answer ∙ ap (λ (d : Decoded). answer_of d path) c.in-Consumed-answer.is in
-    let path_in : c.args.start + told_bytes + told2_bytes ≤ length c.args.message.now = path_inside reference c.args.message.now c.args.start _ _ head_is _ _ path_is in
-    let reference : Entry = entry_with c.args.reference (path_in c.args.reference_path.now) in
-    let told3_bytes : ℕ = c.in-Consumed-digest_answer.c in
     let digest_is : some_bytes 32 (drop (c.args.start + told_bytes + told2_bytes) c.args.message.now) ≡ accepted c.decode_id-digest.result.id told3_bytes = sym c.decode_id-digest.ensures.answer ∙ ap (λ (d : Decoded). answer_of d c.decode_id-digest.result.id) c.in-Consumed-digest_answer.is in
     let digest_in : c.args.start + told_bytes + told2_bytes + told3_bytes ≤ length c.args.message.now = digest_inside reference c.args.message.now c.args.start _ _ head_is _ _ path_is _ _ digest_is in
     omega (arith, digest_in)
@@ -119,15 +106,14 @@ overflow_add-result c =
 pub overflow_add-result-2 : goal.overflow_add-result-2
 unfolding read_against_path
 overflow_add-result-2 c =
+    let reference : Entry = entry_with c.args.reference (path_in c.args.reference_path.now) in
     let told_bytes : ℕ = c.in-Consumed.a in
     let told2_bytes : ℕ = c.in-Consumed-answer.b in
+    let told3_bytes : ℕ = c.in-Consumed-digest_answer.c in
     let head_is : let a = c.args in read_head a.reference.namespace_id a.reference.subspace_id a.reference.timestamp (drop a.start a.message.now) ≡ accepted c.decode_head-first.result.head told_bytes = sym c.decode_head-first.ensures ∙ ap (λ (d : Decoded). answer_of d c.decode_head-first.result.head) c.in-Consumed.is in
     let path : Path = path_in c.relative_decode-answer.new.out in
     let path_told : Gives (path_from []) c.relative_decode-answer.result path (read_against_path false reference.path (drop (c.args.start + told_bytes) c.args.message.now)) = rw c.requires.0 (rw (to_end (c.args.start + told_bytes) c.args.message.now, well_sized _ c.requires.0) at c.relative_decode-answer.ensures) in
     let path_is : read_against_path false reference.path (drop (c.args.start + told_bytes) c.args.message.now) ≡ accepted path told2_bytes = sym path_told.answer ∙ ap (λ (d : Decoded). answer_of d path) c.in-Consumed-answer.is in
-    let path_in : c.args.start + told_bytes + told2_bytes ≤ length c.args.message.now = path_inside reference c.args.message.now c.args.start _ _ head_is _ _ path_is in
-    let reference : Entry = entry_with c.args.reference (path_in c.args.reference_path.now) in
-    let told3_bytes : ℕ = c.in-Consumed-digest_answer.c in
     let digest_is : some_bytes 32 (drop (c.args.start + told_bytes + told2_bytes) c.args.message.now) ≡ accepted c.decode_id-digest.result.id told3_bytes = sym c.decode_id-digest.ensures.answer ∙ ap (λ (d : Decoded). answer_of d c.decode_id-digest.result.id) c.in-Consumed-digest_answer.is in
     let digest_in : c.args.start + told_bytes + told2_bytes + told3_bytes ≤ length c.args.message.now = digest_inside reference c.args.message.now c.args.start _ _ head_is _ _ path_is _ _ digest_is in
     omega (arith, digest_in)
@@ -135,14 +121,13 @@ overflow_add-result-2 c =
 pub returns : goal.returns
 unfolding read_against_path
 returns c =
+    let reference : Entry = entry_with c.args.reference (path_in c.args.reference_path.now) in
     let told_bytes : ℕ = c.in-Consumed.a in
-    let told2_bytes : ℕ = c.in-Consumed-answer.b in
     let head_is : let a = c.args in read_head a.reference.namespace_id a.reference.subspace_id a.reference.timestamp (drop a.start a.message.now) ≡ accepted c.decode_head-first.result.head told_bytes = sym c.decode_head-first.ensures ∙ ap (λ (d : Decoded). answer_of d c.decode_head-first.result.head) c.in-Consumed.is in
     let path : Path = path_in c.relative_decode-answer.new.out in
+    let told2_bytes : ℕ = c.in-Consumed-answer.b in
     let path_told : Gives (path_from []) c.relative_decode-answer.result path (read_against_path false reference.path (drop (c.args.start + told_bytes) c.args.message.now)) = rw c.requires.0 (rw (to_end (c.args.start + told_bytes) c.args.message.now, well_sized _ c.requires.0) at c.relative_decode-answer.ensures) in
     let path_is : read_against_path false reference.path (drop (c.args.start + told_bytes) c.args.message.now) ≡ accepted path told2_bytes = sym path_told.answer ∙ ap (λ (d : Decoded). answer_of d path) c.in-Consumed-answer.is in
-    let path_in : c.args.start + told_bytes + told2_bytes ≤ length c.args.message.now = path_inside reference c.args.message.now c.args.start _ _ head_is _ _ path_is in
-    let reference : Entry = entry_with c.args.reference (path_in c.args.reference_path.now) in
     let told3_bytes : ℕ = c.in-Consumed-digest_answer.c in
     let digest_is : some_bytes 32 (drop (c.args.start + told_bytes + told2_bytes) c.args.message.now) ≡ accepted c.decode_id-digest.result.id told3_bytes = sym c.decode_id-digest.ensures.answer ∙ ap (λ (d : Decoded). answer_of d c.decode_id-digest.result.id) c.in-Consumed-digest_answer.is in
     gives_accepted (entry_read reference c.args.message.now c.args.start _ _ head_is _ _ path_is _ _ digest_is)

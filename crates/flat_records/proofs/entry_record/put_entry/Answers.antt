@@ -10,6 +10,6 @@ unfolding entry_flat
 returns c =
     let p = c.args.path.now in
     let f = c.args.fields in
-    let stored = path_stores p (omega (arith, c.requires)) (λ i. omega (arith, c.shared_slice_known-1.given i)) ∙ take_all path_size p (omega (arith, c.requires)) in
+    let stored = path_stores p (omega (arith, c.requires)) (λ i. omega (arith, c.type_inv.path i)) ∙ take_all path_size p (omega (arith, c.requires)) in
     puts_as (rw append_assoc at (puts_tail (puts_tail c.put_ids.ensures c.put_path.ensures) c.put_end.ensures))
     (ap (λ (l : List ℕ). ids_flat f ++ (l ++ end_flat f)) (sym stored))

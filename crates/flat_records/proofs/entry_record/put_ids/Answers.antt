@@ -5,5 +5,5 @@ use Rattle.flat_records.proofs.entry_record.put_ids.Goals as goal
 
 pub returns : goal.returns
 returns c =
-    let first = puts_put 32 (namespace_long c.args.t2 c.type_inv.1.0) (omega (arith, c.requires)) c.put_bytes.ensures.1 in
-    puts_tail first (puts_put 32 (subspace_long c.args.t2 c.type_inv.1.0) (room_after first 32 c.requires) c.put_bytes-2.ensures.1)
+    let first = puts_put 32 (namespace_long c.args.fields c.well_formed.1.0) (omega (arith, c.requires)) c.put_bytes.ensures.1 in
+    puts_tail first (puts_put 32 (subspace_long c.args.fields c.well_formed.1.0) (room_after first 32 c.requires) c.put_bytes-2.ensures.1)

@@ -24,8 +24,8 @@ returns c =
     let start = c.args.start.now in
     let end = c.args.end.now in
     let mark = puts_byte c.put_path.ensures c.bit.result (omega (arith, c.requires)) in
-    let first = stored start c.requires.1 (λ i. omega (arith, c.shared_slice_known-1.given i)) in
-    let last = stored end c.requires.2 (λ i. omega (arith, c.shared_slice_known-2-1.given i)) in
+    let first = stored start c.requires.1 (λ i. omega (arith, c.type_inv.start i)) in
+    let last = stored end c.requires.2 (λ i. omega (arith, c.type_inv.end i)) in
     puts_as (puts_tail mark c.put_path-2.ensures)
     (append_assoc start (c.bit.result ∷ []) end ∙ (λ i. first i ++ (c.bit.ensures.0 i ∷ last i)))
 

@@ -1,4 +1,3 @@
-use Rattle.codec.specs.Header.{bit}
 use Rattle.codec.proofs.Prelude.{append_assoc, arith, length-set}
 use Rattle.path.proofs.Puts.{puts_number, puts_long, puts_tail, puts_byte, puts_as, room_after}
 use Rattle.flat.specs.Times.{times_flat}
