@@ -33,13 +33,3 @@ slice_bounds-relative_decode-end c = sym (length-take-le _ _ (read_inside c.aske
 
 pub write-requires : goal.write-requires
 write-requires c = value_inside c.asked-asked.ensures c.in-Value.is
-
-pub returns-in-Read : goal.returns-in-Read
-returns-in-Read c = left_read (left c.args.line.now c.read_area-reference.ensures.0 c.if-not-reference.false c.asked-asked.ensures) c.in-Read.is
-    (printed area_text c.relative_decode-read.result.answer (area_with c.relative_decode-read.result.head (path_in _)) c.relative_decode-read.ensures.answer (puts_first c.print_area-k.ensures) search)
-
-pub returns-in-Value : goal.returns-in-Value
-returns-in-Value c = left_value (left c.args.line.now c.read_area-reference.ensures.0 c.if-not-reference.false c.asked-asked.ensures) c.in-Value.is search
-
-pub returns-in-Refused : goal.returns-in-Refused
-returns-in-Refused c = left_refused (left c.args.line.now c.read_area-reference.ensures.0 c.if-not-reference.false c.asked-asked.ensures) c.in-Refused.is search

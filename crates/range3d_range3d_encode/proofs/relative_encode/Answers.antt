@@ -20,14 +20,14 @@ pub put_range-requires : goal.put_range-requires
 put_range-requires c =
     let value : Range3d = range_with c.args.range (path_in c.args.start.now) (path_in c.args.end.now) in
     let known : Range3d = range_with c.args.reference (path_in c.args.reference_start.now) (path_in c.args.reference_end.now) in
-    let paths_are : Measures known value c.decreases.given.0.0 = measures known value _ (sym (ap measured_answer c.decreases.given.1) ∙ c.measure-measured.ensures) in
+    let paths_are : Measures known value c.in-Paths.paths = measures known value _ (sym (ap measured_answer c.in-Paths.is) ∙ c.measure-measured.ensures) in
     let m = paths_are in (m.shares, m.long, m.short)
 
 pub returns : goal.returns
 returns c =
     let value : Range3d = range_with c.args.range (path_in c.args.start.now) (path_in c.args.end.now) in
     let known : Range3d = range_with c.args.reference (path_in c.args.reference_start.now) (path_in c.args.reference_end.now) in
-    let paths_are : Measures known value c.decreases.given.0.0 = measures known value _ (sym (ap measured_answer c.decreases.given.1) ∙ c.measure-measured.ensures) in
+    let paths_are : Measures known value c.in-Paths.paths = measures known value _ (sym (ap measured_answer c.in-Paths.is) ∙ c.measure-measured.ensures) in
     let m = paths_are in
     let w = same_writing (measured_range c.args.reference c.in-Paths.paths) value (against_range known) (sym m.allows) m.bytes c.args.buffer.now in
     let put = c.put_range.ensures in

@@ -19,7 +19,7 @@ returns-then-not-subspace c =
     let a = c.args in
     let l = a.buffer.now in
     let h = c.header_byte in
-    let is = start_one a.subspace a.times a.t4 a.end header_is (not-true a.subspace.any c.if-not-subspace.true) in
+    let is = start_one a.subspace a.times a.id a.end header_is (not-true a.subspace.any c.if-not-subspace.true) in
     over_one l h.result (omega (arith, c.requires)) ∙ ap (λ (bs : List ℕ). over bs l) (sym is)
 
 pub slice_bounds-put_bytes-count : goal.slice_bounds-put_bytes-count
@@ -44,7 +44,7 @@ returns c =
     let l = a.buffer.now in
     let h = c.header_byte.result in
     let w = c.put_bytes in
-    let is = start_any a.subspace a.times a.t4 a.end header_is (not-false a.subspace.any c.if-not-subspace.false) in
+    let is = start_any a.subspace a.times a.id a.end header_is (not-false a.subspace.any c.if-not-subspace.false) in
     let rest = rw (to_end header_length (set l 0 h)) at w.ensures.1 in
-    let room : length a.t4 ≤ length (drop header_length (set l 0 h)) = rw (length-drop, length-set) (omega (arith, c.requires, ap length is)) in
-    put_end header_length (set l 0 h) w.new.buffer ∙ rw (rest, put_over a.t4 (drop header_length (set l 0 h)) room) (over-cons l a.t4 h (omega (arith, c.requires))) ∙ ap (λ (bs : List ℕ). over bs l) (sym is)
+    let room : length a.id ≤ length (drop header_length (set l 0 h)) = rw (length-drop, length-set) (omega (arith, c.requires, ap length is)) in
+    put_end header_length (set l 0 h) w.new.buffer ∙ rw (rest, put_over a.id (drop header_length (set l 0 h)) room) (over-cons l a.id h (omega (arith, c.requires))) ∙ ap (λ (bs : List ℕ). over bs l) (sym is)
