@@ -1,4 +1,4 @@
-use Rattle.codec.proofs.Prelude.{◌≡◌, refl, sym, List, Bool, not, false, ℕ, drop, length-take-le}
+use Rattle.codec.proofs.Prelude.{◌≡◌, refl, sym, List, Bool, not, true, false, ap, ℕ, drop, length-take-le}
 use Rattle.path.specs.Flat.{path_in}
 use Rattle.grouping.specs.Record.{Area}
 use Rattle.entry.specs.Record.{entry_with}
@@ -19,25 +19,13 @@ use Rattle.case_entries.specs.Lines.{against_line, on_namespace, entry_line}
 use Rattle.case_entries.proofs.entry.Goals as goal
 
 -- namespace and area were read, and what the line asks for
-left : (line : List ℕ) {ok ok' : Bool} {n : List ℕ} {a : Area} → Says (id_field 2 line) ok n → not ok ≡ false → Says (area_field 3 line) ok' a → not ok' ≡ false
+left : (line : List ℕ) {ok ok' : Bool} {n : List ℕ} {a : Area} → Says (id_field 2 line) ok n → not ok ≡ false → Says (area_field 3 line) ok' a → ok' ≡ true
     → {buffer : List ℕ} {x : Asked} → Asks (asking max_bytes 7 13 (op_of (field 1 line)) line) buffer x
     → Left (λ canonic start message. read_text entry_text (read_against_namespace_area canonic n a (drop start message))) entry_field (against_namespace_area n a) 7 line buffer x (entry_line line)
 left line {n = n} {a} s e s' e' asks =
     left_against s e (on_namespace line)
-    (left_against s' e' (λ a. against_line n a (op_of (field 1 line)) line)
+    (left_against s' (ap not e') (λ a. against_line n a (op_of (field 1 line)) line)
     (record_left entry_field entry_text (against_namespace_area n a) 7 13 line (entry_falls 7 line) asks (λ canonic. read_against_namespace_area canonic n a)))
-
-pub returns-then-not-first : goal.returns-then-not-first
-returns-then-not-first c =
-    let namespace : Says (id_field 2 c.args.line.now) c.read_id-first.result.ok c.read_id-first.result.id = field_says read_id_text (λ r. c.ok) (λ r. c.id) 2 c.args.line.now c.part.ensures c.read_id-first.ensures _ refl in
-    says_not id_field 2 _ (on_namespace c.args.line.now) namespace search
-
-pub returns-then-not-area : goal.returns-then-not-area
-returns-then-not-area c =
-    let namespace : Says (id_field 2 c.args.line.now) c.read_id-first.result.ok c.read_id-first.result.id = field_says read_id_text (λ r. c.ok) (λ r. c.id) 2 c.args.line.now c.part.ensures c.read_id-first.ensures _ refl in
-    let a : goal.After-read_area-area = search in
-    says_so id_field 2 _ (on_namespace c.args.line.now) namespace c.if-not-first.false
-    (says_not area_field 3 _ (λ a. against_line c.read_id-first.result.id a (op_of (field 1 c.args.line.now)) c.args.line.now) c.read_area-area.ensures.0 (search) search)
 
 pub slice_bounds-bytes-end : goal.slice_bounds-bytes-end
 slice_bounds-bytes-end c = read_inside c.asked-asked.ensures c.in-Read.is
@@ -50,17 +38,16 @@ write-requires c = value_inside c.asked-asked.ensures c.in-Value.is
 
 pub returns-in-Read : goal.returns-in-Read
 returns-in-Read c =
-    let namespace : Says (id_field 2 c.args.line.now) c.read_id-first.result.ok c.read_id-first.result.id = field_says read_id_text (λ r. c.ok) (λ r. c.id) 2 c.args.line.now c.part.ensures c.read_id-first.ensures _ refl in
-    let e = a.before in let r = e.before.before in let s = r.before.before.before.before in
-    left_read (left s.args.line.now (namespace r) e.if1.left c.read_area-area.ensures.0 c.if-not-area.false c.asked-asked.ensures) c.in-Read.is
-    (printed entry_text c.relative_decode-read.result.answer (entry_with c.relative_decode-read.result.fields (path_in _)) c.relative_decode-read.ensures.answer (puts_first c.print_entry-k.ensures) c.value.ensures)
+    let namespace : Says (id_field 2 c.args.line.now) c.read_id-first.result.ok c.read_id-first.result.id = field_says read_id_text (λ r. r.ok) (λ r. r.id) 2 c.args.line.now c.part.ensures c.read_id-first.ensures _ refl in
+    left_read (left c.args.line.now namespace c.if-not-first.false c.read_area-area.ensures.0 c.if-not-area.false c.asked-asked.ensures) c.in-Read.is
+    (printed entry_text c.relative_decode-read.result.answer (entry_with c.relative_decode-read.result.fields (path_in _)) c.relative_decode-read.ensures.answer (puts_first c.print_entry-k.ensures) search)
 
 pub returns-in-Value : goal.returns-in-Value
 returns-in-Value c =
-    let namespace : Says (id_field 2 c.args.line.now) c.read_id-first.result.ok c.read_id-first.result.id = field_says read_id_text (λ r. c.ok) (λ r. c.id) 2 c.args.line.now c.part.ensures c.read_id-first.ensures _ refl in
+    let namespace : Says (id_field 2 c.args.line.now) c.read_id-first.result.ok c.read_id-first.result.id = field_says read_id_text (λ r. r.ok) (λ r. r.id) 2 c.args.line.now c.part.ensures c.read_id-first.ensures _ refl in
     left_value (left c.args.line.now namespace c.if-not-first.false c.read_area-area.ensures.0 c.if-not-area.false c.asked-asked.ensures) c.in-Value.is search
 
 pub returns-in-Refused : goal.returns-in-Refused
 returns-in-Refused c =
-    let namespace : Says (id_field 2 c.args.line.now) c.read_id-first.result.ok c.read_id-first.result.id = field_says read_id_text (λ r. c.ok) (λ r. c.id) 2 c.args.line.now c.part.ensures c.read_id-first.ensures _ refl in
+    let namespace : Says (id_field 2 c.args.line.now) c.read_id-first.result.ok c.read_id-first.result.id = field_says read_id_text (λ r. r.ok) (λ r. r.id) 2 c.args.line.now c.part.ensures c.read_id-first.ensures _ refl in
     left_refused (left c.args.line.now namespace c.if-not-first.false c.read_area-area.ensures.0 c.if-not-area.false c.asked-asked.ensures) c.in-Refused.is search

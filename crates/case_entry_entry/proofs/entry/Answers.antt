@@ -1,4 +1,4 @@
-use Rattle.codec.proofs.Prelude.{◌≡◌, sym, List, Bool, not, false, cond, ℕ, drop, length-take-le}
+use Rattle.codec.proofs.Prelude.{◌≡◌, sym, List, Bool, not, true, false, ap, cond, ℕ, drop, length-take-le}
 use Rattle.path.specs.Flat.{path_in}
 use Rattle.entry.specs.Record.{Entry, entry_with}
 use Rattle.entry_entry.specs.Records.{against_entry, read_against_entry}
@@ -16,10 +16,10 @@ use Rattle.case_entry_entry.specs.Lines.{against_line, entry_entry_line}
 use Rattle.case_entry_entry.proofs.entry.Goals as goal
 
 -- the reference was read, and what the line asks for
-left : (line : List ℕ) {ok : Bool} {a : Entry} → Says (entry_field 2 line) ok a → not ok ≡ false → {buffer : List ℕ} {x : Asked} → Asks (asking max_bytes 8 14 (op_of (field 1 line)) line) buffer x
+left : (line : List ℕ) {ok : Bool} {a : Entry} → Says (entry_field 2 line) ok a → ok ≡ true → {buffer : List ℕ} {x : Asked} → Asks (asking max_bytes 8 14 (op_of (field 1 line)) line) buffer x
     → Left (λ canonic start message. cond canonic six (read_text entry_text (read_against_entry a (drop start message)))) entry_field (against_entry a) 8 line buffer x (entry_entry_line line)
 left line {a = a} s e asks =
-    left_against s e (λ a. against_line a (op_of (field 1 line)) line)
+    left_against s (ap not e) (λ a. against_line a (op_of (field 1 line)) line)
     (lenient_left entry_field entry_text (against_entry a) 8 14 line (entry_falls 8 line) asks (read_against_entry a))
 
 pub returns-then-not-reference : goal.returns-then-not-reference

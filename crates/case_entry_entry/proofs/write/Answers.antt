@@ -14,8 +14,3 @@ slice_bounds-buffer-end c = lent_inside c.requires c.in-Buffer.is
 
 pub slice_bounds-relative_encode-end : goal.slice_bounds-relative_encode-end
 slice_bounds-relative_encode-end c = sym (length-take-le _ _ (lent_inside c.requires c.in-Buffer.is))
-
-pub returns : goal.returns
-returns c = ⊎_elim (λ w. value_written entry_field (against_entry (field_entry c.args.reference)) 8 _ c.args.buffer c.read_entry-value.ensures.0 c.if-not-value.false w.1.given.1 (lent_inside c.requires w.1.given.1)
-    (w.12.ensures.answer, w.12.ensures.buffer) w.12.kept.0 w.14 w.15 w.16 search)
-    (λ w. value_measured entry_field (against_entry (field_entry c.args.reference)) 8 _ c.args.buffer c.read_entry-value.ensures.0 c.if-not-value.false w.1.given.1 w.10.ensures w.11 w.12 w.13 search) c.match-output.came

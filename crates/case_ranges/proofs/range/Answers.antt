@@ -1,4 +1,4 @@
-use Rattle.codec.proofs.Prelude.{◌≡◌, sym, List, Bool, not, false, cond, ℕ, drop, length-take-le}
+use Rattle.codec.proofs.Prelude.{◌≡◌, sym, List, Bool, not, true, false, ap, cond, ℕ, drop, length-take-le}
 use Rattle.range_3d.specs.Record.{Range3d}
 use Rattle.range3d_range3d.specs.Records.{against_range, read_against_range}
 use Rattle.case_text.specs.Limits.{max_bytes}
@@ -15,10 +15,10 @@ use Rattle.case_ranges.specs.Lines.{against_line, range_line}
 use Rattle.case_ranges.proofs.range.Goals as goal
 
 -- the reference was read, and what the line asks for
-left : (line : List ℕ) {ok : Bool} {a : Range3d} → Says (range_field 2 line) ok a → not ok ≡ false → {buffer : List ℕ} {x : Asked} → Asks (asking max_bytes 8 14 (op_of (field 1 line)) line) buffer x
+left : (line : List ℕ) {ok : Bool} {a : Range3d} → Says (range_field 2 line) ok a → ok ≡ true → {buffer : List ℕ} {x : Asked} → Asks (asking max_bytes 8 14 (op_of (field 1 line)) line) buffer x
     → Left (λ canonic start message. cond canonic six (read_text range_text (read_against_range a (drop start message)))) range_field (against_range a) 8 line buffer x (range_line line)
 left line {a = a} s e asks =
-    left_against s e (λ a. against_line a (op_of (field 1 line)) line)
+    left_against s (ap not e) (λ a. against_line a (op_of (field 1 line)) line)
     (lenient_left range_field range_text (against_range a) 8 14 line (range_falls 8 line) asks (read_against_range a))
 
 pub returns-then-not-reference : goal.returns-then-not-reference
@@ -36,13 +36,13 @@ slice_bounds-relative_decode-end c = sym (length-take-le _ _ (read_inside c.aske
 pub write-requires : goal.write-requires
 write-requires c = value_inside c.asked-asked.ensures c.in-Value.is
 
-pub returns-else-canonic : goal.returns-else-canonic
-returns-else-canonic c = let r = e.before in let s = r.before.before.before in
-    left_read (left s.args.line.now r.read_range.ensures.0 c.if-not-reference.false c.asked-asked.ensures) c.in-Read.is
-    (leniently _ c.if-canonic.false (printed range_text c.relative_decode-read.result.answer _ c.relative_decode-read.ensures.answer (puts_first c.print_range-k.ensures) search))
-
 pub returns-in-Value : goal.returns-in-Value
 returns-in-Value c = left_value (left c.args.line.now c.read_range-reference.ensures.0 c.if-not-reference.false c.asked-asked.ensures) c.in-Value.is search
 
 pub returns-in-Refused : goal.returns-in-Refused
 returns-in-Refused c = left_refused (left c.args.line.now c.read_range-reference.ensures.0 c.if-not-reference.false c.asked-asked.ensures) c.in-Refused.is search
+
+pub returns-else-canonic : goal.returns-else-canonic
+returns-else-canonic c =
+    left_read (left c.args.line.now c.read_range-reference.ensures.0 c.if-not-reference.false c.asked-asked.ensures) c.in-Read.is
+    (leniently _ c.if-canonic.false (printed range_text c.relative_decode-read.result.answer _ c.relative_decode-read.ensures.answer (puts_first c.print_range-k.ensures) search))

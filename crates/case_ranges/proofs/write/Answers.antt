@@ -14,8 +14,3 @@ slice_bounds-buffer-end c = lent_inside c.requires c.in-Buffer.is
 
 pub slice_bounds-relative_encode-end : goal.slice_bounds-relative_encode-end
 slice_bounds-relative_encode-end c = sym (length-take-le _ _ (lent_inside c.requires c.in-Buffer.is))
-
-pub returns : goal.returns
-returns c = ⊎_elim (λ w. value_written range_field (against_range (range_said c.args.reference)) 8 _ c.args.buffer c.read_range-value.ensures.0 c.if-not-value.false w.1.given.1 (lent_inside c.requires w.1.given.1)
-    (w.16.ensures.answer, w.16.ensures.buffer) w.16.kept.0 w.18 w.19 w.20 search)
-    (λ w. value_measured range_field (against_range (range_said c.args.reference)) 8 _ c.args.buffer c.read_range-value.ensures.0 c.if-not-value.false w.1.given.1 w.14.ensures w.15 w.16 w.17 search) c.match-output.came
