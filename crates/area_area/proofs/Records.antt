@@ -1,4 +1,4 @@
--- Areas against a well_formed_lem area are a lawful format, and read back leniently too.
+-- Areas against a well-formed area are a lawful format, and read back leniently too.
 use Rattle.codec.proofs.Prelude.{◌≡◌, ap, ◌∙◌, List, Bool, true, ℕ, arith}
 use Rattle.codec.specs.Format.{Format, verdict_by, Valid, Writes}
 use Rattle.codec.specs.Reads.{ReadsBack}

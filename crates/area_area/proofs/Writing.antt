@@ -63,7 +63,7 @@ module _ (r a : Area) where
   pub area_longer : (n : ℕ) → n ≡ length (head_bytes (subspace_of r.subspace) r.times (subspace_of a.subspace) a.times) → n ≤ length ((against_area r).encode a)
   area_longer n en = rw area_bytes_lem (rw length-append (omega (arith, en)))
 
-  -- ---- a well_formed_lem area whose subspace and times lie inside is refused as its path is, and written as what comes before it and its path
+  -- ---- a well-formed area whose subspace and times lie inside is refused as its path is, and written as what comes before it and its path
   module _ (w : (well_formed_area r && well_formed_area a) ≡ true) (in_head : head_lies_inside (subspace_of r.subspace) r.times (subspace_of a.subspace) a.times ≡ true) where
     pub as_path : (against_area r).check a ≡ (extends_by sized r.path).check a.path
     as_path = rw (w, both_sized w, head_inside (area_of r) (area_of a) in_head)

@@ -1,4 +1,4 @@
--- Entries against a namespace and a well_formed_lem area are a lawful format, and read back leniently too.
+-- Entries against a namespace and a well-formed area are a lawful format, and read back leniently too.
 use Rattle.codec.proofs.Prelude.{◌≡◌, ap, ◌∙◌, List, Bool, true, ℕ}
 use Rattle.codec.specs.Bytes.{TypedId}
 use Rattle.codec.specs.Format.{Format, verdict_by, Valid, Writes}

@@ -1,4 +1,4 @@
--- Entries against a well_formed_lem entry read back.
+-- Entries against a well-formed entry read back.
 use Rattle.codec.proofs.Prelude.{◌≡◌, List, true, ◌&&◌, ℕ}
 use Rattle.codec.specs.Format.{Writes}
 use Rattle.codec.specs.Reads.{ReadsAs, ReadsBack}
@@ -10,7 +10,7 @@ use Rattle.entry.proofs.Record.{apart_entry}
 use Rattle.entry_entry.specs.Records.{against_entry, read_against_entry}
 use Rattle.entry_entry.proofs.Entry.{entry_as}
 
--- what is written against a well_formed_lem reference
+-- what is written against a well-formed reference
 module _ (r : Entry) (t : TypedEntry r) (w : well_formed_entry r ≡ true) where
   written_as : (v : Entry) (e : List ℕ) → Writes TypedEntry (against_entry r) v e → ReadsAs (read_against_entry r) v e
   unfolding read_against_entry

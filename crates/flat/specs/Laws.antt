@@ -10,7 +10,7 @@ use Rattle.flat.specs.AreaRecord.{area_size, area_flat, area_in}
 use Rattle.flat.specs.EntryRecord.{entry_size, entry_flat, entry_in}
 use Rattle.flat.specs.RangeRecord.{range_size, range_flat, range_in}
 
--- a well_formed_lem record is loaded from the bytes that it is stored as; bytes of that size load as a well_formed_lem record only if it is stored as
+-- a well-formed record is loaded from the bytes that it is stored as; bytes of that size load as a well-formed record only if it is stored as
 -- just these bytes, so that all others are refused with 5
 pub record Flat {A : Type 0} (Typed : A → Type 0) (formed : A → Bool) (flat : A → List ℕ) (load : List ℕ → A) (size : ℕ) : Type 0 where
   pub long : (a : A) → Typed a → length (flat a) ≡ size

@@ -1,4 +1,4 @@
--- Records of areas and their values: each well_formed_lem record is the record of its values, and back.
+-- Records of areas and their values: each well-formed record is the record of its values, and back.
 use Rattle.codec.proofs.Prelude.{◌≡◌, refl, List, Bool, true, false, cond, Option, none, some, ℕ, length, replicate}
 use Rattle.codec.proofs.Bytes.{AllBytes-zeros}
 use Rattle.codec.specs.Answers.{AllBytes}

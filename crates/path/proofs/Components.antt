@@ -1,4 +1,4 @@
--- The components of a well_formed_lem record, one by one: where each starts, how long it is, and what is left after it.
+-- The components of a well-formed record, one by one: where each starts, how long it is, and what is left after it.
 use Rattle.codec.proofs.Prelude.{◌≡◌, sym, ◌∙◌, List, ◌∷◌, true, ℕ, ◌+◌, ◌-◌, ◌≤◌, ◌<◌, add-one, arith, leb, eqb, leb-true, le-leb, eqb-true, eq-eqb, length, take, drop, get_or, length-drop, drop-cons, drop-drop, length-take-le, get_or-take, take-suc, take-take, take_all}
 use Rattle.path.specs.Record.{Path, sum_of, used, components_of, sized, well_formed, TypedPath, length_at, start_at}
 use Rattle.path.specs.Limits.{max_component_count, max_path_length, total_of}

@@ -1,4 +1,4 @@
--- Records and lists of components: every well_formed_lem record is the record of its components, and back.
+-- Records and lists of components: every well-formed record is the record of its components, and back.
 use Rattle.codec.proofs.Prelude.{◌≡◌, refl, ap, ◌∙◌, List, [], ◌∷◌, ◌++◌, map, true, ℕ, ◌-◌, ◌≤◌, arith, leb, eqb, leb-true, le-leb, eqb-true, eq-eqb, length, take, drop, replicate, length-append, length-drop, length-map, length-replicate, take_at, drop_at, length-take-le}
 use Rattle.codec.specs.Answers.{AllBytes}
 use Rattle.codec.specs.Writings.{All}
@@ -8,7 +8,7 @@ use Rattle.path.specs.Limits.{max_component_length, max_component_count, max_pat
 use Rattle.codec.proofs.Tests.{and_left, and_right}
 use Rattle.path.proofs.Lists.{all_zeros, zero_rest, cut, cut_joined, length-joined, sum_lengths}
 
--- ---- a well_formed_lem record, by its parts
+-- ---- a well-formed record, by its parts
 pub record WellFormed (p : Path) : Type 0 where
   pub room : length p.bytes ≡ max_path_length
   pub slots : length p.lengths ≡ max_component_count

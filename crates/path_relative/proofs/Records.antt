@@ -1,4 +1,4 @@
--- Both encodings are lawful against every well_formed_lem path, and read back leniently too.
+-- Both encodings are lawful against every well-formed path, and read back leniently too.
 use Rattle.codec.proofs.Prelude.{◌≡◌, List, Bool, true, ℕ}
 use Rattle.codec.specs.Format.{Writes}
 use Rattle.codec.specs.Reads.{ReadsBack}

@@ -1,4 +1,4 @@
--- A path that is read against a well_formed_lem path, or as its extension, is well formed, in either mode.
+-- A path that is read against a well-formed path, or as its extension, is well formed, in either mode.
 use Rattle.codec.proofs.Prelude.{◌≡◌, List, ◌++◌, Bool, true, cond, ℕ, arith, eqb, length, take, length-append, length-take-le}
 use Rattle.codec.specs.Writings.{All}
 use Rattle.codec.specs.Reads.{Yields}

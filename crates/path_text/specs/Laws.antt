@@ -11,7 +11,7 @@ pub record PathTextLaws : Type 0 where
   -- what was printed is read as it was: a path, and a path's record
   pub path : (cs : List (List ℕ)) → PathOk cs → read_path_text (path_text cs) ≡ read_field (path_from cs)
   pub record_back : (p : Path) → TypedPath p → well_formed p ≡ true → read_path_text (path_text_of p) ≡ read_field p
-  -- two well_formed_lem paths print alike exactly when they have the same components
+  -- two well-formed paths print alike exactly when they have the same components
   pub alike : (p q : Path) → TypedPath p → TypedPath q → well_formed p ≡ true → well_formed q ≡ true → path_text_of p ≡ path_text_of q ↔ components_of p ≡ components_of q
   -- what is read is well formed
   pub read : (s : List ℕ) (p : HeldPath) → read_path_text s ≡ said p → TypedPath (path_in p.flat) × (well_formed (path_in p.flat) ≡ true)

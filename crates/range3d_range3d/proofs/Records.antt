@@ -1,4 +1,4 @@
--- 3d ranges against a well_formed_lem 3d range read back. The reader takes more than one writing of a value, so nothing more is claimed.
+-- 3d ranges against a well-formed 3d range read back. The reader takes more than one writing of a value, so nothing more is claimed.
 use Rattle.codec.proofs.Prelude.{◌≡◌, true, ◌&&◌}
 use Rattle.codec.specs.Format.{Writes}
 use Rattle.codec.specs.Reads.{ReadsAs, ReadsBack}

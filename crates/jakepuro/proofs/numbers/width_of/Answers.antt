@@ -1,6 +1,6 @@
 use Rattle.codec.proofs.Prelude.{◌≡◌, sym, arith}
 use Rattle.jakepuro.specs.Tagged.{is_width}
-use Rattle.jakepuro.proofs.Tagged.{above, no_width}
+use Rattle.jakepuro.proofs.Tagged.{no_width}
 use Rattle.jakepuro.proofs.numbers.width_of.Goals as goal
 
 pub returns-in-2 : goal.returns-in-2
@@ -32,7 +32,4 @@ unfolding is_width
 returns-in-8 c = let e : c.args.width ≡ 8 = omega (arith, c.in-8.is) in (rw e, sym e)
 
 pub returns-in_default : goal.returns-in_default
-returns-in_default c =
-    let w = c.args.width in
-    let no = c.in_default.rest in
-    no_width w (λ h. above 8 w (above 7 w (above 6 w (above 5 w (above 4 w (above 3 w (above 2 w h no.0.0.0.0.0.0.1) no.0.0.0.0.0.1) no.0.0.0.0.1) no.0.0.0.1) no.0.0.1) no.0.1) no.1)
+returns-in_default c = no_width c.args.width (λ h. omega arith)
