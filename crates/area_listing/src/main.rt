@@ -4,8 +4,8 @@
 
 use line_program::Program;
 
-fn main() {
-    let mut buf = io::large_buffer();
-    let mut out = io::large_buffer();
-    line_program::run(Program::Listing, &mut buf, &mut out);
+fn main(rt: HostRuntime) {
+    let mut buf = [0u8; 65536];
+    let mut out = [0u8; 65536];
+    line_program::run(rt, Program::Listing, &mut buf, &mut out);
 }

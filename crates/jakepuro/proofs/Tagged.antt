@@ -11,9 +11,6 @@ use Rattle.jakepuro.specs.Tagged.{is_width, tagged, read_tagged}
 use Rattle.jakepuro.specs.inside.Tagged.{HasBits}
 
 -- a number that is none of the widths
-pub above : (n w : ℕ) → n ≤ w → (w ≡ n → ⊥) → n + 1 ≤ w
-above n w l other = omega arith
-
 pub no_width : (w : ℕ) → (2 ≤ w → 9 ≤ w) → is_width w ≡ false
 unfolding is_width
 no_width w past = go (leb 2 w) refl (leb w 8) refl

@@ -11,7 +11,7 @@ ghost use Rattle.case_text.specs.Answers.{PutsWithin};
 ghost use Rattle.line_program.specs.Programs.{answer_to, limit_of};
 
 use case_text::MAX_ANSWER;
-use libc::{STDERR_FILENO, STDIN_FILENO, STDOUT_FILENO};
+use std::io::{Read, Write};
 
 #[derive(Clone, Copy)]
 pub enum Program {
@@ -76,8 +76,18 @@ struct Drained {
     ok: bool,
 }
 
+// Writes bytes to standard output, and says whether that went well.
+fn put_all(rt: HostRuntime, s: &[u8]) -> bool {
+    rt.stdout().write_all(s).is_ok()
+}
+
+// Writes bytes to standard error; where that fails, nobody can be told.
+fn tell(rt: HostRuntime, s: &[u8]) {
+    rt.stderr().write_all(s).is_ok();
+}
+
 // Writes the answers to the whole lines of a text.
-fn drain(program: Program, s: &[u8], out: &mut [u8]) -> Drained
+fn drain(rt: HostRuntime, program: Program, s: &[u8], out: &mut [u8]) -> Drained
     requires { max_answer ≤ length out.old }
     ensures { (result.ok ≡ true → result.taken ≡ span (whole_lines s.now)) × (result.taken ≤ length s.now) }
 {
@@ -92,7 +102,7 @@ fn drain(program: Program, s: &[u8], out: &mut [u8]) -> Drained
                 ok: true,
             };
         }
-        if !io::write_all(STDOUT_FILENO, &out[..put]) {
+        if !put_all(rt, &out[..put]) {
             return Drained {
                 taken: at,
                 ok: false,
@@ -109,14 +119,14 @@ pub struct Held {
     pub more: bool,
 }
 
-fn fail(program: Program, what: &[u8]) -> Held
+fn fail(rt: HostRuntime, program: Program, what: &[u8]) -> Held
     ensures { (result.have ≡ 0) × (result.more ≡ false) }
 {
     match program {
-        Program::Listing => io::write_all(STDERR_FILENO, b"area_listing"),
-        Program::CaseLines => io::write_all(STDERR_FILENO, b"case_lines"),
-    };
-    io::write_all(STDERR_FILENO, what);
+        Program::Listing => tell(rt, b"area_listing"),
+        Program::CaseLines => tell(rt, b"case_lines"),
+    }
+    tell(rt, what);
     Held {
         have: 0,
         more: false,
@@ -124,14 +134,14 @@ fn fail(program: Program, what: &[u8]) -> Held
 }
 
 // Answers the whole lines of the first `end` bytes, and keeps what is left of them at the front.
-fn settle(program: Program, buf: &mut [u8], end: usize, out: &mut [u8]) -> Held
+fn settle(rt: HostRuntime, program: Program, buf: &mut [u8], end: usize, out: &mut [u8]) -> Held
     requires { (end ≤ length buf.old) × (max_answer ≤ length out.old) }
     ensures have_value { result.more ≡ true → (result.have ≡ length (kept_after (limit_of program) (take end buf.old))) × (buf.new ≡ over (kept_after (limit_of program) (take end buf.old)) buf.old) }
     ensures have_bound { (result.have ≤ limit_of program) × (result.more ≡ false → result.have ≡ 0) }
 {
-    let drained = drain(program, &buf[..end], out);
+    let drained = drain(rt, program, &buf[..end], out);
     if !drained.ok {
-        return fail(program, b": writing failed\n");
+        return fail(rt, program, b": writing failed\n");
     }
     let at = drained.taken;
     let most = limit(program);
@@ -143,64 +153,63 @@ fn settle(program: Program, buf: &mut [u8], end: usize, out: &mut [u8]) -> Held
 }
 
 // The last line, where it lacks its newline.
-fn finish(program: Program, buf: &mut [u8], have: usize, out: &mut [u8])
+fn finish(rt: HostRuntime, program: Program, buf: &mut [u8], have: usize, out: &mut [u8])
     requires { have ≤ length buf.old }
 {
     if have > 0 {
         let put = answer(program, &buf[..have], out, 0);
         if put <= out.len() {
-            if !io::write_all(STDOUT_FILENO, &out[..put]) {
-                fail(program, b": writing failed\n");
+            if !put_all(rt, &out[..put]) {
+                fail(rt, program, b": writing failed\n");
             }
         }
     }
 }
 
 // Reads once, answers the whole lines and keeps what is left at the front; at the end of the input the last line is answered.
-fn read_once(program: Program, buf: &mut [u8], have: usize, out: &mut [u8]) -> Held
+fn read_once(rt: HostRuntime, program: Program, buf: &mut [u8], have: usize, out: &mut [u8]) -> Held
     requires { (have ≤ limit_of program) × ((limit_of program < length buf.old) × (max_answer ≤ length out.old)) }
     ensures { (result.have ≤ limit_of program) × (result.more ≡ false → result.have ≡ 0) }
 {
-    let got = libc::read(STDIN_FILENO, &mut buf[have..]);
-    if got < 0 {
-        return fail(program, b": reading failed\n");
+    let mut input = rt.stdin();
+    match input.read(&mut buf[have..]) {
+        Err(_) => fail(rt, program, b": reading failed\n"),
+        Ok(0) => {
+            finish(rt, program, buf, have, out);
+            Held {
+                have: 0,
+                more: false,
+            }
+        }
+        Ok(n) => settle(rt, program, buf, have + n, out),
     }
-    if got == 0 {
-        finish(program, buf, have, out);
-        return Held {
-            have: 0,
-            more: false,
-        };
-    }
-    let n = io::count(got, &buf[have..]);
-    settle(program, buf, have + n, out)
 }
 
 // One turn of a program that holds `have` bytes of its input. Nothing is read into buffers that are too short.
-fn turn(program: Program, buf: &mut [u8], have: usize, out: &mut [u8]) -> Held
+fn turn(rt: HostRuntime, program: Program, buf: &mut [u8], have: usize, out: &mut [u8]) -> Held
     ensures { (result.have ≤ limit_of program) × (result.more ≡ false → result.have ≡ 0) }
 {
     let most = limit(program);
     if most < have {
-        return fail(program, b": too much is held\n");
+        return fail(rt, program, b": too much is held\n");
     }
     if buf.len() <= most {
-        return fail(program, b": no room to read\n");
+        return fail(rt, program, b": no room to read\n");
     }
     if out.len() < MAX_ANSWER {
-        return fail(program, b": no room to answer\n");
+        return fail(rt, program, b": no room to answer\n");
     }
-    read_once(program, buf, have, out)
+    read_once(rt, program, buf, have, out)
 }
 
 // Takes turns to the end of the input, and answers what the last one left; nothing says that the input ends, so the turns are counted down.
-pub fn run(program: Program, buf: &mut [u8], out: &mut [u8]) -> Held
+pub fn run(rt: HostRuntime, program: Program, buf: &mut [u8], out: &mut [u8]) -> Held
     ensures { (result.have ≤ limit_of program) × (result.more ≡ false → result.have ≡ 0) }
 {
     let mut have: usize = 0;
     let mut turns = u64::MAX;
     while turns > 0 {
-        let held = turn(program, buf, have, out);
+        let held = turn(rt, program, buf, have, out);
         if !held.more {
             return held;
         }

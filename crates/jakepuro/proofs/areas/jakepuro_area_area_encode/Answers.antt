@@ -1,17 +1,28 @@
+use Rattle.calls.proofs.Calls.{encodes, encodes_of}
+use Rattle.codec.proofs.Prelude.{◌≡◌, sym, ◌∙◌, ◌&&◌, ⊎_elim, not-true}
+use Rattle.codec.proofs.Tests.{and_left, and_right}
+use Rattle.codec.proofs.Lending.{put_refused_value}
+use Rattle.path.specs.Flat.{path_in}
+use Rattle.grouping.specs.Record.{area_with}
+use Rattle.area_area.specs.Records.{against_area}
+use Rattle.flat.specs.AreaRecord.{area_marked, area_in}
+use Rattle.flat.proofs.AreaLaws.{area_lent, areas_unmarked}
+use Rattle.jakepuro.proofs.areas.jakepuro_area_area_encode.Goals as goal
+use Rattle.jakepuro.proofs.areas.jakepuro_area_area_encode.Goals.{then-is_marked, else-is_marked}
+
 pub returns-then-not-marked : goal.returns-then-not-marked
 returns-then-not-marked c =
     let both : let a = c.args in c.if-is_marked.marked ≡ (area_marked a.reference.now && area_marked a.area.now) = elim c.if-is_marked.branch [
-      then-is_marked t ↦ rw (← c.is_marked.ensures, t.if-is_marked.true) (t.marked-is ∙ t.is_marked-2.ensures)
+      then-is_marked t ↦ rw (← c.is_marked.ensures, t.if-is_marked.true) (t.marked-is ∙ t.is_marked-marked.ensures)
       | else-is_marked e ↦ rw (← c.is_marked.ensures, e.if-is_marked.false) (e.marked-is ∙ e.if-is_marked.false)
     ] in
     let bad = areas_unmarked _ _ (sym both ∙ c.if-not-marked.true) in
     encodes (put_refused_value ((against_area (area_in c.args.reference.now)).check (area_in c.args.area.now)) _ c.args.buffer.now 5 (rw bad)) c.tell_length.ensures
--- record `Rattle.jakepuro.proofs.areas.jakepuro_area_area_encode.Lts.By-7-Joined1-then-is_marked` (nearest: .is_marked-marked, .marked-is, .if-is_marked): note: that is a name of Rattle's own; if `is_marked` came back from a call there, its value is known now, as `c.f.new.is_marked` after a call of `f
 
 pub returns : goal.returns
 returns c =
     let both : let a = c.args in c.if-is_marked.marked ≡ (area_marked a.reference.now && area_marked a.area.now) = elim c.if-is_marked.branch [
-      then-is_marked t ↦ rw (← c.is_marked.ensures, t.if-is_marked.true) (t.marked-is ∙ t.is_marked-2.ensures)
+      then-is_marked t ↦ rw (← c.is_marked.ensures, t.if-is_marked.true) (t.marked-is ∙ t.is_marked-marked.ensures)
       | else-is_marked e ↦ rw (← c.is_marked.ensures, e.if-is_marked.false) (e.marked-is ∙ e.if-is_marked.false)
     ] in
     let marked = sym both ∙ c.if-not-marked.false in
@@ -19,5 +30,3 @@ returns c =
     let there = (λ i. area_with (c.head-2.ensures i) (path_in c.path-2.result.now)) ∙ area_lent c.args.reference.now _ c.path-2.ensures (and_left _ (area_marked c.args.area.now) marked) in
     let put = c.relative_encode-answer.ensures in
     encodes_of against_area there here (put.answer, put.buffer) c.tell_length-2.ensures
--- record `Rattle.jakepuro.proofs.areas.jakepuro_area_area_encode.Lts.By-7-Joined1-then-is_marked` (nearest: .is_marked-marked, .marked-is, .if-is_marked): note: that is a name of Rattle's own; if `is_marked` came back from a call there, its value is known now, as `c.f.new.is_marked` after a call of `f
-
