@@ -14,7 +14,7 @@ chunk=200000
 cd "$(dirname "$0")/.."
 export CARGO_TARGET_DIR="$PWD/target/oracle"
 (cd oracle && cargo build --release --offline -q)
-rt check case_lines > target/compare.log 2>&1 || { tail target/compare.log; exit 1; }
+sh tools/build.sh
 bin=target/oracle/release
 tmp=target/compare
 mkdir -p $tmp

@@ -1,5 +1,5 @@
 #!/bin/sh
-# compare_linked.sh [OPTIONS]: compares the static archive (rt staticlib jakepuro) with the original Rust in one process.
+# compare_linked.sh [OPTIONS]: compares the static archive (tools/build.sh) with the original Rust in one process.
 # The options are compare's: [--seed N] [--cases N] [--short BYTES] [--references N] [--tail BYTES] [--kind KIND].
 # Exit status 1 if there is a difference that docs/DIFFERENCES.md does not list.
 set -eu

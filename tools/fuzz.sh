@@ -1,6 +1,6 @@
 #!/bin/sh
 # fuzz.sh [SECONDS_PER_KIND [KIND..]]: libFuzzer, guided by the original Rust, on messages that the original and the static
-# archive (rt staticlib jakepuro) both read; compared as compare_linked.sh does. What it finds interesting is kept in
+# archive (tools/build.sh) both read; compared as compare_linked.sh does. What it finds interesting is kept in
 # target/fuzz/corpus. Exit status 1 at the first difference or crash, whose input is left in target/fuzz.
 set -eu
 seconds=${1:-120}

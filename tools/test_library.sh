@@ -3,13 +3,10 @@
 # the original Rust in one process (some 50 million cases). Ends at the first failure.
 set -eu
 cd "$(dirname "$0")/.."
-mkdir -p target
-log=target/test_library.log
 # The original is compiled while the archive is made: that takes one processor.
 (cd oracle && CARGO_TARGET_DIR=../target/oracle cargo build --release --offline -q -p oracle) &
 original=$!
-# rt check proves several crates at a time, rt staticlib one after the other what is not proved yet.
-{ rt check jakepuro && rt staticlib jakepuro; } > $log 2>&1 || { tail $log; exit 1; }
+sh tools/build.sh
 wait $original
 (cd bindings/rust && cargo test --offline -q)
 sh examples/c/run.sh

@@ -16,7 +16,7 @@ fn main() {
     println!("cargo:rerun-if-changed={}", archive.display());
     if !archive.is_file() {
         eprintln!("{} is missing.", archive.display());
-        eprintln!("Build it with `rt staticlib jakepuro` in the repository,");
+        eprintln!("Build it with `sh tools/build.sh` in the repository,");
         eprintln!("or let {VARIABLE} name the folder that holds {ARCHIVE}.");
         std::process::exit(1);
     }

@@ -1,5 +1,5 @@
 #!/bin/sh
-# run.sh: compiles area.c against the static archive (rt staticlib jakepuro), runs it and compares what it prints; then the same with
+# run.sh: compiles area.c against the static archive (tools/build.sh), runs it and compares what it prints; then the same with
 # a header of another version, which has to be told so.
 set -eu
 cd "$(dirname "$0")/../.."

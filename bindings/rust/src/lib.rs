@@ -1,7 +1,7 @@
 //! The path codec and the relative encodings of the [Willow protocol](https://willowprotocol.org), proved.
 //!
-//! These are bindings to a static archive whose every function is proved; this crate is thin and is not. `rt staticlib
-//! jakepuro` in the repository builds the archive; the environment variable `JAKEPURO_LIB_DIR` names the
+//! These are bindings to a static archive whose every function is proved; this crate is thin and is not. `sh
+//! tools/build.sh` in the repository builds the archive; the environment variable `JAKEPURO_LIB_DIR` names the
 //! folder of an archive elsewhere. The formats and refusals are those of docs/FORMAT.md.
 //!
 //! An archive of another version than this crate's [`VERSION`] is not called: every call of the types below
