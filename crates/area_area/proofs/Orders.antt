@@ -8,7 +8,6 @@ use Rattle.compact_u64.specs.Number.{inline_limit}
 use Rattle.grouping.specs.declared.RangeEnd.TheVariants.{Open}
 use Rattle.grouping.specs.Area.{AreaValue}
 use Rattle.area_times.specs.Header.{start_tag_width, pack_header, spare_bits}
-use Rattle.area_times.specs.Times.{read_end, read_times}
 use Rattle.area_area.specs.Area.{read_subspace, read_parts, read_area}
 
 -- all times and paths of a subspace, or of any

@@ -1,5 +1,5 @@
 -- The ways out of a line of a record's raw parts, and of reading its lengths.
-use Rattle.codec.proofs.Prelude.{◌≡◌, refl, sym, ap, ◌∙◌, List, [], ◌∷◌, ◌++◌, map, append-nil, append_assoc, Bool, true, false, cond, ◌&&◌, ℕ, ◌+◌, ◌-◌, ◌^◌, ◌%◌, ◌≤◌, ◌<◌, mod-eq_of_lt, true≢false, take-append-drop, OneOf, tag_of, arith, add-one, eq-eqb, ne_eqb, le-ltb, ltb, length, take, drop, set, replicate, length-set, length-replicate, drop_of_length-le, drop-cons, take-suc-set, take_all}
+use Rattle.codec.proofs.Prelude.{◌≡◌, refl, sym, ap, ◌∙◌, List, [], ◌∷◌, ◌++◌, map, append-nil, append_assoc, Bool, true, false, cond, ◌&&◌, ℕ, ◌+◌, ◌-◌, ◌^◌, ◌%◌, ◌≤◌, ◌<◌, mod-eq_of_lt, true≢false, take-append-drop, arith, add-one, eq-eqb, ne_eqb, le-ltb, ltb, length, take, drop, set, replicate, length-set, length-replicate, drop_of_length-le, drop-cons, take-suc-set, take_all}
 use Rattle.codec.specs.Answers.{Outcome, refused_writing, said, unsaid}
 use Rattle.codec.specs.Format.{length_answer}
 use Rattle.path.specs.Limits.{max_component_length, max_component_count, max_path_length}

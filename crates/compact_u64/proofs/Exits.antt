@@ -1,6 +1,5 @@
 -- What the readers' and writers' definitions answer at each exit of the code.
-use Rattle.codec.proofs.Prelude.{◌≡◌, refl, ap, ◌∙◌, sym, List, [], ◌∷◌, ◌++◌, Bool, true, false, cond, ⊎_elim, ◌-◌, ℕ, ◌+◌, ◌^◌, ◌≤◌, ◌<◌, add-one, arith, OneOf, leb, eqb, length, take, drop, set, get_or, drop_of_length-le, length-drop, drop-cons, pow_mono, lt-ltb, le-ltb, le-leb, lt-leb, eq-eqb, ne_eqb, leb-true, leb-false}
-use denote.Enum.Declared as declared
+use Rattle.codec.proofs.Prelude.{◌≡◌, refl, ap, ◌∙◌, sym, List, [], ◌∷◌, ◌++◌, Bool, true, false, cond, ◌-◌, ℕ, ◌+◌, ◌^◌, ◌≤◌, ◌<◌, add-one, arith, leb, eqb, length, take, drop, set, get_or, drop_of_length-le, length-drop, drop-cons, pow_mono, lt-ltb, le-ltb, le-leb, lt-leb, eq-eqb, ne_eqb, leb-true, leb-false}
 use Rattle.codec.specs.Answers.{accepted, refused, answer_of}
 use Rattle.codec.specs.Format.{allowed, over, put_buffer}
 use Rattle.codec.specs.Reader.{shift, passed, unvalued}

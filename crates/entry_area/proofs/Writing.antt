@@ -18,7 +18,7 @@ use Rattle.path_relative.proofs.Writing.{within_by}
 use Rattle.path_relative.proofs.Lent.{rest_allowed}
 use Rattle.grouping.specs.declared.TimeRange.{TimeRange}
 use Rattle.grouping.specs.declared.AreaSubspace.{AreaSubspace}
-use Rattle.grouping.specs.Record.{Area, subspace_of, area_of, area_with, well_formed_subspace, well_formed_area}
+use Rattle.grouping.specs.Record.{subspace_of, area_of, area_with, well_formed_subspace, well_formed_area}
 use Rattle.grouping.specs.declared.AreaHead.{AreaHead}
 use Rattle.entry.specs.Record.{Entry, entry_of, entry_with, well_formed_entry, fields_lie_inside, says_entry_inside}
 use Rattle.entry.specs.Entry.{entry_lies_inside}

@@ -1,6 +1,5 @@
 -- Reading within a path: a reference of which all components are told to be shared is a prefix; and what the definitions answer at each exit of the code.
-use Rattle.codec.proofs.Prelude.{◌≡◌, refl, sym, ◌∙◌, List, [], ◌∷◌, Bool, true, false, cond, ◌&&◌, ⊎_elim, OneOf, ℕ, ◌+◌, arith, eqb, eqb-true, ne_eqb, length, take_all}
-use denote.Enum.Declared as declared
+use Rattle.codec.proofs.Prelude.{◌≡◌, refl, sym, ◌∙◌, List, Bool, true, false, cond, ◌&&◌, ℕ, ◌+◌, arith, eqb, eqb-true, ne_eqb, length, take_all}
 use Rattle.codec.specs.Answers.{Answer, accepted, refused}
 use Rattle.codec.specs.Reader.{bind, shift, named, passed, checked, mapped, on_formed}
 use Rattle.codec.specs.Reads.{Bounded, Yields}

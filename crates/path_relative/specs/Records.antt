@@ -1,9 +1,9 @@
 -- docs/FORMAT.md, "Paths": both encodings, on records. 5 is tested on the reference and on the path.
-use Rattle.std.specs.Prelude.{◌++◌, Bool, true, ◌&&◌, ℕ, ◌+◌}
+use Rattle.std.specs.Prelude.{◌++◌, Bool, true, ◌&&◌, ℕ}
 use Rattle.codec.specs.Format.{Format, verdict_by}
 use Rattle.codec.specs.Reader.{Reader, checked, mapped, on_formed}
 use Rattle.path.specs.Record.{Path, components_of, path_from, well_formed}
-use Rattle.path.specs.Prefix.{shared, is_prefix}
+use Rattle.path.specs.Prefix.{is_prefix}
 use Rattle.compact_u64.specs.Number.{standalone_bytes}
 use Rattle.path_suffix.specs.Suffix.{suffix_by}
 use Rattle.path_relative.specs.Against.{against_bytes, read_against}

@@ -1,5 +1,5 @@
 -- Laws of the bytes that writers put: the components of a record one by one, a component after its length, the sizes, and a suffix by its parts.
-use Rattle.codec.proofs.Prelude.{◌≡◌, refl, List, ◌∷◌, ◌++◌, ℕ, ◌+◌, ◌-◌, ◌≤◌, arith, length, take, drop, set, length-append, length-drop, length-set, drop_at}
+use Rattle.codec.proofs.Prelude.{◌≡◌, refl, List, ◌∷◌, ◌++◌, ℕ, ◌+◌, ◌≤◌, arith, length, take, drop, set, length-append, length-drop, length-set, drop_at}
 use Rattle.codec.specs.Format.{allowed, over, put_buffer}
 use Rattle.codec.proofs.Lending.{put_over, over_then, over-cons}
 use Rattle.compact_u64.specs.Number.{number_bytes, standalone_bytes}

@@ -1,6 +1,5 @@
 -- Reading into a lent record: what the definitions answer at each exit of the code.
-use Rattle.codec.proofs.Prelude.{◌≡◌, refl, sym, ap, ◌∙◌, List, [], ◌∷◌, ◌++◌, append-nil, Bool, true, false, ◌&&◌, ⊎_elim, OneOf, ℕ, ◌+◌, ◌-◌, ◌≤◌, ◌<◌, arith, leb, le-leb, lt-leb, ne_eqb, length, take, drop, length-drop, length-append}
-use denote.Enum.Declared as declared
+use Rattle.codec.proofs.Prelude.{◌≡◌, refl, sym, ap, ◌∙◌, List, [], ◌∷◌, ◌++◌, append-nil, Bool, true, false, ◌&&◌, ℕ, ◌+◌, ◌-◌, ◌≤◌, ◌<◌, arith, leb, le-leb, lt-leb, ne_eqb, length, take, drop, length-drop, length-append}
 use Rattle.codec.specs.Answers.{Answer, AllBytes, accepted, refused}
 use Rattle.codec.specs.Format.{allowed, refused_value, verdict_by}
 use Rattle.codec.specs.Reader.{named, guard, mapped}

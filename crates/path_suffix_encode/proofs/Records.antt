@@ -1,5 +1,5 @@
 -- The components of a record from the i-th on, as they are written.
-use Rattle.codec.proofs.Prelude.{◌≡◌, refl, sym, ap, ◌∙◌, List, [], ◌++◌, ℕ, suc, ◌+◌, ◌-◌, ◌≤◌, ◌<◌, arith, length, take, drop, length-append, drop_of_length-le}
+use Rattle.codec.proofs.Prelude.{◌≡◌, sym, ap, ◌∙◌, List, [], ◌++◌, ℕ, suc, ◌+◌, ◌-◌, ◌≤◌, ◌<◌, arith, length, take, drop, length-append, drop_of_length-le}
 use Rattle.compact_u64.specs.Number.{standalone_bytes}
 use Rattle.path.specs.Record.{Path, sum_of, components_of, length_at}
 use Rattle.path.specs.Limits.{total_of}

@@ -1,5 +1,5 @@
 -- What an answer of reading bytes in hex says, for its callers.
-use Rattle.codec.proofs.Prelude.{◌≡◌, refl, sym, ◌∙◌, List, [], ◌∷◌, append-nil, Bool, true, false, cond, ⊎_elim, ℕ, ◌≤◌, OneOf, tag_of, arith, ltb, ltb-false, le-ltb, length, take, drop_of_length-le, take_at}
+use Rattle.codec.proofs.Prelude.{◌≡◌, refl, sym, ◌∙◌, List, append-nil, Bool, true, false, cond, ℕ, ◌≤◌, arith, ltb, ltb-false, le-ltb, length, take, drop_of_length-le, take_at}
 use Rattle.codec.specs.Answers.{said, unsaid}
 use Rattle.codec.specs.Format.{over}
 use Rattle.text.specs.Hex.{is_hex, unhex}

@@ -1,5 +1,5 @@
 -- Numbers as text: decimal digits, the highest first, without leading zeros.
-use Rattle.std.specs.Prelude.{List, cond, ℕ, zero, suc, ◌+◌, ◌/◌, ltb}
+use Rattle.std.specs.Prelude.{List, cond, ℕ, zero, suc, ◌/◌, ltb}
 use Rattle.io.specs.Digits.{last_digits}
 
 -- how many digits a number has, where k + 1 are enough

@@ -47,7 +47,7 @@ returns c =
     let well : well_formed_area reference ≡ true = sym c.well_formed-well.ensures ∙ c.if-not-well.false in
     let header_here : AreaHeader = let a = c.args in unpack_header (get_or a.message.now a.start 0) in
     let unspared : c.args.canonic ≡ true → spare_bits header_here ≡ false = λ k. elim c.if-canonic.branch [
-      then-canonic+else-spare w ↦ rw c.unpack-header.ensures at (sym w.spare_bits-spare.ensures ∙ w.if-spare.false)
+      | then-canonic+else-spare w ↦ rw c.unpack-header.ensures at (sym w.spare_bits-spare.ensures ∙ w.if-spare.false)
       | else-canonic w ↦ (let z : true ≡ false = sym k ∙ w.if-canonic.false in cc)
     ] in
     rw (tested_parts c.args.canonic reference well c.args.message.now c.args.start (omega (arith, c.if-message-start.false)) unspared)

@@ -1,9 +1,9 @@
-use Rattle.codec.proofs.Prelude.{refl, sym, ⊎_elim, length-take-le}
+use Rattle.codec.proofs.Prelude.{refl, sym, length-take-le}
 use Rattle.path.specs.Flat.{path_in}
 use Rattle.case_text.specs.Fields.{path_field}
 use Rattle.case_text.specs.inside.Values.{value_text}
-use Rattle.case_text.proofs.Steps.{path_says, path_says_no, lent_inside}
-use Rattle.case_text.proofs.Ways.{says_not, value_written, value_measured}
+use Rattle.case_text.proofs.Steps.{path_says_no, lent_inside}
+use Rattle.case_text.proofs.Ways.{says_not}
 use Rattle.case_paths.specs.Lines.{encoding_format}
 use Rattle.case_paths.proofs.write.Goals as goal
 

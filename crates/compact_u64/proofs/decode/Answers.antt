@@ -3,7 +3,7 @@ use Rattle.codec.proofs.Prelude.{◌+◌, ◌≡◌, ap, ◌∙◌, sym, arith, 
 use Rattle.codec.specs.Reader.{shift}
 use Rattle.compact_u64.specs.Number.{read_standalone}
 use Rattle.compact_u64.specs.Answers.{number_answer}
-use Rattle.compact_u64.proofs.Exits.{standalone_none, standalone_some, refusal_shifted}
+use Rattle.compact_u64.proofs.Exits.{standalone_none, standalone_some}
 use Rattle.compact_u64.proofs.decode.Goals as goal
 
 pub returns-then-message-start : goal.returns-then-message-start

@@ -1,5 +1,5 @@
-use Rattle.codec.proofs.Prelude.{◌∙◌, sym, and-true, and-false, ⊎_elim, arith, lt-leb, le-leb}
-use Rattle.path.proofs.Lists.{at_most_next, at_most_end}
+use Rattle.codec.proofs.Prelude.{◌∙◌, sym, and-true, arith}
+use Rattle.path.proofs.Lists.{at_most_end}
 use Rattle.path.proofs.all_zero.Goals as goal
 
 pub loop-i-init : goal.loop-i-init

@@ -1,5 +1,5 @@
 -- What the reader's private functions are stated by.
-use Rattle.std.specs.Prelude.{List, ◌++◌, Bool, true, cond, ℕ, ◌+◌, eqb, take, ◌≡◌}
+use Rattle.std.specs.Prelude.{List, ◌++◌, Bool, true, cond, ℕ, eqb, take, ◌≡◌}
 use Rattle.codec.specs.Reader.{Reader, guard, checked, mapped, on_formed}
 use Rattle.path.specs.Record.{Path, components_of, path_from}
 use Rattle.path.specs.inside.Sizes.{Leads}

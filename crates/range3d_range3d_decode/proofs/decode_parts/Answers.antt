@@ -47,10 +47,10 @@ returns-in_default-second_answer c =
     let known : Range3d = range_with c.args.reference (path_in c.args.reference_start.now) (path_in c.args.reference_end.now) in
     let ids_are : mapped subspaces_from (read_subspaces (subspaces_of c.args.reference.subspaces) (sources_in c.args.header)) c.args.message.now ≡ accepted c.relative_decode-first.result.subspaces c.in-Consumed.a = sym c.relative_decode-first.ensures.answer ∙ ap (λ (d : Decoded). answer_of d c.relative_decode-first.result.subspaces) c.in-Consumed.is in
     let ends : PathRange × TimeRange = (
-  paths_with (path_in c.decode_rest-second.new.start) c.args.header.path_end_open
-      (path_in c.decode_rest-second.new.end),
-  c.decode_rest-second.result.times,
-) in
+      paths_with (path_in c.decode_rest-second.new.start) c.args.header.path_end_open
+          (path_in c.decode_rest-second.new.end),
+      c.decode_rest-second.result.times,
+    ) in
     let ends_here : Answer (PathRange × TimeRange) = read_paths_times known.paths c.args.reference.times c.args.header c.args.times (drop c.in-Consumed.a c.args.message.now) in
     let rest_told : Gives (empty_paths c.args.header.path_end_open, no_times) c.decode_rest-second.result.answer ends ends_here = rw (to_end c.in-Consumed.a c.args.message.now) at c.decode_rest-second.ensures in
     let x = no_value c.decode_rest-second.result.answer c.in_default-second_answer.not-Consumed in
@@ -68,10 +68,10 @@ overflow_add-result c =
     let ids_are : mapped subspaces_from (read_subspaces (subspaces_of c.args.reference.subspaces) (sources_in c.args.header)) c.args.message.now ≡ accepted c.relative_decode-first.result.subspaces c.in-Consumed.a = sym c.relative_decode-first.ensures.answer ∙ ap (λ (d : Decoded). answer_of d c.relative_decode-first.result.subspaces) c.in-Consumed.is in
     let ids_in : c.in-Consumed.a ≤ length c.args.message.now = subspaces_inside known c.args.header c.args.times c.args.message.now _ _ ids_are in
     let ends : PathRange × TimeRange = (
-  paths_with (path_in c.decode_rest-second.new.start) c.args.header.path_end_open
-      (path_in c.decode_rest-second.new.end),
-  c.decode_rest-second.result.times,
-) in
+      paths_with (path_in c.decode_rest-second.new.start) c.args.header.path_end_open
+          (path_in c.decode_rest-second.new.end),
+      c.decode_rest-second.result.times,
+    ) in
     let ends_here : Answer (PathRange × TimeRange) = read_paths_times known.paths c.args.reference.times c.args.header c.args.times (drop c.in-Consumed.a c.args.message.now) in
     let rest_told : Gives (empty_paths c.args.header.path_end_open, no_times) c.decode_rest-second.result.answer ends ends_here = rw (to_end c.in-Consumed.a c.args.message.now) at c.decode_rest-second.ensures in
     let rest_are : ends_here ≡ accepted ends c.in-Consumed-second_answer.b = sym rest_told.answer ∙ ap (λ (d : Decoded). answer_of d ends) c.in-Consumed-second_answer.is in
@@ -89,10 +89,10 @@ overflow_add-result-2 c =
     let ids_are : mapped subspaces_from (read_subspaces (subspaces_of c.args.reference.subspaces) (sources_in c.args.header)) c.args.message.now ≡ accepted c.relative_decode-first.result.subspaces c.in-Consumed.a = sym c.relative_decode-first.ensures.answer ∙ ap (λ (d : Decoded). answer_of d c.relative_decode-first.result.subspaces) c.in-Consumed.is in
     let ids_in : c.in-Consumed.a ≤ length c.args.message.now = subspaces_inside known c.args.header c.args.times c.args.message.now _ _ ids_are in
     let ends : PathRange × TimeRange = (
-  paths_with (path_in c.decode_rest-second.new.start) c.args.header.path_end_open
-      (path_in c.decode_rest-second.new.end),
-  c.decode_rest-second.result.times,
-) in
+      paths_with (path_in c.decode_rest-second.new.start) c.args.header.path_end_open
+          (path_in c.decode_rest-second.new.end),
+      c.decode_rest-second.result.times,
+    ) in
     let ends_here : Answer (PathRange × TimeRange) = read_paths_times known.paths c.args.reference.times c.args.header c.args.times (drop c.in-Consumed.a c.args.message.now) in
     let rest_told : Gives (empty_paths c.args.header.path_end_open, no_times) c.decode_rest-second.result.answer ends ends_here = rw (to_end c.in-Consumed.a c.args.message.now) at c.decode_rest-second.ensures in
     let rest_are : ends_here ≡ accepted ends c.in-Consumed-second_answer.b = sym rest_told.answer ∙ ap (λ (d : Decoded). answer_of d ends) c.in-Consumed-second_answer.is in
@@ -109,10 +109,10 @@ returns c =
     let known : Range3d = range_with c.args.reference (path_in c.args.reference_start.now) (path_in c.args.reference_end.now) in
     let ids_are : mapped subspaces_from (read_subspaces (subspaces_of c.args.reference.subspaces) (sources_in c.args.header)) c.args.message.now ≡ accepted c.relative_decode-first.result.subspaces c.in-Consumed.a = sym c.relative_decode-first.ensures.answer ∙ ap (λ (d : Decoded). answer_of d c.relative_decode-first.result.subspaces) c.in-Consumed.is in
     let ends : PathRange × TimeRange = (
-  paths_with (path_in c.decode_rest-second.new.start) c.args.header.path_end_open
-      (path_in c.decode_rest-second.new.end),
-  c.decode_rest-second.result.times,
-) in
+      paths_with (path_in c.decode_rest-second.new.start) c.args.header.path_end_open
+          (path_in c.decode_rest-second.new.end),
+      c.decode_rest-second.result.times,
+    ) in
     let ends_here : Answer (PathRange × TimeRange) = read_paths_times known.paths c.args.reference.times c.args.header c.args.times (drop c.in-Consumed.a c.args.message.now) in
     let rest_told : Gives (empty_paths c.args.header.path_end_open, no_times) c.decode_rest-second.result.answer ends ends_here = rw (to_end c.in-Consumed.a c.args.message.now) at c.decode_rest-second.ensures in
     let rest_are : ends_here ≡ accepted ends c.in-Consumed-second_answer.b = sym rest_told.answer ∙ ap (λ (d : Decoded). answer_of d ends) c.in-Consumed-second_answer.is in

@@ -1,4 +1,4 @@
-use Rattle.codec.proofs.Prelude.{◌+◌, ◌<◌, refl, ap, ◌∙◌, sym, true, arith, length, drop, length-set}
+use Rattle.codec.proofs.Prelude.{◌+◌, ◌<◌, refl, ap, ◌∙◌, sym, arith, length, drop, length-set}
 use Rattle.text.specs.Hex.{unhex}
 use Rattle.text.proofs.Buffer.{over_at_start, over_at_none, over_at_next}
 use Rattle.text.proofs.HexSteps.{TwoDigits, two_digits, unhex_next, unhex_end}

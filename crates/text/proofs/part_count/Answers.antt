@@ -11,7 +11,7 @@ loop-i-preserved c =
       omega arith,
       elim c.if-s-i.branch [ then-s-i w ↦ omega arith | else-s-i w ↦ omega arith ],
       elim c.if-s-i.branch [
-        then-s-i w ↦ omega (arith, l.invariant.2, count_here x s l.i (omega arith) w.if-s-i.true)
+        | then-s-i w ↦ omega (arith, l.invariant.2, count_here x s l.i (omega arith) w.if-s-i.true)
         | else-s-i w ↦ omega (arith, l.invariant.2, count_next x s l.i (omega arith) w.if-s-i.false)
       ],
     )

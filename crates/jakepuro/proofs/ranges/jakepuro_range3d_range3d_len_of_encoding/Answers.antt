@@ -14,7 +14,7 @@ use Rattle.jakepuro.proofs.ranges.jakepuro_range3d_range3d_len_of_encoding.Goals
 pub returns-then-not-marked : goal.returns-then-not-marked
 returns-then-not-marked c =
     let both : let a = c.args in c.if-is_marked.marked ≡ (range_marked a.reference.now && range_marked a.range.now) = elim c.if-is_marked.branch [
-      then-is_marked t ↦ rw (← c.is_marked.ensures, t.if-is_marked.true) (t.marked-is ∙ t.is_marked-marked.ensures)
+      | then-is_marked t ↦ rw (← c.is_marked.ensures, t.if-is_marked.true) (t.marked-is ∙ t.is_marked-marked.ensures)
       | else-is_marked e ↦ rw (← c.is_marked.ensures, e.if-is_marked.false) (e.marked-is ∙ e.if-is_marked.false)
     ] in
     let bad = ranges_unmarked _ _ (sym both ∙ c.if-not-marked.true) in
@@ -23,7 +23,7 @@ returns-then-not-marked c =
 pub returns : goal.returns
 returns c =
     let both : let a = c.args in c.if-is_marked.marked ≡ (range_marked a.reference.now && range_marked a.range.now) = elim c.if-is_marked.branch [
-      then-is_marked t ↦ rw (← c.is_marked.ensures, t.if-is_marked.true) (t.marked-is ∙ t.is_marked-marked.ensures)
+      | then-is_marked t ↦ rw (← c.is_marked.ensures, t.if-is_marked.true) (t.marked-is ∙ t.is_marked-marked.ensures)
       | else-is_marked e ↦ rw (← c.is_marked.ensures, e.if-is_marked.false) (e.marked-is ∙ e.if-is_marked.false)
     ] in
     let marked = sym both ∙ c.if-not-marked.false in

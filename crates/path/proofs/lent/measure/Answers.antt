@@ -1,4 +1,4 @@
-use Rattle.codec.proofs.Prelude.{◌≡◌, sym, ◌∙◌, ◌-◌, and-true, and-false, ⊎_elim, sub-zero, arith, lt-leb, le-leb}
+use Rattle.codec.proofs.Prelude.{◌≡◌, sym, ◌∙◌, ◌-◌, and-true, and-false, sub-zero, arith, lt-leb, le-leb}
 use Rattle.path.proofs.Records.{span_next, short_next, short_end}
 use Rattle.path.proofs.lent.measure.Goals as goal
 use Rattle.path.proofs.lent.measure.Goals.{then-len-gt-MAX_COMPONENT_LENGTH, else-len-gt-MAX_COMPONENT_LENGTH}
@@ -37,7 +37,7 @@ loop-i-preserved c =
       omega (arith, l.invariant.1, len.1),
       omega (arith, span_next p l.i n (omega (arith, c.requires.1)) (omega arith), len.0, l.invariant.2),
       l.invariant.3 ∙ elim c.if-len-gt-MAX_COMPONENT_LENGTH.branch [
-          then-len-gt-MAX_COMPONENT_LENGTH w ↦ rw (e, ← len.0, lt-leb _ _ w.if-len-gt-MAX_COMPONENT_LENGTH.true, w.short-is, and-false)
-          | else-len-gt-MAX_COMPONENT_LENGTH w ↦ rw (e, ← len.0, le-leb _ _ w.if-len-gt-MAX_COMPONENT_LENGTH.false, w.short-is)
+        | then-len-gt-MAX_COMPONENT_LENGTH w ↦ rw (e, ← len.0, lt-leb _ _ w.if-len-gt-MAX_COMPONENT_LENGTH.true, w.short-is, and-false)
+        | else-len-gt-MAX_COMPONENT_LENGTH w ↦ rw (e, ← len.0, le-leb _ _ w.if-len-gt-MAX_COMPONENT_LENGTH.false, w.short-is)
       ],
     )
