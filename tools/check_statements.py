@@ -27,9 +27,9 @@ def check(holds, what):
 # files
 for m in re.findall(FILE, told):
     check(os.path.exists(path(m)), f"no file {path(m)}")
-# names, but for those that stand for a family (`x-reads`, `.._encode`)
+# names, but for those that stand for a family (`x_reads`, `.._encode`)
 for quoted in re.findall(r"`([^`\n]+)`", told):
-    for w in WORD.findall(re.sub(r"\bx-[a-z]+|\.\._\w+", "", quoted)):
+    for w in WORD.findall(re.sub(r"\bx_[a-z]+|\.\._\w+", "", quoted)):
         check(w in words or w in crates, f"`{quoted}`: nothing is called {w}")
 # names followed by their file, or by several
 for names, files in re.findall(r"((?:`[A-Za-z][\w'-]*`(?:, | and )?)+)\s\(([a-z0-9_]+/(?:specs|proofs)[^)]*)\)", told):
