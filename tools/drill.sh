@@ -2,11 +2,11 @@
 # drill.sh [NAME..]: what a new edition costs. Applies each drill of tools/drills, or those named, to a copy of the repository, proves there what rests on
 # it, up to the theorems, and prints the table of docs/EDITIONS.md: the lines that are other than before in src, specs and proofs, and the processor time of
 # the check. A drill is a text: what it is; `prove: CRATE ..`; then `file:`, `old:` and `new:`, as in a must-fail edit, where \n is a new line. Exit
-# status 1 if one is not proved.
+# status 1 if one is not proved. What the checks say is left in target/drill.
 set -eu
 cd "$(dirname "$0")/.."
-work=$PWD/target/drill
 drills=$PWD/tools/drills
+logs=$PWD/target/drill
 [ $# -gt 0 ] || set -- $(cd "$drills" && ls | sed 's/\.drill$//')
 
 apply() {
@@ -35,25 +35,35 @@ lines() {
     done | grep -c '^>' || true
 }
 
-# What the repository as it is has proved is not proved again in a copy.
-mkdir -p target
-rt check theorems > target/drill.log 2>&1 || { tail target/drill.log; exit 1; }
-rm -rf "$work"
-mkdir -p "$work/before/target"
+# Checks the crates named, one after another, each with the libraries beneath it, and says into a file what processor time that took.
+check() {
+    bash -c 'check() { for crate; do (cd "crates/$crate" && rt check) || return 1; done; }; TIMEFORMAT="%U %S"; time check "$@" >> "$0" 2>&1' "$@" 2> "$work/time"
+}
+
+# The copy lies outside: a repository has no sources but its own.
+work=$(mktemp -d)
+trap 'rm -rf "$work"' EXIT
+mkdir -p "$logs" "$work/before"
 git ls-files -z crates crates.txt | xargs -0 cp --parents -t "$work/before"
-cp -r target/rlib target/stamp "$work/before/target"
+cp -r "$work/before" "$work/after"
+cd "$work/after"
 
 bad=0
 echo "| drill | src | specs | proofs | proved | seconds |"
 echo "|---|---|---|---|---|---|"
 for name; do
     drill=$drills/$name.drill
-    rm -rf "$work/after"
-    cp -r "$work/before" "$work/after"
-    cd "$work/after"
+    log=$logs/$name.log
+    crates=$(sed -n 's/^prove: //p' "$drill")
+    : > "$log"
+    # What is proved without the drill is not proved again with it.
+    check "$log" $crates || { tail "$log" >&2; exit 1; }
     apply "$drill"
     proved=yes
-    bash -c 'TIMEFORMAT="%U %S"; time rt check "$@" > "$0" 2>&1' "$work/$name.log" $(sed -n 's/^prove: //p' "$drill") 2> "$work/time" || { proved=no; bad=1; }
+    check "$log" $crates || { proved=no; bad=1; }
     echo "| $(sed -n 1p "$drill") | $(lines src) | $(lines specs) | $(lines proofs) | $proved | $(awk '{ printf "%d", $1 + $2 }' "$work/time") |"
+    for file in $(sed -n 's/^file: //p' "$drill"); do
+        cp "$work/before/$file" "$file"
+    done
 done
 exit $bad
