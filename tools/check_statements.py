@@ -8,7 +8,7 @@ FILE = r"([a-z0-9_]+)/(specs|proofs|src|must-fail)(?:/([A-Za-z0-9_/]+)(\.rt)?)?"
 WORD = re.compile(r"[A-Za-z_][A-Za-z0-9_'-]*")
 # commands and what a check prints are no names; nor is the pattern of a file's name
 told = re.sub(r"`(rt |axioms |sum=|crates/\*|must-fail|(?:crates/)?codec/specs/X)[^`]*`", "", open("docs/STATEMENTS.md", encoding="utf8").read())
-texts = {p: open(p, encoding="utf8").read() for p in glob.glob("crates/**/*", recursive=True) if p.endswith((".rt", ".antt"))}
+texts = {p: open(p, encoding="utf8").read() for p in glob.glob("crates/**/*", recursive=True) if p.endswith((".rt", ".antt")) and "/out/" not in p}
 words = {w for t in texts.values() for w in WORD.findall(t)}
 crates = set(os.listdir("crates"))
 bad = []
