@@ -1,4 +1,4 @@
--- The laws of the readers of specs/Reader.antt: `x-back` for reading back, lenient or strict, `x-reads` for that and soundness.
+-- The laws of the readers of specs/Reader.antt: `x_back` for reading back, lenient or strict, `x_reads` for that and soundness.
 -- The law of a chain is the same chain with the laws of its parts; `back_as` and `reads_as` then put its relation in other words.
 use Rattle.codec.proofs.Prelude.{◌≡◌, refl, sym, ap, ◌∙◌, List, [], ◌∷◌, ◌++◌, append_assoc, Bool, true, false, ℕ, zero, suc, ◌+◌, ◌-◌, ◌≤◌, ◌<◌, arith, leb, leb-true, leb-false, le-leb, lt-leb, length, take, drop, length-append, length-take, length-drop, drop-append_seam, take-append-add, take-append-le, length-take-le, take-add, take_at}
 use Rattle.codec.specs.Answers.{Answer, accepted, refused, AllBytes}

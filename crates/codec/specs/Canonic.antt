@@ -1,5 +1,5 @@
--- docs/FORMAT.md, "Strict by rewriting": a strict reading made of a lenient one. What that one refuses is refused with the same number; what it takes is 2 unless
--- the bytes consumed are those that writing the value gives.
+-- A strict reading made of a lenient one and of writing. What the lenient one refuses is refused with the same number; what it takes is 2 unless the bytes
+-- consumed are those that writing the value gives.
 use Rattle.std.specs.Prelude.{◌≡◌, ◌↔◌, List, Bool, true, false, ◌&&◌, ℕ, take}
 use Rattle.codec.specs.Answers.{accepted, refused, AllBytes}
 use Rattle.codec.specs.Bytes.{same_bytes}

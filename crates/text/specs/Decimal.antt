@@ -7,6 +7,6 @@ unfoldable pub digit_count : ℕ → ℕ → ℕ
 digit_count zero n = 1
 digit_count (suc k) n = cond (ltb n 10) 1 (suc (digit_count k (n / 10)))
 
--- a number below 10 ^ 20 in decimal; `digits 10 k n`, of the crate io, are the last k digits of n
+-- a number below 10 ^ 20 in decimal; `last_digits 10 k n`, of the crate io, are the last k digits of n
 unfoldable pub decimal_text : ℕ → List ℕ
 decimal_text n = last_digits 10 (digit_count 19 n) n

@@ -18,7 +18,7 @@ unhex [] = []
 unhex (a ∷ []) = []
 unhex (a ∷ b ∷ s) = (hex_value a * 16 + hex_value b) ∷ unhex s
 
--- bytes in hex; `glyph`, of the crate io, is the digit of a value below 16
+-- bytes in hex; `hex_digit_ascii`, of the crate io, is the digit of a value below 16
 unfoldable pub hex_text : List ℕ → List ℕ
 hex_text [] = []
 hex_text (b ∷ s) = hex_digit_ascii (b / 16) ∷ hex_digit_ascii (b % 16) ∷ hex_text s
