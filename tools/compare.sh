@@ -14,7 +14,7 @@ chunk=200000
 cd "$(dirname "$0")/.."
 export CARGO_TARGET_DIR="$PWD/target/oracle"
 (cd oracle && cargo build --release --offline -q)
-sh tools/build.sh
+sh tools/build.sh case_lines
 bin=target/oracle/release
 tmp=target/compare
 mkdir -p $tmp

@@ -6,7 +6,7 @@ cd "$(dirname "$0")/.."
 # The original is compiled while the archive is made: that takes one processor.
 (cd oracle && CARGO_TARGET_DIR=../target/oracle cargo build --release --offline -q -p oracle) &
 original=$!
-sh tools/build.sh
+sh tools/build.sh jakepuro
 wait $original
 (cd bindings/rust && cargo test --offline -q)
 sh examples/c/run.sh
