@@ -1,5 +1,5 @@
 -- Laws of numbers whose tag's width crosses as its bits.
-use Rattle.codec.proofs.Prelude.{◌≡◌, refl, List, Bool, true, false, ◌&&◌, ℕ, ◌+◌, ◌≤◌, arith, leb, leb-true, length}
+use Rattle.codec.proofs.Prelude.{◌≡◌, refl, List, Bool, true, false, ◌&&◌, ℕ, ◌≤◌, arith, leb, leb-true, length}
 use Rattle.codec.specs.Answers.{Outcome, refused}
 use Rattle.codec.specs.Format.{allowed, refused_value, put_answer, put_buffer, write_answer, write_buffer}
 use Rattle.compact_u64.specs.declared.TagWidth.{TagWidth}

@@ -1,4 +1,4 @@
-use Rattle.codec.proofs.Prelude.{◌≡◌, refl, sym, ◌∙◌, [], true, false, ⊎_elim, ◌+◌, arith, get_or, length-drop}
+use Rattle.codec.proofs.Prelude.{◌≡◌, refl, sym, ◌∙◌, [], true, false, ◌+◌, arith, get_or, length-drop}
 use Rattle.codec.proofs.Lending.{to_end}
 use Rattle.path.specs.Record.{path_from}
 use Rattle.path.specs.Flat.{path_in}

@@ -1,4 +1,4 @@
-use Rattle.codec.proofs.Prelude.{◌≡◌, sym, List, Bool, not, true, false, ap, ℕ, drop, length-take-le}
+use Rattle.codec.proofs.Prelude.{◌≡◌, sym, List, Bool, not, true, ap, ℕ, drop, length-take-le}
 use Rattle.path.specs.Flat.{path_in}
 use Rattle.grouping.specs.Record.{Area, area_with}
 use Rattle.area_area.specs.Records.{against_area, read_against_area}

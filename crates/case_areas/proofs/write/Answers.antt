@@ -1,8 +1,8 @@
-use Rattle.codec.proofs.Prelude.{sym, ⊎_elim, length-take-le}
+use Rattle.codec.proofs.Prelude.{sym, length-take-le}
 use Rattle.area_area.specs.Records.{against_area}
 use Rattle.case_text.specs.inside.Values.{value_text}
 use Rattle.case_text.proofs.Steps.{lent_inside}
-use Rattle.case_text.proofs.Ways.{says_not, value_written, value_measured}
+use Rattle.case_text.proofs.Ways.{says_not}
 use Rattle.area_text.specs.AreaText.{area_field, field_area}
 use Rattle.case_areas.proofs.write.Goals as goal
 

@@ -11,7 +11,7 @@ use Rattle.case_text.specs.Fields.{field, Says, id_field, op_of}
 use Rattle.case_text.specs.Asking.{asking, Asks}
 use Rattle.case_text.proofs.Puts.{puts_first}
 use Rattle.case_text.proofs.Steps.{field_says, read_inside, value_inside}
-use Rattle.case_text.proofs.Ways.{Left, says_not, says_so, printed, record_left, left_against, left_read, left_value, left_refused}
+use Rattle.case_text.proofs.Ways.{Left, printed, record_left, left_against, left_read, left_value, left_refused}
 use Rattle.area_text.specs.AreaText.{area_field}
 use Rattle.case_entry_text.specs.Fields.{entry_text, entry_field}
 use Rattle.case_entry_text.proofs.Falls.{entry_falls}

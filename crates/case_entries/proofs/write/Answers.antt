@@ -1,10 +1,10 @@
-use Rattle.codec.proofs.Prelude.{sym, ⊎_elim, length-take-le}
+use Rattle.codec.proofs.Prelude.{sym, length-take-le}
 use Rattle.entry_area.specs.Records.{against_namespace_area}
 use Rattle.area_text.specs.AreaText.{field_area}
 use Rattle.case_entry_text.specs.Fields.{entry_field}
 use Rattle.case_text.specs.inside.Values.{value_text}
 use Rattle.case_text.proofs.Steps.{lent_inside}
-use Rattle.case_text.proofs.Ways.{says_not, value_written, value_measured}
+use Rattle.case_text.proofs.Ways.{says_not}
 use Rattle.case_entries.proofs.write.Goals as goal
 
 pub returns-then-not-value : goal.returns-then-not-value

@@ -1,4 +1,4 @@
-use Rattle.codec.proofs.Prelude.{◌≡◌, sym, List, Bool, not, true, false, ap, cond, ℕ, drop, length-take-le}
+use Rattle.codec.proofs.Prelude.{◌≡◌, sym, List, Bool, not, true, ap, cond, ℕ, drop, length-take-le}
 use Rattle.path.specs.Flat.{path_in}
 use Rattle.entry.specs.Record.{Entry, entry_with}
 use Rattle.entry_entry.specs.Records.{against_entry, read_against_entry}

@@ -1,4 +1,4 @@
-use Rattle.codec.proofs.Prelude.{◌≡◌, sym, List, Bool, not, true, false, ap, cond, ℕ, drop, length-take-le}
+use Rattle.codec.proofs.Prelude.{◌≡◌, sym, List, Bool, not, true, ap, cond, ℕ, drop, length-take-le}
 use Rattle.range_3d.specs.Record.{Range3d}
 use Rattle.range3d_range3d.specs.Records.{against_range, read_against_range}
 use Rattle.case_text.specs.Limits.{max_bytes}

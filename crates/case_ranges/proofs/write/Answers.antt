@@ -1,9 +1,9 @@
-use Rattle.codec.proofs.Prelude.{sym, ⊎_elim, length-take-le}
+use Rattle.codec.proofs.Prelude.{sym, length-take-le}
 use Rattle.range3d_range3d.specs.Records.{against_range}
 use Rattle.case_range_text.specs.Fields.{range_field, range_said}
 use Rattle.case_text.specs.inside.Values.{value_text}
 use Rattle.case_text.proofs.Steps.{lent_inside}
-use Rattle.case_text.proofs.Ways.{says_not, value_written, value_measured}
+use Rattle.case_text.proofs.Ways.{says_not}
 use Rattle.case_ranges.proofs.write.Goals as goal
 
 pub returns-then-not-value : goal.returns-then-not-value

@@ -1,4 +1,4 @@
-use Rattle.codec.proofs.Prelude.{◌∙◌, sym, false≢true, arith, not-false, length-take-le}
+use Rattle.codec.proofs.Prelude.{sym, false≢true, arith, not-false, length-take-le}
 use Rattle.lines.proofs.Keeping.{kept_after_lem}
 use Rattle.line_program.specs.Programs.{limit_of}
 use Rattle.line_program.proofs.settle.Goals as goal

@@ -1,4 +1,4 @@
-use Rattle.codec.proofs.Prelude.{not-true, ◌≡◌, sym, ap, ◌∙◌, true, inl, inr, ⊎_elim, not-false}
+use Rattle.codec.proofs.Prelude.{not-true, ◌≡◌, sym, ap, ◌∙◌, true, inl, inr, not-false}
 use Rattle.codec.specs.Answers.{accepted, answer_of}
 use Rattle.codec.specs.Reader.{some_bytes}
 use Rattle.codec.specs.declared.Decoded.{Decoded}

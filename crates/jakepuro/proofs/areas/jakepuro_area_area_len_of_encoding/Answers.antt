@@ -1,5 +1,5 @@
 use Rattle.calls.proofs.Calls.{told_as}
-use Rattle.codec.proofs.Prelude.{◌≡◌, sym, ◌∙◌, ◌&&◌, ⊎_elim, not-true}
+use Rattle.codec.proofs.Prelude.{◌≡◌, sym, ◌∙◌, ◌&&◌}
 use Rattle.codec.specs.Format.{length_answer}
 use Rattle.codec.proofs.Tests.{and_left, and_right}
 use Rattle.codec.proofs.Lending.{length_refused_value}

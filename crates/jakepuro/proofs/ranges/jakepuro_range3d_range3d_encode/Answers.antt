@@ -1,5 +1,5 @@
 use Rattle.calls.proofs.Calls.{encodes, encodes_of}
-use Rattle.codec.proofs.Prelude.{◌≡◌, sym, ◌∙◌, ◌&&◌, ⊎_elim, not-true}
+use Rattle.codec.proofs.Prelude.{◌≡◌, sym, ◌∙◌, ◌&&◌}
 use Rattle.codec.proofs.Tests.{and_left, and_right}
 use Rattle.codec.proofs.Lending.{put_refused_value}
 use Rattle.path.specs.Flat.{path_in}
