@@ -1,5 +1,5 @@
 -- A reader consumes no more bytes than there are, in either mode: a law for each of specs/Reader.antt.
-use Rattle.codec.proofs.Prelude.{ℕ, ◌≤◌, ◌≡◌, refl, List, [], ◌∷◌, Bool, true, false, arith, leb, leb-true, length, take, drop, length-drop}
+use Rattle.codec.proofs.Prelude.{ℕ, ◌+◌, ◌≤◌, ◌≡◌, refl, sym, List, [], ◌∷◌, Bool, true, false, arith, leb, leb-true, length, take, drop, length-drop}
 use Rattle.codec.specs.Answers.{accepted}
 use Rattle.codec.specs.Reader.{Reader, shift, passed, enough, give, one_byte, some_bytes, and_then, guard, checked, mapped, choose, on_formed}
 use Rattle.codec.specs.Reads.{Bounded}
@@ -52,3 +52,7 @@ choose_bounded false p q P Q = record { bound = Q.bound }
 pub formed_bounded : {A : Type 0} (b : Bool) (r : Reader A) → Bounded r → Bounded (on_formed b r)
 formed_bounded true r R = record { bound = λ s a n e. R.bound s a n e }
 formed_bounded false r R = record { bound = λ s a n e. let z : ◌≡◌ {A = ℕ} 0 1 = cc in absurd (omega arith) }
+
+-- what two readers, one after the other, consumed
+pub both_bounded : {A B : Type 0} {r : Reader A} {q : Reader B} → Bounded r → Bounded q → (s : List ℕ) {a : A} {b : B} {n m : ℕ} → accepted a n ≡ r s → accepted b m ≡ q (drop n s) → n + m ≤ length s
+both_bounded R Q s {a} {b} {n} {m} e f = omega (arith, R.bound s a n (sym e), Q.bound (drop n s) b m (sym f), length-drop n s)

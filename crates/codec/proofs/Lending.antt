@@ -1,9 +1,9 @@
 -- Laws of writing into a lent buffer, for the proofs of writers: the exits of a writer, and one writing after another.
-use Rattle.codec.proofs.Prelude.{◌≡◌, refl, sym, ap, ◌∙◌, List, [], ◌∷◌, ◌++◌, append_assoc, append-nil, Bool, true, false, cond, ℕ, suc, ◌+◌, ◌-◌, ◌≤◌, ◌<◌, arith, leb, le-leb, lt-leb, leb-true, put_mid, add-one, length, take, drop, get_or, set, length-set, length-append, length-drop, drop_of_length-le, take-append-drop, take_all, take_at, take-suc, drop_at, drop-cons, drop-drop, set_at, length-take-le, take-append-add, drop-append-add}
-use Rattle.codec.specs.declared.Encoded.{Encoded}
-use Rattle.codec.specs.declared.Encoded.TheVariants as encoded
-use Rattle.codec.specs.Answers.{Outcome, wrote, refused_writing, outcome_of}
-use Rattle.codec.specs.Bytes.{zero_id}
+use Rattle.codec.proofs.Prelude.{◌≡◌, refl, sym, ap, ◌∙◌, List, [], ◌∷◌, ◌++◌, append_assoc, append-nil, Bool, true, false, cond, ℕ, ◌+◌, ◌-◌, ◌≤◌, ◌<◌, arith, leb, le-leb, lt-leb, leb-true, put_mid, length, take, drop, set, length-append, length-drop, drop_of_length-le, take-append-drop, take_all, take_at, drop_at, drop-drop, length-take-le, take-append-add, drop-append-add}
+use Rattle.std.specs.Prelude.{Result, Ok, Err}
+use Rattle.codec.specs.declared.EncodeError.{EncodeError}
+use Rattle.codec.specs.declared.EncodeError.TheVariants as encoding
+use Rattle.codec.specs.Answers.{Outcome, wrote, refused_writing, encode_number, outcome_of}
 use Rattle.codec.specs.Format.{Format, Verdict, allowed, refused_value, over, length_by, in_room, put_answer, put_buffer, write_answer, write_buffer, length_answer, WritesInto}
 
 -- ---- the exits of a writer, by the tests 5, 3 and 4
@@ -49,10 +49,6 @@ put_wrote allowed bs room n e = go (leb (length bs) room) refl e
 pub put_over : (bs l : List ℕ) → length bs ≤ length l → put_buffer allowed bs l ≡ over bs l
 put_over bs l h = sym (put_fits allowed bs l refl (length bs) refl h).1
 
-pub record NoLength (x : Encoded) : Type 0 where
-  pub why : ℕ
-  pub is : outcome_of x ≡ refused_writing why
-
 -- the exits of a written length
 module _ {A : Type 0} (f : Format A) (v : A) where
   pub length_refused_value : (k : ℕ) → f.check v ≡ refused_value k → refused_writing k ≡ length_answer f v
@@ -81,15 +77,9 @@ module _ {A : Type 0} (f : Format A) (v : A) where
       go (refused_value j) p q = let same : j ≡ k = cc in p ∙ ap refused_value same
 
   -- a length that is held to the room is what writing answers
-  pub length_in_room : (whole r : Encoded) (room : ℕ) → outcome_of whole ≡ length_answer f v → outcome_of r ≡ in_room (outcome_of whole) room → outcome_of r ≡ write_answer f v room
+  pub length_in_room : (whole r : Result ℕ EncodeError) (room : ℕ) → outcome_of whole ≡ length_answer f v → outcome_of r ≡ in_room (outcome_of whole) room → outcome_of r ≡ write_answer f v room
   unfolding length_answer put_answer
   length_in_room whole r room long e = e ∙ ap (λ (o : Outcome). in_room o room) long
-
-  pub length_not_refused_writing : (k : ℕ) → f.check v ≡ allowed → length_answer f v ≡ refused_writing k → ⊥
-  length_not_refused_writing k e d = go (sym e ∙ length_refused_writing k d)
-    where
-      go : allowed ≡ refused_value k → ⊥
-      go h = let z : ◌≡◌ {A = ℕ} 0 1 = cc in omega arith
 
   -- two formats that agree on a value
   module _ (g : Format A) (check : f.check v ≡ g.check v) (bytes : f.encode v ≡ g.encode v) where
@@ -101,15 +91,23 @@ module _ {A : Type 0} (f : Format A) (v : A) where
     same_writing l = (rw (check, bytes), rw (check, bytes))
 
 -- answer and buffer, as one
-pub writes_into : {A : Type 0} {f : Format A} {v : A} {e : Encoded} {lent left : List ℕ} → (outcome_of e ≡ write_answer f v (length lent)) × (left ≡ write_buffer f v lent) → WritesInto f v e lent left
+pub writes_into : {A : Type 0} {f : Format A} {v : A} {e : Result ℕ EncodeError} {lent left : List ℕ} → (outcome_of e ≡ write_answer f v (length lent)) × (left ≡ write_buffer f v lent) → WritesInto f v e lent left
 writes_into x = record { answer = x.0; buffer = x.1 }
 
--- a writer's answer that is no length
-pub no_length : (x : Encoded) → ((n : ℕ) → x ≡ encoded.Length n → ⊥) → NoLength x
-no_length (encoded.Length n) h = absurd (h n refl)
-no_length encoded.Outside h = record { why = 3; is = refl }
-no_length encoded.NoRoom h = record { why = 4; is = refl }
-no_length encoded.Malformed h = record { why = 5; is = refl }
+-- writing, after its length was told: refused as that was, else 4 where it does not fit
+module _ {A : Type 0} (f : Format A) (v : A) (l : List ℕ) where
+  pub told_refused : (e : EncodeError) → outcome_of (Err e) ≡ length_answer f v → WritesInto f v (Err e) l l
+  told_refused e told = writes_into (put_refused_value (f.check v) (f.encode v) l (encode_number e) (length_refused_writing f v (encode_number e) (sym told)))
+
+  module _ (n : ℕ) (told : outcome_of (Ok n) ≡ length_answer f v) where
+    pub told_full : length l < n → WritesInto f v (Err encoding.NoRoom) l l
+    told_full h = let w = length_wrote f v n (sym told) in writes_into (put_full (f.check v) (f.encode v) l w.0 n w.1 h)
+
+    pub told_fits : {left : List ℕ} → n ≤ length l → left ≡ over (f.encode v) l → WritesInto f v (Ok n) l left
+    told_fits h e =
+        let w = length_wrote f v n (sym told) in
+        let p = put_fits (f.check v) (f.encode v) l w.0 n w.1 h in
+        writes_into (p.0, e ∙ p.1)
 
 -- a length that was written
 pub written_is : (n m : ℕ) → wrote n ≡ wrote m → n ≡ m
@@ -117,6 +115,17 @@ written_is n m e = cc
 
 pub wrote_not_refused_writing : (n k : ℕ) → wrote n ≡ refused_writing k → ⊥
 wrote_not_refused_writing n k e = let z : ◌≡◌ {A = ℕ} 0 1 = cc in omega arith
+
+-- what is put where there is room is not refused
+pub put_done : (bs : List ℕ) (room : ℕ) (r : Result ℕ EncodeError) → length bs ≤ room → outcome_of r ≡ put_answer allowed bs room → r ≡ Ok (length bs)
+unfolding put_answer
+put_done bs room (Ok n) h e = let k = le-leb (length bs) room h in ap Ok (written_is n (length bs) (rw k at e))
+put_done bs room (Err x) h e = let k = le-leb (length bs) room h in absurd (wrote_not_refused_writing (length bs) (encode_number x) (sym (rw k at e)))
+
+-- a length that was told of what may be written
+pub length_done : {A : Type 0} (f : Format A) (v : A) (r : Result ℕ EncodeError) → f.check v ≡ allowed → outcome_of r ≡ length_answer f v → r ≡ Ok (length (f.encode v))
+length_done f v (Ok n) ok e = ap Ok (length_wrote f v n (sym e)).1
+length_done f v (Err x) ok e = absurd (wrote_not_refused_writing (length (f.encode v)) (encode_number x) (length_allowed f v (length (f.encode v)) ok refl ∙ sym e))
 
 -- ---- a part that goes to the end, lent and come back as ys
 pub to_end : (n : ℕ) (l : List ℕ) → take (length l - n) (drop n l) ≡ drop n l
@@ -145,13 +154,16 @@ module _ {t : List ℕ} (x y l : List ℕ) (e : t ≡ x ++ y) (fits : length t �
   pub pair_inside : {m : ℕ} → m ≡ length l → n ≤ m
   pair_inside kept = omega (arith, kept, pair_long)
 
+  pub pair_over : {p q : List ℕ} → p ≡ over x l → length p ≡ length l → q ≡ over y (take (length p - n) (drop n p)) → put_mid n (length p - n) p q ≡ over t l
+  pair_over {p} {q} first kept rest =
+      let r : q ≡ over y (drop n p) = rw (to_end n p) at rest in
+      put_end n p q ∙ rw (r, first, long) (over_then l x y) ∙ ap (λ (bs : List ℕ). over bs l) (sym e)
+
   pub pair_put : {p q : List ℕ} → p ≡ put_buffer allowed x l → length p ≡ length l → q ≡ put_buffer allowed y (take (length p - n) (drop n p))
       → put_mid n (length p - n) p q ≡ put_buffer allowed t l
   pair_put {p} {q} first kept rest =
-      let f : p ≡ over x l = first ∙ put_over x l (omega (arith, pair_long, long)) in
-      let r : q ≡ put_buffer allowed y (drop n p) = rw (to_end n p) at rest in
-      let room : length y ≤ length (drop n p) = rw length-drop (omega (arith, kept, pair_long)) in
-      put_end n p q ∙ rw (r, put_over y (drop n p) room, f, long) (over_then l x y) ∙ ap (λ (bs : List ℕ). over bs l) (sym e) ∙ sym (put_over t l fits)
+      let room : length y ≤ length (take (length p - n) (drop n p)) = rw (to_end n p, length-drop) (omega (arith, kept, pair_long)) in
+      pair_over (first ∙ put_over x l (omega (arith, pair_long, long))) kept (rest ∙ put_over y _ room) ∙ sym (put_over t l fits)
 
 -- the same from a place on: what is left to write, after a was written from `at` on
 pub over_turn : (l a b : List ℕ) (at : ℕ) → at ≤ length l
@@ -172,35 +184,3 @@ over-cons (y ∷ l) bs x h = refl
 -- a byte alone
 pub over_one : (l : List ℕ) (b : ℕ) → 1 ≤ length l → set l 0 b ≡ over (b ∷ []) l
 over_one l b h = sym (take-append-drop 1 (set l 0 b)) ∙ over-cons l [] b h
-
--- an id or a digest: its bytes put over zeros
-pub id_put : (s : List ℕ) → 32 ≤ length s → put_buffer allowed (take 32 s) zero_id ≡ take 32 s
-id_put s h =
-    let long : length (take 32 s) ≡ 32 = length-take-le 32 s h in
-    put_over (take 32 s) zero_id (omega (arith, long)) ∙ rw (long, append-nil (take 32 s))
-
--- ---- a copy of s over the start of d, in l after i elements
-pub record Copied (d s : List ℕ) (i : ℕ) (l : List ℕ) : Type 0 where
-  pub within : i ≤ length s
-  pub long : length l ≡ length d
-  pub same : l ≡ take i s ++ drop i d
-
-pub copied_none : (d s : List ℕ) → Copied d s 0 d
-copied_none d s = record { within = omega arith; long = refl; same = refl }
-
-module _ {d s l : List ℕ} {i : ℕ} (c : Copied d s i l) where
-  pub copied_next : i < length s → i < length d → Copied d s (i + 1) (set l i (get_or s i 0))
-  copied_next hs hd =
-      let e : length (take i s) ≡ i = length-take-le i s (omega arith) in
-      record {
-        within = omega arith;
-        long = simp length-set c.long;
-        same =
-            rw (c.same, drop-cons d i 0 hd, set_at (take i s) (get_or d i 0) (drop (suc i) d) (get_or s i 0) i e, add-one i, take-suc s i 0 hs)
-            (sym (append_assoc (take i s) (get_or s i 0 ∷ []) (drop (suc i) d)));
-      }
-
-  pub copied_all : length s ≤ i → l ≡ s ++ drop (length s) d
-  copied_all h =
-      let e : i ≡ length s = omega arith in
-      c.same ∙ rw (e, take_all (length s) s (omega arith))

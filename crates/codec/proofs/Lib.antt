@@ -12,6 +12,7 @@ pub mod Writings
 pub mod Demand3
 pub mod Header
 pub mod Lending
+pub mod Pairs
 pub mod Tests
 pub mod SameBytes
 pub mod Relations

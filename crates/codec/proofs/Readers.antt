@@ -62,12 +62,6 @@ one_byte_reads = record { sound = sound; back = one_byte_back }
         rw (q, ← p) (omega arith, (h 0, refl))
 
 -- ---- n bytes
-pub bytes_short : (n : ℕ) (s : List ℕ) → length s < n → some_bytes n s ≡ refused 1
-bytes_short n s h = rw (lt-leb n (length s) h)
-
-pub bytes_there : (n : ℕ) (s : List ℕ) → n ≤ length s → some_bytes n s ≡ accepted (take n s) n
-bytes_there n s h = rw (le-leb n (length s) h)
-
 pub some_bytes_back : (n : ℕ) → ReadsBack (some_bytes n) (SomeBytes n)
 some_bytes_back n = record {
   complete = λ l e w t.

@@ -1,5 +1,5 @@
 -- Laws of lists of bytes that are the same.
-use Rattle.codec.proofs.Prelude.{◌≡◌, refl, List, [], ◌∷◌, true, false, ◌&&◌, ℕ, ◌+◌, ◌≤◌, ◌<◌, add-one, eqb, eqb-true, eq-eqb, length, drop, get_or, drop_of_length-le, drop-cons}
+use Rattle.codec.proofs.Prelude.{◌≡◌, refl, List, [], ◌∷◌, true, false, ℕ, eqb, eqb-true, eq-eqb}
 use Rattle.codec.specs.Bytes.{same_bytes}
 use Rattle.codec.proofs.Tests.{and_left, and_right, and_not}
 
@@ -19,11 +19,3 @@ different [] (y ∷ b) h = refl
 different (x ∷ a) [] h = refl
 different (x ∷ a) (y ∷ b) h =
     and_not (eqb x y) (same_bytes a b) (λ e. different a b (λ q. h (let g : x ≡ y = eqb-true x y e in cc)))
-
--- ---- from the i-th byte on
-module _ (s t : List ℕ) (i : ℕ) where
-  pub same_next : i < length s → i < length t → same_bytes (drop i s) (drop i t) ≡ (eqb (get_or s i 0) (get_or t i 0) && same_bytes (drop (i + 1) s) (drop (i + 1) t))
-  same_next h k = rw (drop-cons s i 0 h, drop-cons t i 0 k, add-one i)
-
-  pub same_end_lem : length s ≤ i → length t ≤ i → same_bytes (drop i s) (drop i t) ≡ true
-  same_end_lem h k = rw (drop_of_length-le s h, drop_of_length-le t k)

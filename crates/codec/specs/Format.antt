@@ -1,7 +1,7 @@
 -- docs/FORMAT.md, "Refusals": what writing a value gives: the tests 5 and 3, the bytes, and what stands in the lent buffer afterwards.
-use Rattle.std.specs.Prelude.{◌≡◌, List, ◌++◌, Bool, true, false, cond, ℕ, leb, length, drop}
+use Rattle.std.specs.Prelude.{◌≡◌, List, ◌++◌, Bool, true, false, cond, ℕ, leb, length, drop, Result}
 use Rattle.codec.specs.Answers.{Outcome, wrote, refused_writing, outcome_of}
-use Rattle.codec.specs.declared.Encoded.{Encoded}
+use Rattle.codec.specs.declared.EncodeError.{EncodeError}
 
 -- what the tests before the length say of a value: 5, then 3
 pub data Verdict : Type 0 where
@@ -68,7 +68,7 @@ module _ {A : Type 0} (f : Format A) where
   length_answer v = length_by (f.check v) (length (f.encode v))
 
 -- what a writer of the value answers, and what it leaves in the lent buffer
-pub record WritesInto {A : Type 0} (f : Format A) (v : A) (e : Encoded) (lent left : List ℕ) : Type 0 where
+pub record WritesInto {A : Type 0} (f : Format A) (v : A) (e : Result ℕ EncodeError) (lent left : List ℕ) : Type 0 where
   pub answer : outcome_of e ≡ write_answer f v (length lent)
   pub buffer : left ≡ write_buffer f v lent
 

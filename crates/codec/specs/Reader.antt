@@ -1,7 +1,9 @@
 -- docs/FORMAT.md, "Refusals": readers of lists of bytes, and the few ways to make one of smaller ones. A record's definition is a chain of these in the format's order
 -- of fields and checks.
-use Rattle.std.specs.Prelude.{List, [], ◌∷◌, Bool, true, false, cond, ℕ, ◌+◌, leb, length, take, drop}
-use Rattle.codec.specs.Answers.{Answer, accepted, refused}
+use Rattle.std.specs.Prelude.{◌≡◌, Result, List, [], ◌∷◌, Bool, true, false, cond, ℕ, ◌+◌, leb, length, take, drop}
+use Rattle.codec.specs.declared.Decoded.{Decoded}
+use Rattle.codec.specs.declared.DecodeError.{DecodeError}
+use Rattle.codec.specs.Answers.{Answer, accepted, refused, answer_of}
 
 abbrev pub Reader : Type 0 → Type 0
 Reader A = List ℕ → Answer A
@@ -36,6 +38,11 @@ passed false x = refused 2
 abbrev pub enough : Bool → List ℕ → ℕ → Answer (List ℕ)
 enough true l n = accepted l n
 enough false l n = refused 1
+
+-- the code's answer r, whose value is joined with what b stands in a lent record, is the answer x; beside a refusal the record is blank
+pub record Joins {H B A : Type 0} (join : H → B → A) (blank : B) (r : Result (Decoded H) DecodeError) (b : B) (x : Answer A) : Type 0 where
+  pub answer : named (λ h. join h b) (answer_of r) ≡ x
+  pub beside : (k : ℕ) → x ≡ refused k → b ≡ blank
 
 -- ---- readers
 

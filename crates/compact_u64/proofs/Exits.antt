@@ -1,18 +1,14 @@
 -- What the readers' and writers' definitions answer at each exit of the code.
-use Rattle.codec.proofs.Prelude.{◌≡◌, refl, ap, ◌∙◌, sym, List, [], ◌∷◌, ◌++◌, Bool, true, false, cond, ◌-◌, ℕ, ◌+◌, ◌^◌, ◌≤◌, ◌<◌, add-one, arith, leb, eqb, length, take, drop, set, get_or, drop_of_length-le, length-drop, drop-cons, pow_mono, lt-ltb, le-ltb, le-leb, lt-leb, eq-eqb, ne_eqb, leb-true, leb-false}
-use Rattle.codec.specs.Answers.{accepted, refused, answer_of}
-use Rattle.codec.specs.Format.{allowed, over, put_buffer}
-use Rattle.codec.specs.Reader.{shift, passed, unvalued}
-use Rattle.codec.specs.declared.Decoded.{Decoded}
-use Rattle.codec.proofs.Answers.{unvalued_refused}
-use Rattle.codec.proofs.Lending.{put_over}
+use Rattle.codec.proofs.Prelude.{◌≡◌, refl, ap, ◌∙◌, sym, List, ◌++◌, Bool, true, false, cond, ◌-◌, ℕ, ◌+◌, ◌^◌, ◌≤◌, ◌<◌, arith, leb, eqb, length, take, drop, set, drop_of_length-le, length-drop, pow_mono, lt-ltb, le-ltb, le-leb, lt-leb, eq-eqb, ne_eqb, leb-true, leb-false}
+use Rattle.codec.specs.Answers.{accepted, refused}
+use Rattle.codec.specs.Format.{over}
+use Rattle.codec.specs.Reader.{passed}
+use Rattle.codec.proofs.Lending.{over-cons}
 use Rattle.compact_u64.specs.BigEndian.{big_endian, value_of, read_big_endian}
 use Rattle.compact_u64.specs.Number.{inline_limit, width_exponent, min_tag, encoding_width, number_bytes, number_said, standalone_bytes, read_number, read_standalone}
-use Rattle.compact_u64.specs.Answers.{bits, number_answer}
+use Rattle.compact_u64.specs.Answers.{bits}
 use Rattle.compact_u64.specs.declared.TagWidth.{TagWidth}
 use Rattle.compact_u64.specs.declared.TagWidth.TheVariants as width
-use Rattle.compact_u64.specs.declared.DecodedU64.{DecodedU64}
-use Rattle.compact_u64.specs.declared.DecodedU64.TheVariants as decoded
 use Rattle.compact_u64.proofs.Standalone.{standalone_bounded}
 use Rattle.compact_u64.proofs.Tags.{width_inline, width_sized, length-number_bytes}
 
@@ -80,20 +76,21 @@ module _ (canonic : Bool) (w tag : ℕ) (s : List ℕ) where
           go false p = let l = leb-false n (length s) p in read_short l ∙ sym (big_short n s small l) ∙ f
 
       module _ (v m : ℕ) (f : read_big_endian n s ≡ accepted v m) where
-        read_value : read_number canonic w tag s ≡ passed (cond canonic (eqb (min_tag w v) tag) true) (accepted v n)
+        read_value : read_number canonic w tag s ≡ passed (cond canonic (eqb (min_tag w v) tag) true) (accepted v m)
         read_value = go (leb n (length s)) refl
           where
-            go : (b : Bool) → leb n (length s) ≡ b → read_number canonic w tag s ≡ passed (cond canonic (eqb (min_tag w v) tag) true) (accepted v n)
+            go : (b : Bool) → leb n (length s) ≡ b → read_number canonic w tag s ≡ passed (cond canonic (eqb (min_tag w v) tag) true) (accepted v m)
             go true p =
                 let g = big_there n s small (leb-true n (length s) p) in
                 let same : value_of (take n s) ≡ v = cc in
-                rw (← same) (read_bytes (leb-true n (length s) p))
+                let long : n ≡ m = cc in
+                rw (← same, ← long) (read_bytes (leb-true n (length s) p))
             go false p = let g = big_short n s small (leb-false n (length s) p) in let z : ◌≡◌ {A = ℕ} 0 1 = cc in absurd (omega arith)
 
-        pub read_lenient : canonic ≡ false → read_number canonic w tag s ≡ accepted v n
+        pub read_lenient : canonic ≡ false → read_number canonic w tag s ≡ accepted v m
         read_lenient c = read_value ∙ rw c
 
-        pub read_strict : canonic ≡ true → min_tag w v ≡ tag → read_number canonic w tag s ≡ accepted v n
+        pub read_strict : canonic ≡ true → min_tag w v ≡ tag → read_number canonic w tag s ≡ accepted v m
         read_strict c same = read_value ∙ rw (c, eq-eqb (min_tag w v) tag same)
 
         pub read_longer : canonic ≡ true → (min_tag w v ≡ tag → ⊥) → read_number canonic w tag s ≡ refused 2
@@ -102,27 +99,6 @@ module _ (canonic : Bool) (w tag : ℕ) (s : List ℕ) where
 -- ---- reading a standalone number
 pub standalone_none : (canonic : Bool) (s : List ℕ) (i : ℕ) → length s ≤ i → read_standalone canonic (drop i s) ≡ refused 1
 standalone_none canonic s i h = rw (drop_of_length-le s h)
-
-pub standalone_some : (canonic : Bool) (s : List ℕ) (i : ℕ) → i < length s
-    → read_standalone canonic (drop i s) ≡ shift 1 (read_number canonic 8 (get_or s i 0) (drop (i + 1) s))
-standalone_some canonic s i h = rw (drop-cons s i 0 h, add-one i)
-
--- a refusal is the same, one byte later
-pub refusal_shifted : (x : DecodedU64) (k : ℕ) → ((v n : ℕ) → x ≡ decoded.Value v n → ⊥) → shift k (number_answer x) ≡ number_answer x
-refusal_shifted (decoded.Value n u) k h = absurd (h n u refl)
-refusal_shifted decoded.EndOfInput k h = refl
-refusal_shifted decoded.TheirFault k h = refl
-
--- a number that is no value: its refusal, and the same whatever stands beside it
-pub record Refused (x : DecodedU64) : Type 1 where
-  pub why : ℕ
-  pub number : number_answer x ≡ refused why
-  pub whole : {A : Type 0} (a : A) (d : Decoded) → answer_of d tt ≡ unvalued (number_answer x) → answer_of d a ≡ refused why
-
-pub refused_number : (x : DecodedU64) → ((v n : ℕ) → x ≡ decoded.Value v n → ⊥) → Refused x
-refused_number (decoded.Value n u) h = absurd (h n u refl)
-refused_number decoded.EndOfInput h = record { why = 1; number = refl; whole = λ a d e. unvalued_refused a d 1 e }
-refused_number decoded.TheirFault h = record { why = 2; number = refl; whole = λ a d e. unvalued_refused a d 2 e }
 
 -- a standalone number that was read lies within the bytes
 pub standalone_inside : (canonic : Bool) (s : List ℕ) (i v n : ℕ) → read_standalone canonic (drop i s) ≡ accepted v n → i + n ≤ length s
@@ -152,7 +128,6 @@ number_bytes_lem w v n e =
     rw width
 
 -- the tag's byte, then the bytes after it
-pub standalone_put : (l : List ℕ) (v t n : ℕ) → t ≡ min_tag 8 v → n ≡ length (standalone_bytes v) → n ≤ length l
-    → take 1 (set l 0 t) ++ put_buffer allowed (number_bytes 8 v) (drop 1 (set l 0 t)) ≡ over (standalone_bytes v) l
-standalone_put [] v t n et en h = absurd (omega arith)
-standalone_put (x ∷ l) v t n et en h = rw (put_over (number_bytes 8 v) l (omega arith), et)
+pub standalone_put : (l : List ℕ) (v t : ℕ) → t ≡ min_tag 8 v → 1 ≤ length l
+    → take 1 (set l 0 t) ++ over (number_bytes 8 v) (drop 1 (set l 0 t)) ≡ over (standalone_bytes v) l
+standalone_put l v t e h = over-cons l (number_bytes 8 v) t h ∙ rw e

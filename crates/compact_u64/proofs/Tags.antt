@@ -1,5 +1,5 @@
 -- Laws of tags, for every width w.
-use Rattle.codec.proofs.Prelude.{◌≡◌, refl, sym, ap, ◌∙◌, Bool, true, false, cond, ◌-◌, ℕ, zero, suc, ◌+◌, ◌^◌, ◌≤◌, ◌<◌, arith, ltb, pow_mono, length, ltb-true, ltb-false, lt-ltb, le-ltb}
+use Rattle.codec.proofs.Prelude.{◌≡◌, refl, sym, ap, ◌∙◌, Bool, true, false, cond, ◌-◌, ℕ, zero, suc, ◌+◌, ◌*◌, ◌%◌, ◌^◌, ◌≤◌, ◌<◌, arith, ltb, pow_mono, length, ltb-true, ltb-false, lt-ltb, le-ltb}
 use Rattle.codec.specs.Answers.{AllBytes}
 use Rattle.compact_u64.specs.Number.{inline_limit, width_exponent, min_tag, encoding_width, number_bytes, U64}
 use Rattle.compact_u64.specs.Laws.{Carries, inline, sized}
@@ -119,3 +119,11 @@ number_bytes_short w v = rw (length-number_bytes w v) (min_width w v).0
 
 pub number_bytes_least : (w v tag : ℕ) → Carries w tag v → length (number_bytes w v) ≤ encoding_width w tag
 number_bytes_least w v tag c = rw (length-number_bytes w v) ((min_width w v).1 tag c)
+
+-- two to an exponent, as the code shifts it
+pub two_to_lem : (k : ℕ) → k < 4 → (1 * 2 ^ k % 18446744073709551616 ≡ 2 ^ k) × (1 ≤ 1 * 2 ^ k % 18446744073709551616) × (1 * 2 ^ k % 18446744073709551616 ≤ 8)
+two_to_lem zero h = (refl, omega arith, omega arith)
+two_to_lem (suc zero) h = (refl, omega arith, omega arith)
+two_to_lem (suc (suc zero)) h = (refl, omega arith, omega arith)
+two_to_lem (suc (suc (suc zero))) h = (refl, omega arith, omega arith)
+two_to_lem (suc (suc (suc (suc k)))) h = absurd (omega arith)

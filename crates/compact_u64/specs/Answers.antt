@@ -1,10 +1,8 @@
--- What the enums of the code stand for.
-use Rattle.std.specs.Prelude.{ℕ}
-use Rattle.codec.specs.Answers.{Answer, accepted, refused}
+-- What the widths of the code stand for.
+use Rattle.std.specs.Prelude.{◌≡◌, ◌≤◌, ℕ, Result, Ok, Err}
 use Rattle.compact_u64.specs.declared.TagWidth.{TagWidth}
 use Rattle.compact_u64.specs.declared.TagWidth.TheVariants as width
-use Rattle.compact_u64.specs.declared.DecodedU64.{DecodedU64}
-use Rattle.compact_u64.specs.declared.DecodedU64.TheVariants as decoded
+use Rattle.codec.specs.declared.Malformed.{Malformed}
 
 -- the bits of a tag
 abbrev pub bits : TagWidth → ℕ
@@ -16,7 +14,7 @@ bits width.Six = 6
 bits width.Seven = 7
 bits width.Eight = 8
 
-abbrev pub number_answer : DecodedU64 → Answer ℕ
-number_answer (decoded.Value v n) = accepted v n
-number_answer decoded.EndOfInput = refused 1
-number_answer decoded.TheirFault = refused 2
+-- the width of so many bits; none has fewer than 2 or more than 8
+abbrev pub HasBits : ℕ → Result TagWidth Malformed → Type 0
+HasBits n (Ok w) = bits w ≡ n
+HasBits n (Err e) = (2 ≤ n) × (n ≤ 8) → ⊥

@@ -2,54 +2,32 @@
 
 #![tactic(auto)]
 
-ghost use Rattle.std.specs.Prelude.{◌≡◌};
+ghost use Rattle.std.specs.Prelude.{◌≡◌, ◌<◌};
+ghost use Rattle.std.specs.Option.{SomeIff};
 ghost use Rattle.decimal.specs.Decimal.{decimal_value, read_decimal, decimal_answer};
 
-// What reading a number finds. Refused: no digits, another byte, a leading zero, or 2^64 and above.
-#[derive(Clone, Copy)]
-pub enum Decimal {
-    Value(u64),
-    Refused,
-}
-
-// 10 for a byte that is no digit.
-fn decimal_value(b: u8) -> u64
-    ensures { result ≡ decimal_value b }
+#[tactic(auto, unfolding(crate::specs::Decimal::decimal_value))]
+fn digit(b: u8) -> Option<u64>
+    ensures { SomeIff result (decimal_value b < 10) (decimal_value b) }
 {
-    if b < b'0' {
-        return 10;
+    match b {
+        b'0'..=b'9' => Some(u64::from(b - b'0')),
+        _ => None,
     }
-    if b <= b'9' {
-        return (b - b'0') as u64;
-    }
-    10
 }
 
 // Reads a number in decimal, without leading zeros.
-pub fn read_decimal(s: &[u8]) -> Decimal
+// None for a text without digits, with another byte or with a leading zero, and for 2^64 and above.
+#[tactic(auto, using(crate::proofs::DecimalSteps::reading))]
+pub fn read_decimal(s: &[u8]) -> Option<u64>
     ensures { decimal_answer result ≡ read_decimal s.now }
 {
-    if s.len() == 0 {
-        return Decimal::Refused;
+    if let [] | [b'0', _, ..] = s {
+        return None;
     }
-    if s[0] == b'0' {
-        if s.len() == 1 {
-            return Decimal::Value(0);
-        }
-        return Decimal::Refused;
+    let mut value: u64 = 0;
+    for &b in s {
+        value = value.checked_mul(10)?.checked_add(digit(b)?)?;
     }
-    let mut v: u64 = 0;
-    let mut i: usize = 0;
-    while i < s.len() {
-        let d = decimal_value(s[i]);
-        if 9 < d {
-            return Decimal::Refused;
-        }
-        if (u64::MAX - d) / 10 < v {
-            return Decimal::Refused;
-        }
-        v = v * 10 + d;
-        i += 1;
-    }
-    Decimal::Value(v)
+    Some(value)
 }

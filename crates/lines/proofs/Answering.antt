@@ -1,11 +1,12 @@
 -- A loop that answers the whole lines of a text s one after another into a buffer, while `most` bytes of it are free.
-use Rattle.codec.proofs.Prelude.{◌≡◌, refl, sym, ap, ◌∙◌, List, [], ℕ, ◌+◌, ◌-◌, ◌≤◌, ◌<◌, arith, length, take, drop, length-append, length-drop, length-take-le}
+use Rattle.codec.proofs.Prelude.{◌≡◌, refl, sym, ap, ◌∙◌, List, [], ℕ, ◌+◌, ◌-◌, ◌≤◌, arith, eqb, length, take, drop, length-append, length-drop, length-take-le}
 use Rattle.codec.specs.Format.{over}
-use Rattle.text.specs.Parts.{before}
+use Rattle.std.proofs.Common.{Some}
+use Rattle.std.specs.List.{position}
 use Rattle.text.specs.Buffer.{over_at}
 use Rattle.text.proofs.Buffer.{over_at_start, over_at_none, over_at_then}
 use Rattle.lines.specs.Lines.{span, answers, fitting_lines}
-use Rattle.lines.proofs.Lines.{span_none, span_next, answers_none, answers_next}
+use Rattle.lines.proofs.Lines.{whole_next, span_none, span_next, answers_none, answers_next}
 use Rattle.lines.proofs.Fitting.{fitting_turn}
 
 module _ (f : List ℕ → List ℕ) (most : ℕ) (s out₀ : List ℕ) where
@@ -25,12 +26,13 @@ module _ (f : List ℕ → List ℕ) (most : ℕ) (s out₀ : List ℕ) where
 
   module _ {out : List ℕ} {at put : ℕ} (l : Answered out at put) where
     -- a turn: the line of k bytes at `at` is answered
-    pub one_answered : (k : ℕ) {out' : List ℕ} {p : ℕ} → most ≤ length out₀ - put → k ≡ length (before 10 (drop at s)) → k < length (drop at s)
+    pub one_answered : (k : ℕ) {out' : List ℕ} {p : ℕ} → most ≤ length out₀ - put → position (λ b. eqb b 10) (drop at s) ≡ Some k
         → p ≡ put + length (f (take k (drop at s))) → out' ≡ over_at put (f (take k (drop at s))) out → length out' ≡ length out → p ≤ length out' → Answered out' (at + (k + 1)) p
-    one_answered k free e h p o same inside' =
+    one_answered k free e p o same inside' =
+        let h = (whole_next (drop at s) k e).0 in
         let line = take k (drop at s) in
         let rest = fitting_lines f most (length out₀ - (put + length (f line))) (drop (at + (k + 1)) s) in
-        let t = fitting_turn f most s (length out₀) at put k free e h in
+        let t = fitting_turn f most s (length out₀) at put k free e in
         let a = ap (answers f) t ∙ answers_next f line rest in
         let b = ap length a ∙ length-append (f line) (answers f rest) in
         let sp = ap span t ∙ span_next line rest in

@@ -1,5 +1,5 @@
 -- A loop that writes the answers to the whole lines of a text s, as many at a time as the buffer takes.
-use Rattle.codec.proofs.Prelude.{◌≡◌, refl, sym, ◌∙◌, List, ℕ, ◌+◌, ◌-◌, ◌≤◌, arith, length, take, drop, length-drop, drop-drop}
+use Rattle.codec.proofs.Prelude.{◌≡◌, sym, ◌∙◌, List, ℕ, ◌+◌, ◌-◌, ◌≤◌, arith, length, take, drop, length-drop, drop-drop}
 use Rattle.codec.proofs.Lending.{to_end}
 use Rattle.lines.specs.Lines.{span, whole_lines, fitting_lines}
 use Rattle.lines.proofs.Fitting.{fitting-span, fitting_nothing}
@@ -9,9 +9,6 @@ pub record Drained (s out₀ out : List ℕ) (at : ℕ) : Type 0 where
   pub inside : at ≤ length s
   pub kept : length out ≡ length out₀
   pub whole : span (whole_lines s) ≡ at + span (whole_lines (drop at s))
-
-pub none_drained : (s out₀ : List ℕ) → Drained s out₀ out₀ 0
-none_drained s out₀ = record { inside = omega arith; kept = refl; whole = omega arith }
 
 -- a turn: as many bytes were taken as the lines have that fit
 module _ (f : List ℕ → List ℕ) (most : ℕ) {s out₀ out : List ℕ} {at taken : ℕ} (l : Drained s out₀ out at)

@@ -1,6 +1,7 @@
 -- Laws of answering lines while there is room, for the loop that answers the whole lines of a text.
-use Rattle.codec.proofs.Prelude.{◌≡◌, refl, sym, ap, ◌∙◌, List, [], ◌∷◌, ◌++◌, Bool, true, false, cond, ℕ, ◌+◌, ◌-◌, ◌≤◌, ◌<◌, arith, ltb, lt-ltb, le-ltb, length, take, drop, drop-drop}
-use Rattle.text.specs.Parts.{before}
+use Rattle.codec.proofs.Prelude.{◌≡◌, refl, sym, ap, ◌∙◌, List, [], ◌∷◌, ◌++◌, Bool, true, false, cond, ℕ, ◌+◌, ◌-◌, ◌≤◌, ◌<◌, arith, eqb, ltb, lt-ltb, le-ltb, length, take, drop, drop-drop}
+use Rattle.std.proofs.Common.{Some, None}
+use Rattle.std.specs.List.{position}
 use Rattle.lines.specs.Lines.{lines_of, whole_lines, span, fitting, fitting_lines}
 use Rattle.lines.proofs.Lines.{whole_none, whole_next, lines_next, span-append, span_zero}
 
@@ -26,18 +27,18 @@ module _ (f : List ℕ → List ℕ) (most : ℕ) where
       go [] = refl
       go (l ∷ ls) = rw (lt-ltb room most h)
 
-  pub fitting_end : (s : List ℕ) (room : ℕ) → length s ≤ length (before 10 s) → fitting_lines f most room s ≡ []
+  pub fitting_end : (s : List ℕ) (room : ℕ) → position (λ b. eqb b 10) s ≡ None → fitting_lines f most room s ≡ []
   unfolding fitting
   fitting_end s room h = rw (whole_none s h)
 
   -- a turn, n bytes being the buffer's length: the line that is answered, and the lines that are still to be answered
-  pub fitting_turn : (s : List ℕ) (n at put k : ℕ) → most ≤ n - put → k ≡ length (before 10 (drop at s)) → k < length (drop at s)
+  pub fitting_turn : (s : List ℕ) (n at put k : ℕ) → most ≤ n - put → position (λ b. eqb b 10) (drop at s) ≡ Some k
       → fitting_lines f most (n - put) (drop at s) ≡ take k (drop at s) ∷ fitting_lines f most (n - (put + length (f (take k (drop at s))))) (drop (at + (k + 1)) s)
-  fitting_turn s n at put k h e g =
+  fitting_turn s n at put k h e =
       let r = drop at s in
       let a = length (f (take k r)) in
       let room : n - put - a ≡ n - (put + a) = omega arith in
-      let w : whole_lines r ≡ take k r ∷ whole_lines (drop (k + 1) r) = rw (← e) at (whole_next r (omega arith)) in
+      let w : whole_lines r ≡ take k r ∷ whole_lines (drop (k + 1) r) = (whole_next r k e).1 in
       rw w (fitting_next (n - put) (take k r) _ h ∙ rw (room, drop-drop (k + 1) at s))
 
   -- ---- what is left

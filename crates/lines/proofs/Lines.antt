@@ -1,35 +1,45 @@
 -- Laws of the lines of a text.
-use Rattle.codec.proofs.Prelude.{◌≡◌, refl, sym, ap, ◌∙◌, List, [], ◌∷◌, ◌++◌, append_assoc, Bool, true, false, cond, ℕ, suc, ◌+◌, ◌≤◌, ◌<◌, arith, eqb, length, take, drop, drop-drop}
-use Rattle.text.specs.Parts.{before, on_first}
+use Rattle.codec.proofs.Prelude.{◌≡◌, refl, sym, ap, ◌∙◌, List, [], ◌∷◌, ◌++◌, append_assoc, Bool, true, false, not, cond, ℕ, suc, ◌+◌, ◌≤◌, ◌<◌, arith, eqb, length, take, drop, drop-drop}
+use Rattle.std.proofs.Common.{Some, None}
+use Rattle.std.proofs.lemmas.Bool.Decides.{nat_tests}
+use Rattle.std.specs.List.{onto_first, position, position_or_len}
 use Rattle.lines.specs.Lines.{lines_of, on_whole, whole_lines, span, answers}
 
 -- ---- by the place of the first newline
--- none: no whole line
-pub whole_none : (s : List ℕ) → length s ≤ length (before 10 s) → whole_lines s ≡ []
-unfolding before whole_lines
-whole_none [] h = refl
-whole_none (b ∷ s) h = by_cases (λ k. whole_none s k) (eqb b 10) h
+abbrev pub newline : List ℕ → ℕ
+newline s = position_or_len (λ b. eqb b 10) s
+
+none_whole : (s : List ℕ) → length s ≤ newline s → whole_lines s ≡ []
+unfolding whole_lines
+none_whole [] h = refl
+none_whole (b ∷ s) h = by_cases (none_whole s) (eqb b 10) h
   where
-    by_cases : (length s ≤ length (before 10 s) → whole_lines s ≡ []) → (t : Bool) → suc (length s) ≤ length (cond t [] (b ∷ before 10 s))
+    by_cases : (length s ≤ newline s → whole_lines s ≡ []) → (t : Bool) → length {A = ℕ} (b ∷ s) ≤ cond (not t) (1 + newline s) 0
         → cond t ([] ∷ whole_lines s) (on_whole b (whole_lines s)) ≡ []
     by_cases ih true h = absurd (omega arith)
     by_cases ih false h = rw (ih (omega arith))
 
--- one: the line before it, and the lines after it
-pub whole_next : (s : List ℕ) → length (before 10 s) < length s
-    → whole_lines s ≡ take (length (before 10 s)) s ∷ whole_lines (drop (length (before 10 s) + 1) s)
-unfolding before whole_lines
-whole_next [] h = absurd (omega arith)
-whole_next (b ∷ s) h = by_cases (λ k. whole_next s k) (eqb b 10) h
+one_whole : (s : List ℕ) → newline s < length s → whole_lines s ≡ take (newline s) s ∷ whole_lines (drop (newline s + 1) s)
+unfolding whole_lines
+one_whole [] h = absurd (omega arith)
+one_whole (b ∷ s) h = by_cases (one_whole s) (eqb b 10) h
   where
-    by_cases : (length (before 10 s) < length s → whole_lines s ≡ take (length (before 10 s)) s ∷ whole_lines (drop (length (before 10 s) + 1) s))
-        → (t : Bool) → length (cond t [] (b ∷ before 10 s)) < suc (length s)
-        → cond t ([] ∷ whole_lines s) (on_whole b (whole_lines s))
-        ≡ take (length (cond t [] (b ∷ before 10 s))) (b ∷ s) ∷ whole_lines (drop (length (cond t [] (b ∷ before 10 s)) + 1) (b ∷ s))
+    by_cases : (newline s < length s → whole_lines s ≡ take (newline s) s ∷ whole_lines (drop (newline s + 1) s))
+        → (t : Bool) → cond (not t) (1 + newline s) 0 < length {A = ℕ} (b ∷ s)
+        → cond t ([] ∷ whole_lines s) (on_whole b (whole_lines s)) ≡ take (cond (not t) (1 + newline s) 0) (b ∷ s) ∷ whole_lines (drop (cond (not t) (1 + newline s) 0 + 1) (b ∷ s))
     by_cases ih true h = refl
     by_cases ih false h =
-        let e : suc (length (before 10 s)) + 1 ≡ suc (length (before 10 s) + 1) = omega arith in
-        rw (ih (omega arith), e)
+        let e : 1 + newline s ≡ suc (newline s) = omega arith in
+        let f : suc (newline s) + 1 ≡ suc (newline s + 1) = omega arith in
+        rw (ih (omega arith), e, f)
+
+-- none: no whole line
+pub whole_none : (s : List ℕ) → position (λ b. eqb b 10) s ≡ None → whole_lines s ≡ []
+whole_none s h = none_whole s (grind (arith, nat_tests))
+
+-- one: the line before it, and the lines after it
+pub whole_next : (s : List ℕ) (k : ℕ) → position (λ b. eqb b 10) s ≡ Some k → (k < length s) × (whole_lines s ≡ take k s ∷ whole_lines (drop (k + 1) s))
+whole_next s k h = grind (arith, nat_tests, one_whole)
 
 -- ---- a first line that is whole is a line, whatever follows; what stands after it has the other lines
 pub lines_next : (t s l : List ℕ) (ls : List (List ℕ)) → whole_lines s ≡ l ∷ ls
@@ -40,7 +50,7 @@ lines_next t (b ∷ s) l ls h = by_cases (λ m ms k. lines_next t s m ms k) (eqb
   where
     inner : (w : List (List ℕ)) → ((m : List ℕ) (ms : List (List ℕ)) → w ≡ m ∷ ms → (lines_of (s ++ t) ≡ m ∷ lines_of (drop (length m + 1) s ++ t)) × (ms ≡ whole_lines (drop (length m + 1) s)))
         → on_whole b w ≡ l ∷ ls
-        → (on_first b (lines_of (s ++ t)) ≡ l ∷ lines_of (drop (length l + 1) (b ∷ s) ++ t)) × (ls ≡ whole_lines (drop (length l + 1) (b ∷ s)))
+        → (onto_first b (lines_of (s ++ t)) ≡ l ∷ lines_of (drop (length l + 1) (b ∷ s) ++ t)) × (ls ≡ whole_lines (drop (length l + 1) (b ∷ s)))
     inner [] ih h = let z : ◌≡◌ {A = ℕ} 0 1 = cc in absurd (omega arith)
     inner (m ∷ ms) ih h =
         let p = ih m ms refl in
@@ -51,7 +61,7 @@ lines_next t (b ∷ s) l ls h = by_cases (λ m ms k. lines_next t s m ms k) (eqb
 
     by_cases : ((m : List ℕ) (ms : List (List ℕ)) → whole_lines s ≡ m ∷ ms → (lines_of (s ++ t) ≡ m ∷ lines_of (drop (length m + 1) s ++ t)) × (ms ≡ whole_lines (drop (length m + 1) s)))
         → (d : Bool) → cond d ([] ∷ whole_lines s) (on_whole b (whole_lines s)) ≡ l ∷ ls
-        → (cond d ([] ∷ lines_of (s ++ t)) (on_first b (lines_of (s ++ t))) ≡ l ∷ lines_of (drop (length l + 1) (b ∷ s) ++ t)) × (ls ≡ whole_lines (drop (length l + 1) (b ∷ s)))
+        → (cond d ([] ∷ lines_of (s ++ t)) (onto_first b (lines_of (s ++ t))) ≡ l ∷ lines_of (drop (length l + 1) (b ∷ s) ++ t)) × (ls ≡ whole_lines (drop (length l + 1) (b ∷ s)))
     by_cases ih true h =
         let el : ◌≡◌ {A = List ℕ} [] l = cc in
         let es : whole_lines s ≡ ls = cc in

@@ -1,7 +1,7 @@
 -- The claim of specs/Laws.antt: the answers of a stream are those to the lines of the whole.
 use Rattle.codec.proofs.Prelude.{◌≡◌, refl, sym, ap, ◌∙◌, List, [], ◌∷◌, ◌++◌, append_assoc, append-nil, Bool, true, false, cond, ℕ, zero, suc, ◌<◌, arith, ltb, eqb, ltb-true, ltb-false, length, take, drop, length-take-le, take_all}
 use mathlib.Core.List.{flatten}
-use Rattle.text.specs.Parts.{on_first}
+use Rattle.std.specs.List.{onto_first}
 use Rattle.lines.specs.Lines.{lines_of, on_whole, whole_lines, span, answers, fitting_lines}
 use Rattle.lines.specs.Stream.{kept_after, stream, Run, answered, more, ended}
 use Rattle.lines.specs.Laws.{NeedsFirst, StreamClaim}
@@ -20,19 +20,19 @@ needs_first f n r long l = by_cases (ltb n (length l)) refl
     by_cases false e = ap f (take_all (suc n) l (omega (arith, ltb-false n (length l) e)))
 
 -- ---- bytes without a newline in front of other bytes
-onto_first : List ℕ → List (List ℕ) → List (List ℕ)
-onto_first [] ls = ls
-onto_first (b ∷ s) ls = on_first b (onto_first s ls)
+put_first : List ℕ → List (List ℕ) → List (List ℕ)
+put_first [] ls = ls
+put_first (b ∷ s) ls = onto_first b (put_first s ls)
 
-onto_none : (b : ℕ) (s : List ℕ) → onto_first (b ∷ s) [] ≡ (b ∷ s) ∷ []
-unfolding onto_first
+onto_none : (b : ℕ) (s : List ℕ) → put_first (b ∷ s) [] ≡ (b ∷ s) ∷ []
+unfolding put_first
 onto_none b [] = refl
-onto_none b (a ∷ s) = ap (on_first b) (onto_none a s)
+onto_none b (a ∷ s) = ap (onto_first b) (onto_none a s)
 
-onto_some : (s l : List ℕ) (ls : List (List ℕ)) → onto_first s (l ∷ ls) ≡ (s ++ l) ∷ ls
-unfolding onto_first
+onto_some : (s l : List ℕ) (ls : List (List ℕ)) → put_first s (l ∷ ls) ≡ (s ++ l) ∷ ls
+unfolding put_first
 onto_some [] l ls = refl
-onto_some (b ∷ s) l ls = ap (on_first b) (onto_some s l ls)
+onto_some (b ∷ s) l ls = ap (onto_first b) (onto_some s l ls)
 
 no_newline : (b : ℕ) (s : List ℕ) → whole_lines (b ∷ s) ≡ [] → (eqb b 10 ≡ false) × (whole_lines s ≡ [])
 unfolding whole_lines
@@ -43,8 +43,8 @@ no_newline b s h = by_cases (eqb b 10) (whole_lines s) h
     by_cases false [] h = (refl, refl)
     by_cases false (l ∷ w) h = absurd (let z : ◌≡◌ {A = ℕ} 0 1 = cc in omega arith)
 
-lines_onto : (s c : List ℕ) → whole_lines s ≡ [] → lines_of (s ++ c) ≡ onto_first s (lines_of c)
-unfolding lines_of onto_first
+lines_onto : (s c : List ℕ) → whole_lines s ≡ [] → lines_of (s ++ c) ≡ put_first s (lines_of c)
+unfolding lines_of put_first
 lines_onto [] c h = refl
 lines_onto (b ∷ s) c h =
     let p = no_newline b s h in
@@ -65,7 +65,7 @@ take_again (suc n) (b ∷ s) l = ap (λ (r : List ℕ). b ∷ r) (take_again n s
 
 -- ---- the claim
 module _ (f : List ℕ → List ℕ) (n : ℕ) (first : NeedsFirst (suc n) f) where
-  cut_first : (s : List ℕ) (ls : List (List ℕ)) → answers f (onto_first s ls) ≡ answers f (onto_first (take (suc n) s) ls)
+  cut_first : (s : List ℕ) (ls : List (List ℕ)) → answers f (put_first s ls) ≡ answers f (put_first (take (suc n) s) ls)
   unfolding answers
   cut_first [] ls = refl
   cut_first (b ∷ s) [] = rw (onto_none b s, onto_none b (take n s), ← (first (b ∷ s)))

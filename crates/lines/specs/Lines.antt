@@ -1,11 +1,11 @@
 -- The lines of a text, and the answers to them.
 use Rattle.std.specs.Prelude.{List, [], ◌∷◌, ◌++◌, cond, ℕ, ◌+◌, ◌-◌, ltb, eqb, length}
-use Rattle.text.specs.Parts.{on_first}
+use Rattle.std.specs.List.{onto_first}
 
 -- the lines of a text; the last one may lack its newline
 unfoldable pub lines_of : List ℕ → List (List ℕ)
 lines_of [] = []
-lines_of (b ∷ s) = cond (eqb b 10) ([] ∷ lines_of s) (on_first b (lines_of s))
+lines_of (b ∷ s) = cond (eqb b 10) ([] ∷ lines_of s) (onto_first b (lines_of s))
 
 -- a byte in front of the first line, where there is one
 abbrev pub on_whole : ℕ → List (List ℕ) → List (List ℕ)

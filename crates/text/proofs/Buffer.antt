@@ -1,5 +1,5 @@
 -- Laws of bytes written into a buffer from a place on: by single stores, and one thing after another.
-use Rattle.codec.proofs.Prelude.{◌≡◌, refl, sym, ap, ◌∙◌, List, [], ◌∷◌, ◌++◌, append_assoc, ℕ, suc, ◌+◌, ◌≤◌, ◌<◌, add-one, arith, le-leb, lt-leb, length, take, drop, set, length-append, length-drop, take-append-drop, drop-drop, drop-set-lt, take-suc-set, length-take-le}
+use Rattle.codec.proofs.Prelude.{put_mid, ◌≡◌, refl, sym, ap, ◌∙◌, List, [], ◌∷◌, ◌++◌, append_assoc, ℕ, suc, ◌+◌, ◌≤◌, ◌<◌, add-one, arith, le-leb, lt-leb, length, take, drop, set, length-append, length-drop, take-append-drop, drop-drop, drop-set-lt, take-suc-set, length-take-le}
 use Rattle.codec.specs.Format.{over}
 use Rattle.codec.proofs.Lending.{over_turn}
 use Rattle.text.specs.Buffer.{over_at, put_at, place_after}
@@ -33,13 +33,31 @@ over_at_then at a b l h = sym (over_turn l a b at h)
 
 -- ---- whether bytes fit
 module _ (at : ℕ) (bs l : List ℕ) where
-  pub put_at_fits : at + length bs ≤ length l → (at + length bs ≡ place_after at bs l) × (over_at at bs l ≡ put_at at bs l)
-  unfolding put_at place_after
-  put_at_fits h = (rw (le-leb _ _ h), rw (le-leb _ _ h))
+  pub place_after_fits : at + length bs ≤ length l → place_after at bs l ≡ at + length bs
+  unfolding place_after
+  place_after_fits h = rw (le-leb _ _ h)
 
-  pub put_at_full : length l < at + length bs → (at ≡ place_after at bs l) × (l ≡ put_at at bs l)
-  unfolding put_at place_after
-  put_at_full h = (rw (lt-leb _ _ h), rw (lt-leb _ _ h))
+  pub place_after_full : length l < at + length bs → place_after at bs l ≡ at
+  unfolding place_after
+  place_after_full h = rw (lt-leb _ _ h)
+
+  pub put_at-over_at : at + length bs ≤ length l → put_at at bs l ≡ over_at at bs l
+  unfolding put_at
+  put_at-over_at h = rw (le-leb _ _ h)
+
+  pub put_at_full : length l < at + length bs → put_at at bs l ≡ l
+  unfolding put_at
+  put_at_full h = rw (lt-leb _ _ h)
+
+  -- what a copy to a part of the buffer leaves
+  pub put_mid-over_at : (k : ℕ) → k ≡ length bs → put_mid at k l bs ≡ over_at at bs l
+  unfolding over_at
+  put_mid-over_at k e = rw e
+
+  pub put_at_fits : at + length bs ≤ length l → (at + length bs ≡ place_after at bs l) × (over_at at bs l ≡ put_at at bs l)
+  put_at_fits h = (sym (place_after_fits h), sym (put_at-over_at h))
+
+pub ruleset puts = (place_after_fits, place_after_full, put_at-over_at, put_at_full, put_mid-over_at)
 
 -- ---- puts one after another, in a buffer that has room for all
 pub wrote_first : (l : List ℕ) (at : ℕ) (b l' : List ℕ) (p k : ℕ) → p ≡ place_after at b l → l' ≡ put_at at b l → length b ≤ k → at + k ≤ length l → Wrote l at b l' p k

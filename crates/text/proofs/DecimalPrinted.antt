@@ -1,5 +1,6 @@
 -- What `io::decimal` writes is the number's text, of at most 20 digits.
-use Rattle.codec.proofs.Prelude.{◌≡◌, refl, ap, Bool, true, false, cond, ℕ, zero, suc, ◌-◌, ◌/◌, ◌^◌, ◌≤◌, ◌<◌, pow-suc, arith, ltb, lt-ltb, le-ltb, length, length-append}
+use Rattle.codec.proofs.Prelude.{◌≡◌, refl, ap, ℕ, zero, suc, ◌-◌, ◌/◌, ◌^◌, ◌≤◌, ◌<◌, pow-suc, arith, lt-ltb, le-ltb, length, length-append}
+use Rattle.std.proofs.lemmas.Bool.Decides.{nat_tests}
 use Rattle.io.specs.Digits.{last_digits, IsDigitCount}
 use Rattle.text.specs.Decimal.{digit_count, decimal_text}
 
@@ -35,11 +36,7 @@ decimal_is n r h f = ap (λ (k : ℕ). last_digits 10 k n) (count_is 19 r n (ome
 count_few : (k n : ℕ) → digit_count k n ≤ suc k
 unfolding digit_count
 count_few zero n = omega arith
-count_few (suc k) n = by_cases (ltb n 10) (count_few k (n / 10))
-  where
-    by_cases : (b : Bool) → digit_count k (n / 10) ≤ suc k → cond b 1 (suc (digit_count k (n / 10))) ≤ suc (suc k)
-    by_cases true h = omega arith
-    by_cases false h = omega arith
+count_few (suc k) n = let few = count_few k (n / 10) in grind (arith, nat_tests)
 
 pub digits_long : (k n : ℕ) → length (last_digits 10 k n) ≡ k
 digits_long zero n = refl

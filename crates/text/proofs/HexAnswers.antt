@@ -1,53 +1,58 @@
 -- What an answer of reading bytes in hex says, for its callers.
-use Rattle.codec.proofs.Prelude.{◌≡◌, refl, sym, ◌∙◌, List, append-nil, Bool, true, false, cond, ℕ, ◌≤◌, arith, ltb, ltb-false, le-ltb, length, take, drop_of_length-le, take_at}
-use Rattle.codec.specs.Answers.{said, unsaid}
-use Rattle.codec.specs.Format.{over}
+use Rattle.std.proofs.Common.{◌≡◌, refl, sym, List, [], true, cond, ℕ, ◌<◌, ◌≤◌, arith, eqb, length, take, drop, replicate, Option, Some, None, Result, Ok, Err}
+use Rattle.std.proofs.lemmas.Bool.{le-ltb}
+use Rattle.std.proofs.lemmas.Bool.Decides.{nat_tests}
+use Rattle.std.proofs.lemmas.List.{take_at, drop_all, append-nil}
+use Rattle.std.specs.Result.{result_ok}
+use Rattle.codec.specs.Answers.{Said, said, unsaid}
 use Rattle.text.specs.Hex.{is_hex, unhex}
-use Rattle.text.specs.Fields.{read_hex, hex_answer, hex_buffer}
-use Rattle.text.specs.declared.Hex.{Hex}
-use Rattle.text.specs.declared.Hex.TheVariants.{Bytes, NoHex, NoRoom}
+use Rattle.text.specs.Ids.{read_id_text}
+use Rattle.text.specs.Fields.{read_hex, hex_number, hex_answer, hex_buffer}
+use Rattle.text.specs.declared.HexError.{HexError}
+use Rattle.text.proofs.HexSteps.{is_hex_even}
 
--- an answer other than bytes: no hex, or no room
-no_bytes : (x : Hex) → ((m : ℕ) → x ≡ Bytes m → ⊥) → (n : ℕ) → hex_answer x ≡ said n → ⊥
-no_bytes (Bytes m) k n e = k m refl
-no_bytes NoHex k n e = let z : ◌≡◌ {A = ℕ} 0 1 = cc in omega arith
-no_bytes NoRoom k n e = let z : ◌≡◌ {A = ℕ} 0 1 = cc in omega arith
-
-pub hex_refused : (a : List ℕ) (room : ℕ) (x : Hex) → hex_answer x ≡ read_hex a room → ((m : ℕ) → x ≡ Bytes m → ⊥)
-    → cond (is_hex a) (ltb room (length (unhex a))) true ≡ true
+-- no hex, or more bytes than there is room for
+pub hex_refused : (a : List ℕ) (room k : ℕ) → unsaid k ≡ read_hex a room → is_hex a ≡ true → room < length (unhex a)
 unfolding read_hex
-hex_refused a room x e k = by_cases (is_hex a) (ltb room (length (unhex a))) e
-  where
-    by_cases : (t d : Bool) → hex_answer x ≡ cond t (cond d (unsaid 4) (said (length (unhex a)))) (unsaid 6) → cond t d true ≡ true
-    by_cases true true e = refl
-    by_cases true false e = absurd (no_bytes x k _ e)
-    by_cases false d e = refl
+hex_refused a room k e h = grind (arith, nat_tests)
+
+-- the same of an answer as an Option
+pub hex_none : (r : Result ℕ HexError) (a : List ℕ) (room : ℕ) → result_ok r ≡ None → hex_answer r ≡ read_hex a room → is_hex a ≡ true → room < length (unhex a)
+hex_none (Ok n) a room none e = absurd (cc)
+hex_none (Err x) a room none e = hex_refused a room (hex_number x) e
+
+pub hex_some : (r : Result ℕ HexError) (a : List ℕ) (room n : ℕ) → result_ok r ≡ Some n → hex_answer r ≡ read_hex a room → said n ≡ read_hex a room
+hex_some (Ok m) a room n some e = let same : m ≡ n = cc in rw (← same) e
+hex_some (Err x) a room n some e = absurd (cc)
 
 module _ (a : List ℕ) (n : ℕ) where
   pub some_bytes_lem : (room : ℕ) → said n ≡ read_hex a room → (is_hex a ≡ true) × (n ≡ length (unhex a)) × (n ≤ room)
   unfolding read_hex
-  some_bytes_lem room e = outer (is_hex a) e
-    where
-      inner : (t : Bool) → ltb room (length (unhex a)) ≡ t → said n ≡ cond t (unsaid 4) (said (length (unhex a))) → (n ≡ length (unhex a)) × (n ≤ room)
-      inner true h e = let z : ◌≡◌ {A = ℕ} 0 1 = cc in absurd (omega arith)
-      inner false h e = let q : n ≡ length (unhex a) = cc in (q, omega (arith, q, ltb-false room (length (unhex a)) h))
+  some_bytes_lem room e = grind (arith, nat_tests)
 
-      outer : (t : Bool) → said n ≡ cond t (cond (ltb room (length (unhex a))) (unsaid 4) (said (length (unhex a)))) (unsaid 6) → (t ≡ true) × (n ≡ length (unhex a)) × (n ≤ room)
-      outer true e = let i = inner (ltb room (length (unhex a))) refl e in (refl, i.0, i.1)
-      outer false e = let z : ◌≡◌ {A = ℕ} 0 1 = cc in absurd (omega arith)
+  pub bytes_are : (buf : List ℕ) → said n ≡ read_hex a (length buf) → take n (hex_buffer a buf) ≡ unhex a
+  unfolding hex_buffer
+  bytes_are buf e =
+      let s = some_bytes_lem (length buf) e in
+      rw (s.0, le-ltb (length buf) (length (unhex a)) (omega arith)) (take_at (unhex a) _ n (sym s.1))
 
-  module _ (buf : List ℕ) (e : said n ≡ read_hex a (length buf)) where
-    filled : hex_buffer a buf ≡ over (unhex a) buf
-    unfolding hex_buffer
-    filled =
-        let s = some_bytes_lem (length buf) e in
-        rw (s.0, le-ltb (length buf) (length (unhex a)) (omega (arith, s.1, s.2)))
+-- the id that such an answer gives
+abbrev pub id_in : Said ℕ → List ℕ → Option (List ℕ)
+id_in (said n) buf = cond (eqb n 32) (Some buf) None
+id_in (unsaid k) buf = None
 
-    pub bytes_are : take n (hex_buffer a buf) ≡ unhex a
-    bytes_are = rw filled (take_at (unhex a) _ n (sym (some_bytes_lem (length buf) e).1))
+module _ (a buf : List ℕ) (long : length buf ≡ 32) where
+  hex_buffer_id : is_hex a ≡ true → length (unhex a) ≡ 32 → hex_buffer a buf ≡ unhex a
+  unfolding hex_buffer
+  hex_buffer_id h e =
+      let d : drop (length (unhex a)) buf ≡ [] = drop_all _ buf (omega arith) in
+      rw (h, le-ltb (length buf) (length (unhex a)) (omega arith), d, append-nil)
 
-    -- as many as the buffer has, an id or a digest: they are all of it
-    pub whole_buffer : n ≡ length buf → hex_buffer a buf ≡ unhex a
-    whole_buffer k =
-        let h : length buf ≤ length (unhex a) = omega (arith, (some_bytes_lem (length buf) e).1) in
-        filled ∙ rw (drop_of_length-le buf h) (append-nil (unhex a))
+  id_in_buffer : read_id_text a ≡ id_in (read_hex a 32) (hex_buffer a buf)
+  unfolding read_id_text read_hex
+  id_in_buffer = grind (arith, nat_tests, hex_buffer_id, is_hex_even a)
+
+pub read_id_text-id_in : (a : List ℕ) → read_id_text a ≡ id_in (read_hex a 32) (hex_buffer a (replicate 32 0))
+read_id_text-id_in a = id_in_buffer a (replicate 32 0) refl
+
+pub ruleset ids = (read_id_text-id_in)

@@ -1,5 +1,6 @@
 -- Texts put one after another come apart as they were, where none of them has the byte that parts them.
-use Rattle.codec.proofs.Prelude.{◌≡◌, refl, List, [], ◌∷◌, ◌++◌, Bool, true, false, cond, ℕ, zero, suc, ◌+◌, ◌/◌, ◌%◌, ◌<◌, arith, eqb, ltb, eq-eqb, ne_eqb}
+use Rattle.codec.proofs.Prelude.{◌≡◌, refl, List, [], ◌∷◌, ◌++◌, false, ℕ, zero, suc, ◌/◌, ◌%◌, ◌<◌, arith, eqb, eq-eqb}
+use Rattle.std.proofs.lemmas.Bool.Decides.{nat_tests}
 use Rattle.codec.specs.Writings.{All}
 use Rattle.io.specs.Digits.{hex_digit_ascii, last_digits}
 use Rattle.text.specs.Parts.{parts}
@@ -28,11 +29,7 @@ module _ (x : ℕ) where
 -- ---- digits are above `/`
 module _ (x : ℕ) (below : x < 48) where
   pub other_glyph : (d : ℕ) → eqb (hex_digit_ascii d) x ≡ false
-  other_glyph d = by_cases (ltb d 10)
-    where
-      by_cases : (b : Bool) → eqb (cond b (48 + d) (87 + d)) x ≡ false
-      by_cases true = ne_eqb (48 + d) x (λ e. omega (arith, e))
-      by_cases false = ne_eqb (87 + d) x (λ e. omega (arith, e))
+  other_glyph d = grind (arith, nat_tests)
 
   pub hex_without : (s : List ℕ) → Without x (hex_text s)
   unfolding hex_text

@@ -1,10 +1,8 @@
-pub mod Tests
 pub mod Buffer
-pub mod Parts
 pub mod HexSteps
-pub mod HexAnswers
 pub mod DecimalPrinted
-pub mod Back
-pub mod IdSteps
 pub mod Written
 pub mod Joined
+pub mod HexAnswers
+pub mod Back
+pub mod OneByte

@@ -1,5 +1,6 @@
 -- Bytes as text: two hexadecimal digits a byte, in lower case.
-use Rattle.std.specs.Prelude.{List, [], ◌∷◌, Bool, true, false, cond, ℕ, ◌+◌, ◌-◌, ◌*◌, ◌/◌, ◌%◌, ltb}
+use Rattle.std.specs.Prelude.{List, [], ◌∷◌, Bool, cond, ℕ, ◌+◌, ◌-◌, ◌*◌, ◌/◌, ◌%◌, ◌&&◌, ltb, eqb, length}
+use Rattle.std.specs.List.{list_all}
 use Rattle.io.specs.Digits.{hex_digit_ascii}
 
 -- the value of a digit, `0` to `9` (48 to 57) or `a` to `f` (97 to 102); 16 for any other byte
@@ -8,9 +9,7 @@ hex_value b = cond (ltb b 48) 16 (cond (ltb b 58) (b - 48) (cond (ltb b 97) 16 (
 
 -- whether a text is bytes in hex
 unfoldable pub is_hex : List ℕ → Bool
-is_hex [] = true
-is_hex (a ∷ []) = false
-is_hex (a ∷ b ∷ s) = cond (ltb (hex_value a) 16) (cond (ltb (hex_value b) 16) (is_hex s) false) false
+is_hex s = eqb (length s % 2) 0 && list_all (λ b. ltb (hex_value b) 16) s
 
 -- the bytes that it says
 unfoldable pub unhex : List ℕ → List ℕ

@@ -2,221 +2,136 @@
 
 #![tactic(auto)]
 
-ghost use Rattle.std.specs.Prelude.{◌≡◌, true, ◌+◌, ◌*◌, ◌≤◌, ◌<◌, length};
+ghost use Rattle.std.specs.Prelude.{◌≡◌, ◌↔◌, ◌==◌, IsTrue, ◌+◌, ◌*◌, ◌≤◌, ◌<◌, length, position, nat_lt};
 ghost use Rattle.io.specs.Digits.{hex_digit_ascii};
-ghost use Rattle.codec.specs.Format.{over};
-ghost use Rattle.text.specs.Parts.{before, parts, part_at};
-ghost use Rattle.text.specs.Hex.{hex_value, is_hex, unhex, hex_text};
+ghost use Rattle.text.specs.Parts.{parts, part_at};
+ghost use Rattle.text.specs.Hex.{hex_value, is_hex, hex_text};
 ghost use Rattle.text.specs.Decimal.{decimal_text};
-ghost use Rattle.text.specs.Buffer.{over_at, put_at, place_after};
+ghost use Rattle.text.specs.Buffer.{put_at, place_after};
 ghost use Rattle.text.specs.Fields.{read_hex, hex_answer, hex_buffer};
 
 pub mod ids;
 
-// What reading bytes in hex finds: how many were put into the buffer, or why it is as it was.
-#[derive(Clone, Copy)]
-pub enum Hex {
-    Bytes(usize),
+// Why bytes in hex are not read; the buffer is as it was.
+#[derive(Clone, Copy, Debug, PartialEq, Eq)]
+pub enum HexError {
     NoHex,
     NoRoom,
 }
 
-// An id of 32 bytes; all zero where the field is not one.
-#[derive(Clone, Copy)]
-pub struct IdField {
-    pub ok: bool,
-    pub id: [u8; 32],
-}
-
-// The place of the first byte `x`; the length where there is none.
-pub fn find(s: &[u8], x: u8) -> usize
-    ensures { (result ≡ length (before x s.now)) × (result ≤ length s.now) }
+// The place of the first byte `x`.
+pub fn find(s: &[u8], x: u8) -> Option<usize>
+    ensures { result ≡ position (λ b. b == x) s.now }
 {
-    let mut i: usize = 0;
-    while i < s.len() {
-        if s[i] == x {
-            return i;
-        }
-        i += 1;
-    }
-    i
+    s.iter().position(|&b| b == x)
 }
 
 // How many parts the bytes `x` part a text into.
 pub fn part_count(s: &[u8], x: u8) -> usize
     ensures { result ≡ length (parts x s.now) }
 {
-    let mut n: usize = 1;
-    let mut i: usize = 0;
-    while i < s.len() {
-        if s[i] == x {
-            n += 1;
-        }
-        i += 1;
-    }
-    n
+    s.split(|&b| b == x).count()
 }
 
 // The i-th of these parts, from 0; no bytes where there is none.
 pub fn part(s: &[u8], x: u8, i: usize) -> &[u8]
     ensures { result.now ≡ part_at x i s.now }
 {
-    let mut at: usize = 0;
-    let mut left = i;
-    while 0 < left {
-        let rest = &s[at..];
-        let k = find(rest, x);
-        if k == rest.len() {
-            return &s[..0];
-        }
-        at += k + 1;
-        left -= 1;
-    }
-    let rest = &s[at..];
-    let k = find(rest, x);
-    &rest[..k]
+    s.split(|&b| b == x).nth(i).unwrap_or(&[])
 }
 
-// 16 for a byte that is no lower-case digit.
-fn hex_value(b: u8) -> u8
-    ensures { (result ≡ hex_value b) × (result ≤ 16) }
+#[tactic(auto, unfolding(crate::specs::Hex::hex_value))]
+fn is_hex_digit(b: u8) -> bool
+    ensures { result ≡ nat_lt (hex_value b) 16 }
 {
-    if b < b'0' {
-        return 16;
-    }
-    if b <= b'9' {
-        return b - b'0';
-    }
-    if b < b'a' {
-        return 16;
-    }
-    if b <= b'f' {
-        return b - b'a' + 10;
-    }
-    16
+    matches!(b, b'0'..=b'9' | b'a'..=b'f')
 }
 
+#[tactic(auto, unfolding(crate::specs::Hex::is_hex))]
 fn is_hex(s: &[u8]) -> bool
     ensures { result ≡ is_hex s.now }
 {
-    let mut i: usize = 0;
-    while i < s.len() {
-        if s.len() - i < 2 {
-            return false;
-        }
-        let high = hex_value(s[i]);
-        if 15 < high {
-            return false;
-        }
-        let j = i + 1;
-        let low = hex_value(s[j]);
-        if 15 < low {
-            return false;
-        }
-        i += 2;
-    }
-    true
+    s.len() % 2 == 0 && s.iter().all(|&b| is_hex_digit(b))
 }
 
-fn fill_hex(s: &[u8], out: &mut [u8])
-    requires { (is_hex s.now ≡ true) × (length (unhex s.now) ≤ length out.old) }
-    ensures { out.new ≡ over (unhex s.now) out.old }
+#[tactic(auto, unfolding(crate::specs::Hex::hex_value))]
+fn hex_value(digit: u8) -> u8
+    requires { hex_value digit < 16 }
+    ensures { result ≡ hex_value digit }
 {
-    let mut i: usize = 0;
-    let mut k: usize = 0;
-    while i < s.len() {
-        let high = hex_value(s[i]);
-        let j = i + 1;
-        let low = hex_value(s[j]);
-        out[k] = high * 16 + low;
-        k += 1;
-        i += 2;
+    match digit {
+        b'0'..=b'9' => digit - b'0',
+        _ => digit - b'a' + 10,
     }
 }
 
 // Reads bytes in hex to the start of the buffer; where the text is refused, the buffer is left as it was.
-pub fn read_hex(s: &[u8], out: &mut [u8]) -> Hex
+#[tactic(auto, using(crate::proofs::HexSteps::reading))]
+pub fn read_hex(s: &[u8], out: &mut [u8]) -> Result<usize, HexError>
     ensures { (hex_answer result ≡ read_hex s.now (length out.old)) × (out.new ≡ hex_buffer s.now out.old) }
 {
     if !is_hex(s) {
-        return Hex::NoHex;
+        return Err(HexError::NoHex);
     }
     let n = s.len() / 2;
     if out.len() < n {
-        return Hex::NoRoom;
+        return Err(HexError::NoRoom);
     }
-    fill_hex(s, out);
-    Hex::Bytes(n)
+    for i in 0..n {
+        out[i] = hex_value(s[2 * i]) * 16 + hex_value(s[2 * i + 1]);
+    }
+    Ok(n)
 }
 
-fn copy_bytes(out: &mut [u8], at: usize, s: &[u8])
-    requires { at + length s.now ≤ length out.old }
-    ensures { out.new ≡ over_at at s.now out.old }
+// Whether `n` bytes have room from a place on.
+fn fits(out: &[u8], at: usize, n: usize) -> bool
+    ensures { IsTrue result ↔ (at + n ≤ length out.now) }
 {
-    let mut p = at;
-    let mut i: usize = 0;
-    while i < s.len() {
-        out[p] = s[i];
-        p += 1;
-        i += 1;
-    }
+    at <= out.len() && n <= out.len() - at
 }
 
 // Puts bytes from a place on and answers the next place; where they do not fit, nothing changes and the place stays.
+#[tactic(auto, using(crate::proofs::Buffer::puts))]
 pub fn put_bytes(out: &mut [u8], at: usize, s: &[u8]) -> usize
     ensures { (result ≡ place_after at s.now out.old) × (out.new ≡ put_at at s.now out.old) }
 {
-    if out.len() < at {
+    if !fits(out, at, s.len()) {
         return at;
     }
-    if out.len() - at < s.len() {
-        return at;
-    }
-    copy_bytes(out, at, s);
-    at + s.len()
+    let end = at + s.len();
+    out[at..end].copy_from_slice(s);
+    end
 }
 
 fn hex_digit(value: u8) -> u8
     requires { value < 16 }
     ensures { result ≡ hex_digit_ascii value }
 {
-    if value < 10 {
-        return b'0' + value;
-    }
-    b'a' - 10 + value
-}
-
-fn copy_hex(out: &mut [u8], at: usize, s: &[u8])
-    requires { at + 2 * length s.now ≤ length out.old }
-    ensures { out.new ≡ over_at at (hex_text s.now) out.old }
-{
-    let mut p = at;
-    let mut i: usize = 0;
-    while i < s.len() {
-        let b = s[i];
-        out[p] = hex_digit(b / 16);
-        p += 1;
-        out[p] = hex_digit(b % 16);
-        p += 1;
-        i += 1;
+    match value {
+        0..=9 => b'0' + value,
+        _ => b'a' - 10 + value,
     }
 }
 
 // Puts bytes in hex, as `put_bytes` does.
+#[tactic(auto, using(crate::proofs::HexSteps::printing))]
 pub fn put_hex(out: &mut [u8], at: usize, s: &[u8]) -> usize
     ensures { (result ≡ place_after at (hex_text s.now) out.old) × (out.new ≡ put_at at (hex_text s.now) out.old) }
 {
-    if out.len() < at {
+    if !fits(out, at, 2 * s.len()) {
         return at;
     }
-    if (out.len() - at) / 2 < s.len() {
-        return at;
+    let mut end = at;
+    for b in s {
+        out[end] = hex_digit(b / 16);
+        out[end + 1] = hex_digit(b % 16);
+        end += 2;
     }
-    copy_hex(out, at, s);
-    at + 2 * s.len()
+    end
 }
 
 // Puts a number in decimal, as `put_bytes` does.
+#[tactic(auto, using(crate::proofs::DecimalPrinted::decimal_is))]
 pub fn put_decimal(out: &mut [u8], at: usize, n: u64) -> usize
     ensures { (result ≡ place_after at (decimal_text n) out.old) × (out.new ≡ put_at at (decimal_text n) out.old) }
 {

@@ -9,16 +9,16 @@ pub returns-then-buffer-whole : goal.returns-then-buffer-whole
 returns-then-buffer-whole c =
     put_full allowed (standalone_bytes c.args.value) c.args.buffer.now refl _ c.len_of_encoding-whole.ensures.0 c.if-buffer-whole.true
 
-pub slice_bounds-relative_encode-count : goal.slice_bounds-relative_encode-count
-slice_bounds-relative_encode-count c = simp length-set (omega arith)
+pub slice_bounds-put_number-count : goal.slice_bounds-put_number-count
+slice_bounds-put_number-count c = simp length-set (omega arith)
 
-pub slice_bounds-relative_encode-start : goal.slice_bounds-relative_encode-start
-slice_bounds-relative_encode-start c = simp length-set (omega arith)
+pub slice_bounds-put_number-start : goal.slice_bounds-put_number-start
+slice_bounds-put_number-start c = simp length-set (omega arith)
 
 pub shape_of-buffer : goal.shape_of-buffer
 shape_of-buffer c =
     let l = set c.args.buffer.now 0 c.min_tag.result in
-    put_end_long 1 l c.relative_encode.new.buffer (simp length-set (omega arith)) c.relative_encode.auto.buffer ∙ simp length-set
+    put_end_long 1 l c.put_number.new.buffer (simp length-set (omega arith)) c.put_number.auto.buffer ∙ simp length-set
 
 pub returns : goal.returns
 returns c =
@@ -27,8 +27,8 @@ returns c =
     let tag = c.min_tag in
     let room = c.if-buffer-whole.false in
     let l = set a.buffer.now 0 tag.result in
-    let p = rw (to_end 1 l) at c.relative_encode.ensures.1 in
+    let p = rw (to_end 1 l) at c.put_number.ensures.1 in
     let f = put_fits allowed (standalone_bytes a.value) a.buffer.now refl n.result n.ensures.0 room in (
       f.0,
-      put_end 1 l c.relative_encode.new.buffer ∙ rw p (standalone_put a.buffer.now a.value tag.result n.result tag.ensures n.ensures.0 room ∙ f.1),
+      put_end 1 l c.put_number.new.buffer ∙ rw p (standalone_put a.buffer.now a.value tag.result tag.ensures (omega arith) ∙ f.1),
     )

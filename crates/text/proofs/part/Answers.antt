@@ -1,55 +1,20 @@
-use Rattle.codec.proofs.Prelude.{ℕ, suc, ◌+◌, ◌-◌, ◌<◌, ◌≡◌, refl, ap, ◌∙◌, sym, List, arith, length, drop, length-drop, length-take-le, drop-drop}
-use Rattle.codec.proofs.Lending.{to_end}
-use Rattle.text.specs.Parts.{before, part_at}
-use Rattle.text.proofs.Parts.{part_first, part_later, part_none}
+use Rattle.std.proofs.Common.{◌≡◌, ◌∙◌, ap, refl, eqb, ℕ, List, [], Bor, Option, Some, None, rules, tests}
+use Rattle.std.specs.Option.{option_map, unwrap_or}
+use Rattle.std.proofs.lemmas.Iterator.Consumers.{nth_from_yields_List}
+use Rattle.std.proofs.lemmas.Iterator.Splits.{YieldsList-from_slice_split}
+use Rattle.std.proofs.lemmas.Option.{unwrap_or-slice_get}
+use Rattle.text.specs.Parts.{parts, part_at}
 use Rattle.text.proofs.part.Goals as goal
 
-pub loop-left-init : goal.loop-left-init
-loop-left-init c = (omega arith, refl)
-
-pub returns-then-k-rest : goal.returns-then-k-rest
-returns-then-k-rest c =
-    let s = c.args.s.now in
-    let l = c.loop-left in
-    let x = c.args.x in
-    let r = drop l.at s in
-    let k = rw (to_end l.at s) at c.find-k.ensures.0 in
-    let n = rw (to_end l.at s) at c.if-k-rest.true in
-    let e : l.left ≡ suc (l.left - 1) = omega arith in
-    sym (l.invariant.1 ∙ ap (λ (n : ℕ). part_at x n r) e ∙ part_none x r (l.left - 1) (omega (arith, k, n)))
-
-pub overflow_add-at : goal.overflow_add-at
-overflow_add-at c =
-    omega (arith, c.find-k.ensures.1, length-drop c.loop-left.at c.args.s.now)
-
-pub overflow_add-at-in-loop-left : goal.overflow_add-at-in-loop-left
-overflow_add-at-in-loop-left c =
-    omega (arith, c.find-k.ensures.1, length-drop c.loop-left.at c.args.s.now)
-
-pub loop-left-preserved : goal.loop-left-preserved
-loop-left-preserved c =
-    let s = c.args.s.now in
-    let l = c.loop-left in
-    let r = drop l.at s in
-    let x = c.args.x in
-    let k = rw (to_end l.at s) at c.find-k.ensures.0 in
-    let le = rw (to_end l.at s) at c.find-k.ensures.1 in
-    let ne = rw (to_end l.at s) at c.if-k-rest.false in
-    let m : length (before x r) < length r = omega (arith, k, le, ne) in
-    let e : l.left ≡ suc (l.left - 1) = omega arith in
-    let d : drop (length (before x r) + 1) r ≡ drop (l.at + (c.find-k.result + 1)) s = rw (← k) (drop-drop (c.find-k.result + 1) l.at s) in (
-      omega (arith, m, k, length-drop l.at s),
-      l.invariant.1 ∙ ap (λ (n : ℕ). part_at x n r) e ∙ part_later x r (l.left - 1) m ∙ ap (λ (y : List ℕ). part_at x (l.left - 1) y) d,
-    )
-
-pub slice_bounds-result-end-2 : goal.slice_bounds-result-end-2
-slice_bounds-result-end-2 c = sym (length-take-le c.find-k-2.result _ c.find-k-2.ensures.1)
+-- a piece or none, read
+now-unwrap_or : (r : Option (Bor (List ℕ))) (d : Bor (List ℕ)) → (unwrap_or r d).now ≡ unwrap_or (option_map (λ x. x.now) r) d.now
+now-unwrap_or None d = refl
+now-unwrap_or (Some x) d = refl
 
 pub returns : goal.returns
+unfolding parts part_at
 returns c =
-    let s = c.args.s.now in
-    let l = c.loop-left in
-    let r = drop l.at s in
-    let z : l.left ≡ 0 = omega arith in
-    let k = rw (to_end l.at s) at c.find-k-2.ensures.0 in
-    rw (to_end l.at s, k) (sym (l.invariant.1 ∙ rw z (part_first c.args.x r)))
+    let s = c.split.ensures in
+    let piece = nth_from_yields_List c.nth.result _ c.args.i c.nth.ensures.ran
+    (YieldsList-from_slice_split _ (λ b. eqb b c.args.x) c.args.s.now s.rest s.done s.closure (λ y b q k. search (rules, tests))) in
+    ap (λ (x : Bor (List ℕ)). x.now) c.unwrap_or.ensures ∙ now-unwrap_or c.nth.result _ ∙ rw piece (unwrap_or-slice_get (parts c.args.x c.args.s.now) c.args.i [])

@@ -1,20 +1,11 @@
-use Rattle.codec.proofs.Prelude.{arith}
-use Rattle.text.proofs.Parts.{count_here, count_next, count_end}
+use Rattle.std.proofs.Common.{eqb, rules, tests}
+use Rattle.std.proofs.lemmas.Iterator.Consumers.{count_from_yields_List}
+use Rattle.std.proofs.lemmas.Iterator.Splits.{YieldsList-from_slice_split}
+use Rattle.text.specs.Parts.{parts}
 use Rattle.text.proofs.part_count.Goals as goal
-use Rattle.text.proofs.part_count.Goals.{then-s-i, else-s-i}
-
-pub loop-i-preserved : goal.loop-i-preserved
-loop-i-preserved c =
-    let s = c.args.s.now in
-    let x = c.args.x in
-    let l = c.loop-i in (
-      omega arith,
-      elim c.if-s-i.branch [ then-s-i w ↦ omega arith | else-s-i w ↦ omega arith ],
-      elim c.if-s-i.branch [
-        | then-s-i w ↦ omega (arith, l.invariant.2, count_here x s l.i (omega arith) w.if-s-i.true)
-        | else-s-i w ↦ omega (arith, l.invariant.2, count_next x s l.i (omega arith) w.if-s-i.false)
-      ],
-    )
 
 pub returns : goal.returns
-returns c = omega (arith, c.loop-i.invariant.2, count_end c.args.x c.args.s.now c.loop-i.i (omega arith))
+unfolding parts
+returns c =
+    let s = c.split.ensures in
+    count_from_yields_List c.split.result _ c.count.ensures.ran (YieldsList-from_slice_split _ (λ b. eqb b c.args.x) c.args.s.now s.rest s.done s.closure (λ y b q k. search (rules, tests)))
