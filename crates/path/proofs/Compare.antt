@@ -1,27 +1,29 @@
 -- Comparing two records component by component: what is known after k components that both have.
-use Rattle.codec.proofs.Prelude.{◌≡◌, refl, sym, ap, ◌∙◌, List, true, cond, ◌&&◌, ℕ, suc, ◌+◌, ◌≤◌, ◌<◌, add-one, arith, eqb, length, take, drop, get_or, length-drop, drop_of_length-le, length-take-le, get_or-take, get_or-drop, take-suc}
+use Rattle.codec.proofs.Prelude.{◌≡◌, refl, sym, ap, ◌∙◌, List, Bool, true, false, cond, ◌&&◌, ℕ, suc, min, ◌+◌, ◌-◌, ◌≤◌, ◌<◌, arith, eqb, eq-eqb, ne_eqb, leb, leb-true, leb-false, length, take, drop, get_or, length-drop, drop_of_length-le, length-take-le, get_or-take, get_or-drop, take-suc}
 use Rattle.path.specs.Limits.{max_path_length}
 use Rattle.path.specs.Record.{Path, components_of, sized, well_formed, length_at, start_at}
 use Rattle.codec.specs.Bytes.{same_bytes}
 use Rattle.codec.proofs.SameBytes.{same_refl, different}
 use Rattle.path.specs.Prefix.{shared, is_prefix, same_path}
-use Rattle.codec.specs.Answers.{said, unsaid}
+use Rattle.codec.specs.Answers.{said}
 use Rattle.path.specs.Answers.{said_if}
 use Rattle.codec.proofs.Tests.{and_left, and_right}
 use Rattle.path.proofs.Prefix.{shared_nil, shared_sym}
 use Rattle.path.specs.Flat.{path_in, lent}
 use Rattle.path.proofs.Records.{whole_in, lent_is, lent_known}
-use Rattle.path.proofs.Verdicts.{said_known, unsaid_known}
+use Rattle.path.proofs.Verdicts.{said_known}
 use Rattle.path.proofs.Components.{Formed, parts_formed, sized_formed, well_sized, bytes_at, count_is, next_start, ends, component}
 
 -- ---- parts of two lists, from at on: i elements that agree and one more; parts that differ
-pub agree_next : (x y : List ℕ) (at i : ℕ) → at + i < length x → at + i < length y
-    → take i (drop at x) ≡ take i (drop at y) → get_or x (at + i) 0 ≡ get_or y (at + i) 0
-    → take (i + 1) (drop at x) ≡ take (i + 1) (drop at y)
-agree_next x y at i hx hy e g =
-    let dx : i < length (drop at x) = rw length-drop (omega arith) in
-    let dy : i < length (drop at y) = rw length-drop (omega arith) in
-    rw (add-one, take-suc (drop at x) i 0 dx, take-suc (drop at y) i 0 dy, get_or-drop at x i 0, get_or-drop at y i 0, e, g)
+pub agree_next : (x y : List ℕ) (at i : ℕ) → at ≤ i → i < length x → i < length y
+    → take (i - at) (drop at x) ≡ take (i - at) (drop at y) → get_or x i 0 ≡ get_or y i 0
+    → take (i + 1 - at) (drop at x) ≡ take (i + 1 - at) (drop at y)
+agree_next x y at i from hx hy e g =
+    let n : i + 1 - at ≡ suc (i - at) = omega arith in
+    let m : at + (i - at) ≡ i = omega arith in
+    let dx : i - at < length (drop at x) = rw length-drop (omega arith) in
+    let dy : i - at < length (drop at y) = rw length-drop (omega arith) in
+    rw (n, take-suc (drop at x) (i - at) 0 dx, take-suc (drop at y) (i - at) 0 dy, get_or-drop at x (i - at) 0, get_or-drop at y (i - at) 0, m, e, g)
 
 differ_at : (x y : List ℕ) (at i n : ℕ) → i < n → (get_or x (at + i) 0 ≡ get_or y (at + i) 0 → ⊥) → take n (drop at x) ≡ take n (drop at y) → ⊥
 differ_at x y at i n h ne e =
@@ -63,6 +65,13 @@ module _ {p q : Path} {k at : ℕ} (t : Together p q k at) where
       let out : length (components_of q) ≤ k = omega (arith, count_is q t.right) in
       no_more (rw (drop_of_length-le (components_of q) out) (shared_nil (drop k (components_of p))))
 
+  pub ends_here : min p.count q.count ≤ k → shared (components_of p) (components_of q) ≡ k
+  ends_here h = go (leb p.count k) refl
+    where
+      go : (b : Bool) → leb p.count k ≡ b → shared (components_of p) (components_of q) ≡ k
+      go true e = left_ends (leb-true p.count k e)
+      go false e = right_ends (omega (arith, leb-false p.count k e))
+
   module _ (hp : k < p.count) (hq : k < q.count) where
     -- the component here, by the arrays' own elements
     pub left_inside : at + get_or p.lengths k 0 ≤ max_path_length
@@ -96,9 +105,11 @@ module _ {p q : Path} {k at : ℕ} (t : Together p q k at) where
         stop (λ e. differ_long p.bytes q.bytes at _ _ fits-p fits-q ne (sym left_bytes ∙ e ∙ right_bytes))
 
     module _ (same : get_or p.lengths k 0 ≡ get_or q.lengths k 0) where
-      pub bytes_differ : (i : ℕ) → i < get_or p.lengths k 0 → (get_or p.bytes (at + i) 0 ≡ get_or q.bytes (at + i) 0 → ⊥)
+      pub bytes_differ : (i : ℕ) → at ≤ i → i < at + get_or p.lengths k 0 → (get_or p.bytes i 0 ≡ get_or q.bytes i 0 → ⊥)
           → shared (components_of p) (components_of q) ≡ k
-      bytes_differ i h ne = stop (λ e. differ_at p.bytes q.bytes at i (get_or p.lengths k 0) h ne (sym left_bytes ∙ e ∙ right_bytes ∙ rw same))
+      bytes_differ i from h ne =
+          let n : at + (i - at) ≡ i = omega arith in
+          stop (λ e. differ_at p.bytes q.bytes at (i - at) (get_or p.lengths k 0) (omega arith) (rw n ne) (sym left_bytes ∙ e ∙ right_bytes ∙ rw same))
 
       -- it is the same
       pub together_next : take (get_or p.lengths k 0) (drop at p.bytes) ≡ take (get_or p.lengths k 0) (drop at q.bytes)
@@ -123,17 +134,28 @@ module _ (p q : Path) (w : (well_formed p && well_formed q) ≡ true) where
   both_sized = rw (well_sized p (and_left _ _ w), well_sized q (and_right (well_formed p) _ w), w)
 
 -- the same components, from the number of those that both have
-module _ (p q : Path) where
-  pub equal_told : (s t : List ℕ) → p ≡ path_in s → q ≡ path_in t → (k n m : ℕ) → said k ≡ said_if (well_formed p && well_formed q) (shared (components_of p) (components_of q))
-      → n ≡ lent 0 (λ x. x.count) s → m ≡ lent 0 (λ x. x.count) t → said (eqb k n && eqb k m) ≡ said_if (well_formed p && well_formed q) (same_path (components_of p) (components_of q))
+module _ (s t : List ℕ) (k : ℕ) where
+  equal_said : said k ≡ said_if (well_formed (path_in s) && well_formed (path_in t)) (shared (components_of (path_in s)) (components_of (path_in t)))
+      → said (eqb k (lent 0 (λ p. p.count) s) && eqb k (lent 0 (λ p. p.count) t)) ≡ said_if (well_formed (path_in s) && well_formed (path_in t)) (same_path (components_of (path_in s)) (components_of (path_in t)))
   unfolding same_path is_prefix
-  equal_told s t ep eq k n m e cn cm =
+  equal_said e =
+      let p = path_in s in
+      let q = path_in t in
       let x = said_known (well_formed p && well_formed q) (shared (components_of p) (components_of q)) k e in
       let fp = parts_formed (and_left (well_formed p) (well_formed q) x.0) in
       let fq = parts_formed (and_right (well_formed p) (well_formed q) x.0) in
-      let np : n ≡ length (components_of p) = cn ∙ lent_known s (rw ep at fp) 0 (λ x. x.count) ∙ rw ep (sym (count_is (path_in s) (rw ep at fp))) in
-      let nq : m ≡ length (components_of q) = cm ∙ lent_known t (rw eq at fq) 0 (λ x. x.count) ∙ rw eq (sym (count_is (path_in t) (rw eq at fq))) in
+      let np : lent 0 (λ p. p.count) s ≡ length (components_of p) = lent_known s fp 0 (λ x. x.count) ∙ sym (count_is p fp) in
+      let nq : lent 0 (λ p. p.count) t ≡ length (components_of q) = lent_known t fq 0 (λ x. x.count) ∙ sym (count_is q fq) in
       rw (x.0, shared_sym (components_of q) (components_of p), x.1, np, nq)
+
+  -- all of the first, or not
+  pub equal_told : (m : ℕ) → m ≡ lent 0 (λ p. p.count) t → k ≡ lent 0 (λ p. p.count) s → said k ≡ said_if (well_formed (path_in s) && well_formed (path_in t)) (shared (components_of (path_in s)) (components_of (path_in t)))
+      → said (eqb k m) ≡ said_if (well_formed (path_in s) && well_formed (path_in t)) (same_path (components_of (path_in s)) (components_of (path_in t)))
+  equal_told m n all e = rw (n, ← (equal_said e), eq-eqb k (lent 0 (λ p. p.count) s) all)
+
+  pub unequal_told : (n : ℕ) → n ≡ lent 0 (λ p. p.count) s → (k ≡ n → ⊥) → said k ≡ said_if (well_formed (path_in s) && well_formed (path_in t)) (shared (components_of (path_in s)) (components_of (path_in t)))
+      → said (eqb k n) ≡ said_if (well_formed (path_in s) && well_formed (path_in t)) (same_path (components_of (path_in s)) (components_of (path_in t)))
+  unequal_told n is less e = rw (← (equal_said e), ← is, ne_eqb k n less)
 
 -- ---- a prefix, from the number of components that both have
 module _ (p q : Path) where
@@ -152,6 +174,3 @@ module _ (p q : Path) where
       let whole = whole_in s (rw same at (sized_formed (and_left (sized p) (sized q) x.0))) in
       let is : n ≡ p.count = count ∙ lent_is s whole 0 (λ x. x.count) ∙ rw same in
       rw is (prefix_said k e)
-
-  pub prefix_unsaid : unsaid 5 ≡ said_if (sized p && sized q) (shared (components_of p) (components_of q)) → unsaid 5 ≡ said_if (sized p && sized q) (is_prefix (components_of p) (components_of q))
-  prefix_unsaid e = rw (unsaid_known (sized p && sized q) (shared (components_of p) (components_of q)) 5 e).0

@@ -1,19 +1,23 @@
 -- Laws of builders in a lent record.
-use Rattle.codec.proofs.Prelude.{◌≡◌, refl, sym, ap, ◌∙◌, List, [], ◌∷◌, ◌++◌, map, append_assoc, append-nil, map-append, true, ℕ, zero, suc, ◌+◌, ◌-◌, ◌*◌, ◌%◌, ◌≤◌, ◌<◌, sub-zero, zero-sub, mod-eq_of_lt, arith, le-leb, eq-eqb, put_mid, length, take, drop, set, replicate, length-append, length-drop, length-map, length-replicate, length-take-le, take_at, drop_at, drop-append-le, take-take}
+use Rattle.codec.proofs.Prelude.{◌≡◌, refl, sym, ap, ◌∙◌, List, [], ◌∷◌, ◌++◌, map, append_assoc, append-nil, map-append, true, false≢true, ℕ, zero, suc, ◌+◌, ◌-◌, ◌*◌, ◌/◌, ◌%◌, ◌≤◌, ◌<◌, sub-zero, zero-sub, mod-eq_of_lt, arith, le-leb, eq-eqb, put_mid, length, take, drop, set, replicate, length-append, length-drop, length-map, length-replicate, length-take, take_at, drop_at, drop-append-le, take-take}
+use Rattle.std.specs.Prelude.{Result, Ok, Err}
+use Rattle.std.specs.Result.{is_ok, result_unwrap_or}
+use Rattle.std.specs.Int.{w16, to_be_bytes}
+use Rattle.compact_u64.specs.BigEndian.{big_endian}
 use Rattle.codec.specs.Answers.{AllBytes}
-use Rattle.codec.specs.Format.{allowed, over, put_buffer}
+use Rattle.codec.specs.Format.{over}
 use Rattle.codec.proofs.Bytes.{AllBytes-drop}
-use Rattle.codec.proofs.Lending.{put_over, put_end, to_end, over_one}
+use Rattle.codec.proofs.Lending.{over_one}
 use Rattle.path.specs.Limits.{max_component_length, max_component_count, max_path_length, total_of}
 use Rattle.path.specs.Record.{sum_of, used, joined, cut_up, components_of, start_at, path_from, all_at_most, sized}
-use Rattle.path.specs.Flat.{bytes_start, path_size, shorts, shorts_in, path_flat, path_in}
-use Rattle.path.specs.Builder.{fits_after, Built, built, builder_of, built_from, over_from, record_more, built_more, Appends}
+use Rattle.path.specs.Flat.{lengths_start, bytes_start, path_size, shorts, shorts_in, path_flat, path_in}
+use Rattle.path.specs.Builder.{Built, built, builder_of, built_from, over_from, record_more, built_more, Appends}
 use Rattle.path.specs.declared.PathBuilder.{PathBuilder}
-use Rattle.path.specs.declared.Growth.{Growth}
+use Rattle.path.specs.declared.PathError.{PathError}
 use Rattle.path.proofs.Lists.{drop_zeros, length-joined, joined-append, all_zeros, Cut, cut, take_cut}
 use Rattle.path.proofs.Limits.{total_append, total_snoc}
 use Rattle.path.proofs.Record.{bytes_long, lengths_long, count_of, components_of_lem, sum_of_lem}
-use Rattle.path.proofs.Components.{Formed, start_is, start_small}
+use Rattle.path.proofs.Components.{Formed, start_is, start_small, prefix_count}
 use Rattle.path.proofs.Loads.{at_most_append, at_most_mono, length-shorts, shorts_store, path_fits}
 use Rattle.path.proofs.Records.{whole_in}
 use Rattle.path.proofs.Builder.{fits_after_lem}
@@ -119,6 +123,14 @@ built_more_lem cs c few fits =
     let count : length cs + 1 ≡ length (cs ++ (c ∷ [])) = sym (length-append cs (c ∷ [])) in
     λ i. built (builder_of (sym (total_snoc cs c) i) (count i)) (bytes i)
 
+-- a component that fits is not refused
+pub appends_grown : (b : PathBuilder) (c : List ℕ) {s : List ℕ} (g : Result PathBuilder PathError) {left : List ℕ} → Appends b c s g left → length c ≤ max_component_length → b.count < max_component_count → b.total + length c ≤ max_path_length → is_ok g ≡ true
+appends_grown b c (Ok g) a short few fits = refl
+appends_grown b c (Err e) a short few fits =
+    let w = rw (fits_after_lem b.total b.count (length c) short few fits) at a.answer in
+    let z : ◌≡◌ {A = ℕ} 0 1 = cc in
+    absurd (omega arith)
+
 -- a builder and a record of these components
 pub built_none : {b : PathBuilder} {s : List ℕ} → b ≡ builder_of 0 0 → s ≡ replicate path_size 0 → built b s ≡ built_from []
 unfolding built_from
@@ -144,54 +156,40 @@ module _ {b : PathBuilder} {s : List ℕ} (cs : List (List ℕ)) (is : built b s
   built_components few fits = ap components_of (built_path few fits) ∙ components_of_lem cs
 
   -- appending a component that fits gives those of one more
-  pub appends_built : (c : List ℕ) {g : Growth} {left : List ℕ} → Appends b c s g left → length c ≤ max_component_length → length cs < max_component_count → total_of cs + length c ≤ max_path_length → built g.builder left ≡ built_from (cs ++ (c ∷ []))
-  appends_built c {g} {left} a short few fits =
-      let f : fits_after b.total b.count (length c) ≡ true = fits_after_lem b.total b.count (length c) short (omega (arith, built_count)) (omega (arith, built_total)) in
-      rw f at a.is ∙ ap (λ (x : Built). built_more x.builder c x.bytes) is ∙ built_more_lem cs c few fits
+  pub appends_built : (c : List ℕ) {g : PathBuilder} {left : List ℕ} → Appends b c s (Ok g) left → length c ≤ max_component_length → length cs < max_component_count → total_of cs + length c ≤ max_path_length → built g left ≡ built_from (cs ++ (c ∷ []))
+  appends_built c a short few fits = a.is ∙ ap (λ (x : Built). built_more x.builder c x.bytes) is ∙ built_more_lem cs c few fits
+
+  -- also where the builder is kept beside a refusal
+  pub appends_or : (c : List ℕ) (g : Result PathBuilder PathError) {left : List ℕ} → Appends b c s g left → length c ≤ max_component_length → length cs < max_component_count → total_of cs + length c ≤ max_path_length → built (result_unwrap_or g b) left ≡ built_from (cs ++ (c ∷ []))
+  appends_or c (Ok g) a short few fits = appends_built c a short few fits
+  appends_or c (Err e) a short few fits = absurd (false≢true (appends_grown b c (Err e) a short (omega (arith, built_count)) (omega (arith, built_total))))
 
 -- ---- as the code puts them
-put_from : (l c ys : List ℕ) (at : ℕ) → at + length c ≤ length l → ys ≡ put_buffer allowed c (take (length l - at) (drop at l)) → put_mid at (length l - at) l ys ≡ over_from at c l
-put_from l c ys at h e = put_end at l ys ∙ rw (e, to_end at l, put_over c (drop at l) (rw length-drop (omega arith)))
+put_from : (l c ys : List ℕ) (at n : ℕ) → ys ≡ c → n ≡ length c → put_mid at n l ys ≡ over_from at c l
+put_from l c ys at n e long = rw (e, long)
 
-over_long : (l c : List ℕ) (at : ℕ) → at + length c ≤ length l → length (over_from at c l) ≡ length l
-over_long l c at h = rw (length-append, length-append, length-take-le at l (omega arith), length-drop, length-drop) (omega arith)
+put_some : (at n : ℕ) (l ys : List ℕ) → 1 ≤ at → 1 ≤ length l → 1 ≤ length (put_mid at n l ys)
+put_some at n l ys h k = rw (length-append, length-take) (omega arith)
 
-module _ (l : List ℕ) (total count : ℕ) (cs : List (List ℕ)) (whole : length l ≡ path_size) (fits : total + total_of cs ≤ max_path_length) (few : count + length cs ≤ max_component_count) where
-  sizes_long : length (shorts (map length cs)) ≡ 2 * length cs
-  sizes_long = length-shorts (map length cs) ∙ rw length-map
+-- the bytes, their lengths and their number, one after the other
+pub recorded : (l ys zs : List ℕ) (total count i j n : ℕ) (cs : List (List ℕ)) → 1 ≤ length l → ys ≡ joined cs → i ≡ total_of cs → zs ≡ shorts (map length cs) → j ≡ 2 * length cs → n ≡ count + length cs
+    → set (put_mid (lengths_start + 2 * count) j (put_mid (bytes_start + total) i l ys) zs) 0 n ≡ record_more total count cs l
+unfolding record_more
+recorded l ys zs total count i j n cs some bytes hi lengths hj hn =
+    let first = put_from l (joined cs) ys (bytes_start + total) i bytes (hi ∙ sym (length-joined cs)) in
+    let m = put_mid (bytes_start + total) i l ys in
+    let second = put_from m (shorts (map length cs)) zs (lengths_start + 2 * count) j lengths (hj ∙ sym (length-shorts (map length cs) ∙ rw length-map)) in
+    over_one (put_mid (lengths_start + 2 * count) j m zs) n (put_some (lengths_start + 2 * count) j m zs (omega arith) (put_some (bytes_start + total) i l ys (omega arith) some))
+    ∙ rw (second, first, hn)
 
-  first_fits : bytes_start + total + length (joined cs) ≤ length l
-  first_fits = omega (arith, length-joined cs)
-
-  pub recorded_first : (bs ys : List ℕ) → bs ≡ joined cs → ys ≡ put_buffer allowed bs (take (length l - (bytes_start + total)) (drop (bytes_start + total) l))
-      → put_mid (bytes_start + total) (length l - (bytes_start + total)) l ys ≡ over_from (bytes_start + total) (joined cs) l
-  recorded_first bs ys is e = put_from l (joined cs) ys (bytes_start + total) first_fits (rw is at e)
-
-  module _ (m : List ℕ) (first : m ≡ over_from (bytes_start + total) (joined cs) l) where
-    pub first_long : length m ≡ path_size
-    first_long = ap length first ∙ over_long l (joined cs) (bytes_start + total) first_fits ∙ whole
-
-    second_fits : 1 + 2 * count + length (shorts (map length cs)) ≤ length m
-    second_fits = omega (arith, sizes_long, first_long)
-
-    pub recorded : (ls zs : List ℕ) (n : ℕ) → ls ≡ shorts (map length cs) → zs ≡ put_buffer allowed ls (take (length m - (1 + 2 * count)) (drop (1 + 2 * count) m)) → n ≡ count + length cs
-        → set (put_mid (1 + 2 * count) (length m - (1 + 2 * count)) m zs) 0 n ≡ record_more total count cs l
-    unfolding record_more
-    recorded ls zs n is e en =
-        let s = shorts (map length cs) in
-        let second : put_mid (1 + 2 * count) (length m - (1 + 2 * count)) m zs ≡ over_from (1 + 2 * count) s m = put_from m s zs (1 + 2 * count) second_fits (rw is at e) in
-        let long = over_long m s (1 + 2 * count) second_fits in
-        ap (λ (x : List ℕ). set x 0 n) second
-        ∙ over_one (over_from (1 + 2 * count) s m) n (omega (arith, long, first_long))
-        ∙ (λ i. over (en i ∷ []) (over_from (1 + 2 * count) s (first i)))
-
-  pub more_long : length (record_more total count cs l) ≡ path_size
-  unfolding record_more
-  more_long =
-      let m = over_from (bytes_start + total) (joined cs) l in
-      let s = shorts (map length cs) in
-      let long = over_long m s (1 + 2 * count) (second_fits m refl) in
-      rw length-drop (omega (arith, long, first_long m refl))
+-- one component, its length as the code makes two bytes of it
+pub recorded_one : (l ys zs c : List ℕ) (total count i j : ℕ) → 1 ≤ length l → ys ≡ c → i ≡ length c → zs ≡ to_be_bytes w16 (length c) → j ≡ 2
+    → set (put_mid (lengths_start + 2 * count) j (put_mid (bytes_start + total) i l ys) zs) 0 (count + 1) ≡ record_more total count (c ∷ []) l
+recorded_one l ys zs c total count i j some bytes hi lengths hj =
+    recorded l ys zs total count i j (count + 1) (c ∷ []) some (bytes ∙ sym (append-nil c)) (omega arith) (lengths ∙ two (length c)) (omega arith) refl
+  where
+    two : (v : ℕ) → to_be_bytes w16 v ≡ big_endian 2 v
+    two v = let e : v / 1 ≡ v = omega arith in rw e
 
 -- the first components of a path, as they stand in its record
 take-shorts : (k n : ℕ) (s : List ℕ) → k ≤ n → take k (shorts_in n s) ≡ shorts_in k s
@@ -225,3 +223,13 @@ module _ (s : List ℕ) (f : Formed (path_in s)) (k : ℕ) (h : k ≤ (path_in s
       let few : k ≤ max_component_count = omega (arith, f.well.count) in
       let there : 2 * k ≤ length (drop 1 s) = rw length-drop (omega (arith, whole_in s f)) in
       rw n (sym (ap (λ (x : List (List ℕ)). shorts (map length x)) lengths_in ∙ ap shorts (cuts.lengths ∙ take-shorts k max_component_count (drop 1 s) few) ∙ shorts_store k (drop 1 s) there (AllBytes-drop 1 s b)))
+
+  -- the builder of them
+  pub prefix_built : {t : ℕ} {empty left : List ℕ} → t ≡ start_at (path_in s) k → empty ≡ replicate path_size 0 → left ≡ record_more 0 0 (take k (components_of (path_in s))) empty
+      → built (builder_of t k) left ≡ built_from (take k (components_of (path_in s)))
+  unfolding built_from
+  prefix_built total none more =
+      let cs = take k (components_of (path_in s)) in
+      let count = prefix_count (path_in s) f k h in
+      let bytes = more ∙ ap (record_more 0 0 cs) (none ∙ flat_empty) ∙ more_of [] cs (omega (arith, count, f.well.count)) (omega (arith, start_small (path_in s) f k)) in
+      λ i. built (builder_of (total i) (sym count i)) (bytes i)

@@ -1,7 +1,6 @@
 pub mod Lists
 pub mod Limits
 pub mod Record
-pub mod Typed
 pub mod Components
 pub mod Shorts
 pub mod Puts
@@ -12,3 +11,4 @@ pub mod Compare
 pub mod Builder
 pub mod Growing
 pub mod Verdicts
+pub mod Typed

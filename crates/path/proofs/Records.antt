@@ -1,8 +1,8 @@
 -- Laws of a lent record: its parts where its bytes stand.
-use Rattle.codec.proofs.Prelude.{◌≡◌, refl, sym, ap, ◌∙◌, List, [], ◌∷◌, true, false, Bool, ◌&&◌, ℕ, zero, suc, ◌+◌, ◌*◌, ◌≤◌, ◌<◌, ◌-◌, sub-zero, zero-sub, zero-add, add-one, arith, leb, eqb, lt-leb, le-leb, eq-eqb, ne_eqb, length, take, drop, get_or, length-drop, drop-cons, drop-drop, length-take-le, take_all, get_or-take}
+use Rattle.codec.proofs.Prelude.{◌≡◌, refl, sym, ap, ◌∙◌, List, [], ◌∷◌, true, false, Bool, ◌&&◌, ℕ, zero, suc, ◌+◌, ◌*◌, ◌≤◌, ◌<◌, ◌-◌, sub-zero, zero-sub, zero-add, add-one, arith, leb, eqb, lt-leb, le-leb, eq-eqb, ne_eqb, length, take, drop, get_or, length-drop, drop-cons, drop-drop, length-take-le, take_all, get_or-take, List·getD-eq-default}
 use lib.ListN.{length-take}
 use Rattle.compact_u64.specs.BigEndian.{value_of}
-use Rattle.path.specs.Record.{Path, sum_of, used, components_of, start_at, all_at_most, length_at, sized, well_formed}
+use Rattle.path.specs.Record.{Path, sum_of, components_of, start_at, all_at_most, length_at, sized, well_formed}
 use Rattle.path.specs.Limits.{max_component_length, max_component_count, max_path_length, total_of}
 use Rattle.path.specs.Flat.{bytes_start, path_size, shorts_in, path_in, lent}
 use Rattle.path.proofs.Lists.{at_most_next, at_most_end, drop-take}
@@ -22,9 +22,17 @@ short_at (suc n) s (suc i) h =
     rw (e, ← (drop-drop (2 * i) 2 s)) (short_at n (drop 2 s) i (omega arith))
 
 module _ (s : List ℕ) where
+  count_first : (path_in s).count ≡ get_or s 0 0
+  unfolding path_in
+  count_first = refl
+
   pub slots : length (path_in s).lengths ≡ max_component_count
   unfolding path_in
   slots = length-shorts_in max_component_count (drop 1 s)
+
+  pub length_past : (i : ℕ) → max_component_count ≤ i → length_at (path_in s) i ≡ 0
+  unfolding length_at
+  length_past i past = List·getD-eq-default (path_in s).lengths 0 {n = i} (omega (arith, slots))
 
   module _ (h : path_size ≤ length s) where
     pub room : length (path_in s).bytes ≡ max_path_length
@@ -88,25 +96,7 @@ module _ (s : List ℕ) (n : ℕ) (few : n ≤ max_component_count) where
   pub short_end : (i : ℕ) → n ≤ i → all_at_most max_component_length (drop i (take n (path_in s).lengths)) ≡ true
   short_end i h = at_most_end max_component_length (take n (path_in s).lengths) i (omega (arith, in_use))
 
--- ---- the test of the sizes
-module _ (s : List ℕ) where
-  pub short_not_sized : length s < path_size → sized (path_in s) ≡ false
-  unfolding sized path_in
-  short_not_sized h =
-      let short : eqb (length (take max_path_length (drop bytes_start s))) max_path_length ≡ false = ne_eqb (length (take max_path_length (drop bytes_start s))) max_path_length (λ (e : length (take max_path_length (drop bytes_start s)) ≡ max_path_length). omega (arith, rw (length-take, length-drop) at e)) in
-      rw short
-
-  pub sized_by : path_size ≤ length s → sized (path_in s) ≡ (leb (path_in s).count max_component_count && leb (sum_of (used (path_in s))) max_path_length)
-  unfolding sized
-  sized_by h = rw (eq-eqb _ _ (room s h), eq-eqb _ _ (slots s))
-
-  pub well_by : path_size ≤ length s → well_formed (path_in s)
-      ≡ (leb (path_in s).count max_component_count && (all_at_most max_component_length (used (path_in s)) && (leb (sum_of (used (path_in s))) max_path_length
-      && (all_at_most 0 (drop (path_in s).count (path_in s).lengths) && all_at_most 0 (drop (sum_of (used (path_in s))) (path_in s).bytes)))))
-  unfolding well_formed
-  well_by h = rw (eq-eqb _ _ (room s h), eq-eqb _ _ (slots s))
-
--- ---- the test of the whole: after the sizes, short components and zeros
+-- ---- zeros
 zero_pair : (x y : ℕ) → leb (x * 256 + y) 0 ≡ (leb x 0 && leb y 0)
 zero_pair zero y = rw (zero-add y)
 zero_pair (suc x) y =
@@ -136,22 +126,45 @@ drop-shorts (suc k) (suc n) s =
 
 module _ (s : List ℕ) (h : path_size ≤ length s) where
   -- unused lengths and unused bytes, as they stand
-  pub zero_lengths : (n : ℕ) → n ≤ max_component_count → all_at_most 0 (drop n (path_in s).lengths) ≡ all_at_most 0 (take (bytes_start - (1 + 2 * n)) (drop (1 + 2 * n) s))
+  zero_lengths : (n : ℕ) → n ≤ max_component_count → all_at_most 0 (drop n (path_in s).lengths) ≡ all_at_most 0 (take (bytes_start - (1 + 2 * n)) (drop (1 + 2 * n) s))
   unfolding path_in
   zero_lengths n few =
       let e : bytes_start - (1 + 2 * n) ≡ 2 * (max_component_count - n) = omega arith in
       rw (drop-shorts n max_component_count (drop 1 s), drop-drop (2 * n) 1 s, e) (zero_shorts (max_component_count - n) (drop (1 + 2 * n) s) (rw length-drop (omega arith)))
 
-  pub zero_bytes : (t : ℕ) → all_at_most 0 (drop t (path_in s).bytes) ≡ all_at_most 0 (take (path_size - (bytes_start + t)) (drop (bytes_start + t) s))
+  zero_bytes : (t : ℕ) → all_at_most 0 (drop t (path_in s).bytes) ≡ all_at_most 0 (take (path_size - (bytes_start + t)) (drop (bytes_start + t) s))
   unfolding path_in
   zero_bytes t =
       let e : path_size - (bytes_start + t) ≡ max_path_length - t = omega arith in
       rw (drop-take t max_path_length (drop bytes_start s), drop-drop t bytes_start s, e)
 
-module _ (p : Path) where
-  pub unsized_malformed : sized p ≡ false → well_formed p ≡ false
-  unsized_malformed e = go (well_formed p) refl
+-- ---- the tests of the sizes and of the whole, as the code makes them
+module _ (s : List ℕ) where
+  pub sized_short : length s < path_size → sized (path_in s) ≡ false
+  unfolding sized path_in
+  sized_short h =
+      let short : eqb (length (take max_path_length (drop bytes_start s))) max_path_length ≡ false = ne_eqb (length (take max_path_length (drop bytes_start s))) max_path_length (λ (e : length (take max_path_length (drop bytes_start s)) ≡ max_path_length). omega (arith, rw (length-take, length-drop) at e)) in
+      rw short
+
+  pub well_short : length s < path_size → well_formed (path_in s) ≡ false
+  well_short h = go (well_formed (path_in s)) refl
     where
-      go : (b : Bool) → well_formed p ≡ b → b ≡ false
-      go true w = sym (well_sized p w) ∙ e
+      go : (b : Bool) → well_formed (path_in s) ≡ b → b ≡ false
+      go true w = sym (well_sized (path_in s) w) ∙ sized_short h
       go false w = refl
+
+  module _ (h : path_size ≤ length s) where
+    pub sized_whole : sized (path_in s) ≡ (leb (get_or s 0 0) max_component_count && leb (sum_of (take (get_or s 0 0 - 0) (path_in s).lengths)) max_path_length)
+    unfolding sized
+    sized_whole = rw (eq-eqb _ _ (room s h), eq-eqb _ _ (slots s), count_first s, sub-zero)
+
+    pub well_many : max_component_count < get_or s 0 0 → well_formed (path_in s) ≡ false
+    unfolding well_formed
+    well_many many = rw (eq-eqb _ _ (room s h), eq-eqb _ _ (slots s), count_first s, lt-leb (get_or s 0 0) max_component_count many)
+
+    pub well_few : get_or s 0 0 ≤ max_component_count → well_formed (path_in s)
+        ≡ (all_at_most max_component_length (take (get_or s 0 0) (path_in s).lengths) && (leb (sum_of (take (get_or s 0 0) (path_in s).lengths)) max_path_length
+        && (all_at_most 0 (take (bytes_start - (1 + 2 * get_or s 0 0)) (drop (1 + 2 * get_or s 0 0) s))
+        && all_at_most 0 (take (path_size - (bytes_start + sum_of (take (get_or s 0 0) (path_in s).lengths))) (drop (bytes_start + sum_of (take (get_or s 0 0) (path_in s).lengths)) s)))))
+    unfolding well_formed
+    well_few few = rw (eq-eqb _ _ (room s h), eq-eqb _ _ (slots s), count_first s, le-leb (get_or s 0 0) max_component_count few, zero_lengths s h (get_or s 0 0) few, zero_bytes s h (sum_of (take (get_or s 0 0) (path_in s).lengths)))

@@ -1,12 +1,11 @@
 -- Builders: paths that grow by components, in a lent record.
-use Rattle.std.specs.Prelude.{◌≡◌, List, [], ◌∷◌, ◌++◌, map, Bool, true, ◌&&◌, ℕ, ◌+◌, ◌*◌, leb, ltb, length, take, drop}
+use Rattle.std.specs.Prelude.{◌≡◌, List, [], ◌∷◌, ◌++◌, map, Bool, true, ◌&&◌, ℕ, ◌+◌, ◌*◌, leb, ltb, length, take, drop, Result, Ok, Err, IfOk, OnErr}
 use Rattle.codec.specs.Format.{Verdict, allowed, refused_value, verdict_by, over}
 use Rattle.path.specs.Record.{Path, joined, components_of, path_from, sized}
-use Rattle.path.specs.declared.Appended.{Appended}
-use Rattle.path.specs.declared.Appended.TheVariants as appended
 use Rattle.path.specs.declared.PathBuilder.{PathBuilder}
-use Rattle.path.specs.declared.Growth.{Growth}
+use Rattle.path.specs.declared.PathError.{PathError}
 use Rattle.path.specs.Limits.{max_component_length, max_component_count, max_path_length, total_of}
+use Rattle.path.specs.Answers.{path_number}
 use Rattle.path.specs.Flat.{lengths_start, bytes_start, shorts, path_flat}
 
 -- a builder and the record that it writes into
@@ -40,25 +39,21 @@ record_more total count cs s = over ((count + length cs) ∷ []) (over_from (len
 abbrev pub built_more : PathBuilder → List ℕ → List ℕ → Built
 built_more b c s = built (builder_of (b.total + length c) (b.count + 1)) (record_more b.total b.count (c ∷ []) s)
 
--- the numbers of the code's answers
-abbrev pub appended_verdict : Appended → Verdict
-appended_verdict appended.Grown = allowed
-appended_verdict appended.Outside = refused_value 3
-appended_verdict appended.Malformed = refused_value 5
+-- what an answer says of the builder that was asked for
+abbrev pub grown_verdict : Result PathBuilder PathError → Verdict
+grown_verdict (Ok b) = allowed
+grown_verdict (Err e) = refused_value (path_number e)
 
-abbrev pub if_allowed : {A : Type 0} → Verdict → A → A → A
-if_allowed allowed a b = a
-if_allowed (refused_value k) a b = b
+-- the answer g and the record left: what was asked for, or the record that there is beside a refusal
+pub record Grows (d : Verdict) (grown : Built) (beside : List ℕ) (g : Result PathBuilder PathError) (left : List ℕ) : Type 0 where
+  pub answer : grown_verdict g ≡ d
+  pub is : IfOk g (λ b. built b left ≡ grown)
+  pub same : OnErr g (left ≡ beside)
 
--- the answer and the builder g, and the record left: what was asked for, or what there is beside a refusal
-pub record Grows (d : Verdict) (grown beside : Built) (g : Growth) (left : List ℕ) : Type 0 where
-  pub answer : appended_verdict g.answer ≡ d
-  pub is : built g.builder left ≡ if_allowed d grown beside
+-- appending a component: 3 unless it fits, the record then unchanged
+abbrev pub Appends : PathBuilder → List ℕ → List ℕ → Result PathBuilder PathError → List ℕ → Type 0
+Appends b c s g left = Grows (verdict_by true (fits_after b.total b.count (length c))) (built_more b c s) s g left
 
--- appending a component: 3 unless it fits, both then unchanged
-abbrev pub Appends : PathBuilder → List ℕ → List ℕ → Growth → List ℕ → Type 0
-Appends b c s g left = Grows (verdict_by true (fits_after b.total b.count (length c))) (built_more b c s) (built b s) g left
-
--- the first k components of a path: 5 unless its sizes are within the limits, then 3 where there are fewer
-abbrev pub Prefixes : Path → ℕ → Growth → List ℕ → Type 0
-Prefixes p k g left = Grows (verdict_by (sized p) (leb k p.count)) (built_from (take k (components_of p))) (built_from []) g left
+-- the first k components of a path: 5 unless its sizes are within the limits, then 3 where there are fewer; the record is then that of no component
+abbrev pub Prefixes : Path → ℕ → Result PathBuilder PathError → List ℕ → Type 0
+Prefixes p k g left = Grows (verdict_by (sized p) (leb k p.count)) (built_from (take k (components_of p))) (path_flat (path_from [])) g left

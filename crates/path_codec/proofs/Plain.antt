@@ -1,6 +1,11 @@
 -- The plain path is a lawful format, and reads back leniently too.
-use Rattle.codec.proofs.Prelude.{◌≡◌, List, Bool, true, false, ℕ, arith, le-leb, length}
-use Rattle.codec.specs.Format.{Valid, Writes, refused_value}
+use Rattle.codec.proofs.Prelude.{◌≡◌, refl, ◌∙◌, List, Bool, true, false, ℕ, arith, le-leb, length}
+use Rattle.std.specs.Prelude.{Result, Err}
+use Rattle.codec.specs.declared.EncodeError.{EncodeError}
+use Rattle.codec.specs.declared.EncodeError.TheVariants as encoding
+use Rattle.codec.specs.Answers.{refused_writing}
+use Rattle.codec.specs.Format.{Valid, Writes, WritesInto, refused_value, length_answer}
+use Rattle.codec.proofs.Lending.{length_refused_value, same_length, same_writing, writes_into, told_refused}
 use Rattle.codec.specs.Reader.{Reader, mapped}
 use Rattle.codec.specs.Reads.{ReadsBack}
 use Rattle.codec.specs.Lawful.{Lawful}
@@ -82,3 +87,19 @@ module _ (p : Path) where
 
   pub plain_check : well_formed p ≡ true → (suffix_by sized 0).check p ≡ plain_path.check p
   plain_check w = rw (w, well_sized p w, le-leb 0 p.count (omega arith))
+
+  -- the length, and the writing, as the code makes them of the suffix
+  pub plain_refused_length : well_formed p ≡ false → refused_writing 5 ≡ length_answer plain_path p
+  plain_refused_length w = length_refused_value plain_path p 5 (plain_malformed w)
+
+  pub plain_length : well_formed p ≡ true → length_answer (suffix_by sized 0) p ≡ length_answer plain_path p
+  plain_length w = same_length (suffix_by sized 0) p plain_path (plain_check w) refl
+
+  module _ (l : List ℕ) where
+    pub plain_refused : well_formed p ≡ false → WritesInto plain_path p (Err encoding.Malformed) l l
+    plain_refused w = told_refused plain_path p l encoding.Malformed (plain_refused_length w)
+
+    pub plain_written : (r : Result ℕ EncodeError) (left : List ℕ) → well_formed p ≡ true → WritesInto (suffix_by sized 0) p r l left → WritesInto plain_path p r l left
+    plain_written r left w put =
+        let same = same_writing (suffix_by sized 0) p plain_path (plain_check w) refl l in
+        writes_into (put.answer ∙ same.0, put.buffer ∙ same.1)

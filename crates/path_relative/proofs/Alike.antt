@@ -1,5 +1,6 @@
 -- Paths whose first k components are the same, as one that was read against a reference and it are: the component after them decides whether they share more.
-use Rattle.codec.proofs.Prelude.{◌≡◌, refl, sym, ap, ◌∙◌, List, ◌++◌, Bool, true, false, cond, not, ℕ, suc, ◌+◌, ◌-◌, ◌≤◌, ◌<◌, arith, eqb, le-leb, eq-eqb, ne_eqb, length, take, drop, take-append-drop, take_at, length-append}
+use lib.Pointwise.{pointwise}
+use Rattle.codec.proofs.Prelude.{◌≡◌, refl, sym, ap, ◌∙◌, List, [], ◌∷◌, ◌++◌, Bool, true, false, cond, not, ℕ, suc, ◌+◌, ◌-◌, ◌≤◌, ◌<◌, arith, eqb, le-leb, eq-eqb, ne_eqb, length, take, drop, take-append-drop, take_at, length-append}
 use Rattle.codec.specs.Bytes.{same_bytes}
 use Rattle.codec.specs.Reads.{Yields}
 use Rattle.codec.proofs.Yields.{yields_as, guard_yields, mapped_yields}
@@ -60,13 +61,19 @@ module _ {p q : Path} {k : ℕ} (a : Alike p q k) where
         go true s = ne_eqb (shared (components_of p) (components_of q)) k (λ z. omega (arith, z, s))
         go false s = eq-eqb (shared (components_of p) (components_of q)) k (omega (arith, s))
 
-    -- else their bytes decide, as the code takes them
+    -- else their bytes decide, as the code takes and compares them
     pub next_decides : (at n : ℕ) → at ≡ start_at p k → n ≡ length_at p k → n ≡ length_at q k
-        → eqb (shared (components_of p) (components_of q)) k ≡ not (same_bytes (take (at + n - at) (drop at p.bytes)) (take (at + n - at) (drop at q.bytes)))
+        → eqb (shared (components_of p) (components_of q)) k ≡ not (pointwise eqb (take (at + n - at) (drop at p.bytes)) (take (at + n - at) (drop at q.bytes)))
     next_decides at n start e f =
         let here : take (at + n - at) (drop at p.bytes) ≡ bytes_at p k = rw e (part_bytes p left k hp at start) in
         let there : take (at + n - at) (drop at q.bytes) ≡ bytes_at q k = rw f (part_bytes q right k hq at (start ∙ ap total_of a.same)) in
-        rw (here, there) (decides (same_bytes (bytes_at p k) (bytes_at q k)) refl)
+        rw (here, there) (decides (pointwise eqb (bytes_at p k) (bytes_at q k)) (sym (same_pointwise (bytes_at p k) (bytes_at q k))))
+      where
+        same_pointwise : (s t : List ℕ) → pointwise eqb s t ≡ same_bytes s t
+        same_pointwise [] [] = refl
+        same_pointwise [] (b ∷ t) = refl
+        same_pointwise (a ∷ s) [] = refl
+        same_pointwise (a ∷ s) (b ∷ t) = rw (same_pointwise s t)
 
 -- a path read after the first components of another
 pub on_alike : (canonic : Bool) (p : Path) (k : ℕ) → Leads p k → (total count : ℕ) → Yields (read_after canonic p k total count) (λ q. Alike p q k)

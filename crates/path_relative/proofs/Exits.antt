@@ -1,5 +1,5 @@
 -- What the definitions answer at each exit of the code.
-use Rattle.codec.proofs.Prelude.{◌≡◌, refl, ◌∙◌, List, ◌++◌, Bool, true, false, cond, ℕ, ◌+◌, ◌≤◌, ◌<◌, arith, eqb, le-leb, lt-leb, length, take, drop, length-append, drop-drop}
+use Rattle.codec.proofs.Prelude.{◌≡◌, refl, List, ◌++◌, Bool, true, false, cond, ℕ, ◌+◌, ◌≤◌, ◌<◌, arith, eqb, le-leb, lt-leb, length, take, drop, length-append, drop-drop}
 use Rattle.codec.specs.Reads.{Bounded}
 use Rattle.codec.proofs.Bounded.{checked_bounded, guard_bounded, mapped_bounded}
 use Rattle.codec.specs.Answers.{Answer, AllBytes, accepted, refused}
@@ -71,16 +71,6 @@ module _ (canonic : Bool) (r : Path) (k : ℕ) (here : Leads r k) (total count :
   joined_on =
       let f = sized_formed here.fits in
       rw (here.fits, le-leb k r.count here.there, le-leb k (length (components_of r)) (omega (arith, count_is r f, here.there)), prefix_count r f k here.there)
-
-  pub joined_loose : canonic ≡ false → read_joined canonic r k total count s ≡ read_after canonic r k total count s
-  joined_loose e = joined_on ∙ rw e (go (read_after false r k total count s))
-    where
-      go : (x : Answer Path) → bind x (λ p n. passed true (accepted p n)) ≡ x
-      go (accepted p n) = refl
-      go (refused j) = refl
-
-  pub joined_tested : (p : Path) (n : ℕ) → canonic ≡ true → read_after canonic r k total count s ≡ accepted p n → read_joined canonic r k total count s ≡ passed (eqb (shared (components_of r) (components_of p)) k) (accepted p n)
-  joined_tested p n e f = joined_on ∙ rw (f, e)
 
 pub joined_bounded : (canonic : Bool) (r : Path) (k total count : ℕ) → Bounded (read_joined canonic r k total count)
 unfolding read_joined

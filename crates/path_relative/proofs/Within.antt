@@ -7,14 +7,10 @@ use Rattle.codec.proofs.Bounded.{checked_bounded}
 use Rattle.codec.proofs.Readers.{bind_inv, passed_inv}
 use Rattle.path.specs.Record.{Path, components_of, path_from, sized}
 use Rattle.path.specs.inside.Sizes.{Leads}
-use Rattle.path.specs.declared.Compared.{Compared}
-use Rattle.path.specs.declared.Compared.TheVariants as compared
-use Rattle.path.specs.Answers.{said_if, compared_answer}
 use Rattle.path.specs.Prefix.{shared, is_prefix}
 use Rattle.path.proofs.Record.{components_of_lem}
 use Rattle.path.proofs.Components.{sized_formed, count_is}
 use Rattle.path.proofs.Prefix.{takes_prefix}
-use Rattle.path.proofs.Verdicts.{said_known, unsaid_known}
 use Rattle.path_suffix_decode.specs.After.{read_after}
 use Rattle.path_relative.specs.Against.{read_against}
 use Rattle.path_relative.specs.Records.{read_against_by}
@@ -36,23 +32,11 @@ module _ {canonic : Bool} {r p : Path} {k : ℕ} (t : ToldShared canonic r p k) 
   unfolding is_prefix
   fewer_told e ne = ne_eqb (shared (components_of r) (components_of p)) (length (components_of r)) (λ z. ne (sym counted ∙ sym z ∙ t.most e))
 
-  both : (sized r && sized p) ≡ true
-  both = rw t.alike.left.fits t.alike.right.fits
-
-  pub compared_prefix : compared_answer compared.Yes ≡ said_if (sized r && sized p) (is_prefix (components_of r) (components_of p)) → is_prefix (components_of r) (components_of p) ≡ true
-  compared_prefix e = (said_known (sized r && sized p) _ _ e).1
-
-  pub compared_other : (x : Compared) → (x ≡ compared.Yes → ⊥)
-      → compared_answer x ≡ said_if (sized r && sized p) (is_prefix (components_of r) (components_of p)) → is_prefix (components_of r) (components_of p) ≡ false
-  compared_other compared.Yes h e = absurd (h refl)
-  compared_other compared.No h e = (said_known (sized r && sized p) _ _ e).1
-  compared_other compared.Malformed h e = let z : true ≡ false = sym both ∙ (unsaid_known (sized r && sized p) _ _ e).0 in cc
+  -- comparing them whole is not refused
+  pub both_told : (sized r && sized p) ≡ true
+  both_told = rw t.alike.left.fits t.alike.right.fits
 
 -- ---- what follows the shared count and the sizes
-passes : {A : Type 0} (x : Answer A) → bind x (λ a n. passed true (accepted a n)) ≡ x
-passes (accepted a n) = refl
-passes (refused k) = refl
-
 module _ (canonic : Bool) (r : Path) (k total count : ℕ) where
   pub joined_told : Leads r k → Yields (read_joined canonic r k total count) (λ p. ToldShared canonic r p k)
   joined_told here = record {
@@ -69,13 +53,6 @@ module _ (canonic : Bool) (r : Path) (k total count : ℕ) where
     pub tested_on : (within : Bool) → read_tested within canonic r k total count s ≡ bind (read_joined canonic r k total count s) (λ p n. passed (prefix_if within (components_of r) (components_of p)) (accepted p n))
     unfolding read_tested
     tested_on within = refl
-
-    pub tested_loose : (within : Bool) → within ≡ false → read_tested within canonic r k total count s ≡ read_joined canonic r k total count s
-    tested_loose within e = tested_on within ∙ rw e (passes (read_joined canonic r k total count s))
-
-    pub tested_within : (within : Bool) → within ≡ true → (p : Path) (n : ℕ) → read_joined canonic r k total count s ≡ accepted p n
-        → read_tested within canonic r k total count s ≡ passed (is_prefix (components_of r) (components_of p)) (accepted p n)
-    tested_within within e p n f = tested_on within ∙ rw (f, e)
 
   pub tested_bounded : (within : Bool) → Bounded (read_tested within canonic r k total count)
   unfolding read_tested
@@ -115,6 +92,3 @@ module _ (formed : Path → Bool) (within canonic : Bool) (r : Path) (s : List �
           ≡ shift a (shift b (bind x (λ p n. passed (prefix_if within (components_of r) (components_of p)) (accepted p n))))
       go (accepted p n) = judged (prefix_if within (components_of r) (components_of p)) p n
       go (refused k) = refl
-
-pub by_loose : (formed : Path → Bool) (canonic : Bool) (r : Path) (s : List ℕ) → read_tested_by formed false canonic r s ≡ read_against_by formed canonic r s
-by_loose formed canonic r s = by_against formed false canonic r s ∙ passes (read_against_by formed canonic r s)

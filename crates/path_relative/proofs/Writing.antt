@@ -5,9 +5,10 @@ use Rattle.codec.specs.Format.{Verdict, allowed, refused_value, over, put_answer
 use Rattle.codec.proofs.Lawful.{verdict_allowed}
 use Rattle.codec.proofs.Lending.{put_refused_value, put_full, put_fits, put_refused_writing, put_wrote, put_over, wrote_not_refused_writing}
 use Rattle.compact_u64.specs.Number.{standalone_bytes}
-use Rattle.path.specs.Record.{Path, components_of}
-use Rattle.path.proofs.Components.{Formed, rest_count, rest_small}
-use Rattle.path_suffix.specs.inside.Lengths.{max_suffix_length}
+use Rattle.compact_u64.proofs.Standalone.{standalone_short}
+use Rattle.path.specs.Record.{Path, components_of, sized}
+use Rattle.path.proofs.Components.{Formed, sized_formed, rest_count, rest_small}
+use Rattle.path_suffix.specs.inside.Lengths.{max_suffix_length, max_against_length}
 use Rattle.path_suffix.specs.Suffix.{suffix_by}
 use Rattle.path_suffix.proofs.Suffix.{suffix_short}
 use Rattle.path_relative.specs.Records.{shared_by}
@@ -79,3 +80,8 @@ module _ (formed : Path → Bool) (p : Path) (k : ℕ) where
       let done = rest_written (standalone_bytes k) ((suffix_by formed k).encode p) l a ea h n ys (rw ok at e) (rw ok at put) in
       let room : length (standalone_bytes k) ≤ length (take a l ++ ys) = rw (length-append, length-take-le a l h) (omega arith) in
       rw ok (done.0, put_over (standalone_bytes k) (take a l ++ ys) room ∙ done.1)
+
+-- a path of which k components are shared takes few bytes
+pub shared_short : (p : Path) (k : ℕ) → (shared_by sized k).check p ≡ allowed → length ((shared_by sized k).encode p) ≤ max_against_length
+shared_short p k ok =
+    omega (arith, length-append (standalone_bytes k) ((suffix_by sized k).encode p), (standalone_short k).1, within_by sized p k sized_formed ok)

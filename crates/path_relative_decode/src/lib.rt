@@ -8,7 +8,7 @@ ghost use Rattle.path.specs.Record.{path_from};
 ghost use Rattle.path.specs.Flat.{path_in};
 ghost use Rattle.path_relative.specs.Records.{read_against_path, read_extends_path};
 
-use codec::Decoded;
+use codec::DecodeError;
 
 pub mod sized;
 
@@ -19,13 +19,12 @@ pub fn relative_decode(
     canonic: bool,
     reference: &[u8],
     out: &mut [u8; path::lent::SIZE],
-) -> Decoded
+) -> Result<usize, DecodeError>
     ensures { Gives (path_from []) result (path_in out.new) (read_against_path canonic (path_in reference.now) (drop start message.now)) }
 {
-    let well = path::lent::well_formed(reference);
-    if !well {
+    if !path::lent::well_formed(reference) {
         path::lent::clear(out);
-        return Decoded::Malformed;
+        return Err(DecodeError::Malformed);
     }
     sized::relative_decode(message, start, canonic, reference, out)
 }
@@ -37,13 +36,12 @@ pub fn decode_path_extends_path(
     canonic: bool,
     extends: &[u8],
     out: &mut [u8; path::lent::SIZE],
-) -> Decoded
+) -> Result<usize, DecodeError>
     ensures { Gives (path_from []) result (path_in out.new) (read_extends_path canonic (path_in extends.now) (drop start message.now)) }
 {
-    let well = path::lent::well_formed(extends);
-    if !well {
+    if !path::lent::well_formed(extends) {
         path::lent::clear(out);
-        return Decoded::Malformed;
+        return Err(DecodeError::Malformed);
     }
     sized::decode_path_extends_path(message, start, canonic, extends, out)
 }

@@ -10,19 +10,17 @@ ghost use Rattle.path_codec.specs.Plain.{read_path};
 ghost use Rattle.path_relative.specs.Records.{read_against_by, read_within_by, read_extends_by};
 ghost use Rattle.path_relative.specs.inside.Reading.{Alike, ToldShared, read_tested_by, read_tested, read_joined};
 
-use codec::Decoded;
-use compact_u64::DecodedU64;
-use path::{Compared, Path};
+use codec::DecodeError;
+use path::Path;
+use path_suffix::Sizes;
 
 // Whether two paths share no more than their first `k` components, which are the same: the one after them decides.
-fn share_only<'a>(path: &'a [u8], other: &'a [u8], k: usize) -> bool
+#[tactic(auto, using(path::proofs::Records::whole_in, path::proofs::Components::sized_formed, path::proofs::Records::span_start, path::proofs::Components::ends, path_relative::proofs::Alike::left_over, path_relative::proofs::Alike::right_over, path_relative::proofs::Alike::other_length))]
+fn share_only(path: &[u8], other: &[u8], k: usize) -> bool
     requires { Alike (path_in path.now) (path_in other.now) k }
     ensures { result ≡ eqb (shared (components_of (path_in path.now)) (components_of (path_in other.now))) k }
 {
-    if path::lent::count(path) <= k {
-        return true;
-    }
-    if path::lent::count(other) <= k {
+    if path::lent::count(path) <= k || path::lent::count(other) <= k {
         return true;
     }
     let len = path::lent::component_len(path, k);
@@ -31,9 +29,7 @@ fn share_only<'a>(path: &'a [u8], other: &'a [u8], k: usize) -> bool
     }
     let at = path::lent::span(path, 0, k);
     let end = at + len;
-    let bytes = path::lent::bytes(path);
-    let other_bytes = path::lent::bytes(other);
-    !byte_codec::same_bytes(&bytes[at..end], &other_bytes[at..end])
+    &path::lent::bytes(path)[at..end] != &path::lent::bytes(other)[at..end]
 }
 
 // Reads what follows the shared count and the sizes: the components after the reference's first `k`, from the message's first byte on.
@@ -42,48 +38,32 @@ fn decode_joined(
     message: &[u8],
     canonic: bool,
     k: usize,
-    total: u64,
-    count: u64,
+    sizes: Sizes,
     reference: &[u8],
     out: &mut [u8; path::lent::SIZE],
-) -> Decoded
+) -> Result<usize, DecodeError>
     requires { Leads (path_in reference.now) k }
-    ensures { Gives (path_from []) result (path_in out.new) (read_joined canonic (path_in reference.now) k total count message.now) }
+    ensures { Gives (path_from []) result (path_in out.new) (read_joined canonic (path_in reference.now) k sizes.total sizes.count message.now) }
 {
-    let answer = path_suffix_decode::decode_after(
-        message, canonic, total, count, reference, k, out,
-    );
-    if !canonic {
-        return answer;
+    let n = path_suffix_decode::decode_after(message, canonic, sizes, reference, k, out)?;
+    if canonic && !share_only(reference, out, k) {
+        path::lent::clear(out);
+        return Err(DecodeError::TheirFault);
     }
-    let Decoded::Consumed(_) = answer else {
-        return answer;
-    };
-    let most = share_only(reference, out, k);
-    if most {
-        return answer;
-    }
-    path::lent::clear(out);
-    Decoded::TheirFault
+    Ok(n)
 }
 
 // Whether a reference is a prefix of a path that was read against it, `k` components told to be shared. The paths are looked at only where these are
 // not all, and leniently.
-fn reaches<'a>(reference: &'a [u8], path: &'a [u8], canonic: bool, k: usize) -> bool
+#[tactic(auto, using(path::proofs::Records::whole_in, path::proofs::Components::sized_formed, path_relative::proofs::Within::all_told, path_relative::proofs::Within::fewer_told, path_relative::proofs::Within::both_told))]
+fn reaches(reference: &[u8], path: &[u8], canonic: bool, k: usize) -> bool
     requires { ToldShared canonic (path_in reference.now) (path_in path.now) k }
     ensures { result ≡ is_prefix (components_of (path_in reference.now)) (components_of (path_in path.now)) }
 {
     if path::lent::count(reference) == k {
         return true;
     }
-    if canonic {
-        return false;
-    }
-    let prefix = path::lent::is_prefix_of(reference, path);
-    let Compared::Yes = prefix else {
-        return false;
-    };
-    true
+    !canonic && path::lent::is_prefix_of(reference, path).unwrap()
 }
 
 // Reads as `decode_joined` does; where asked, only a path `within` the reference, which is a prefix of it then.
@@ -92,27 +72,19 @@ fn decode_tested(
     within: bool,
     canonic: bool,
     k: usize,
-    total: u64,
-    count: u64,
+    sizes: Sizes,
     reference: &[u8],
     out: &mut [u8; path::lent::SIZE],
-) -> Decoded
+) -> Result<usize, DecodeError>
     requires { Leads (path_in reference.now) k }
-    ensures { Gives (path_from []) result (path_in out.new) (read_tested within canonic (path_in reference.now) k total count message.now) }
+    ensures { Gives (path_from []) result (path_in out.new) (read_tested within canonic (path_in reference.now) k sizes.total sizes.count message.now) }
 {
-    let answer = decode_joined(message, canonic, k, total, count, reference, out);
-    if !within {
-        return answer;
+    let n = decode_joined(message, canonic, k, sizes, reference, out)?;
+    if within && !reaches(reference, out, canonic, k) {
+        path::lent::clear(out);
+        return Err(DecodeError::TheirFault);
     }
-    let Decoded::Consumed(_) = answer else {
-        return answer;
-    };
-    let prefixed = reaches(reference, out, canonic, k);
-    if prefixed {
-        return answer;
-    }
-    path::lent::clear(out);
-    Decoded::TheirFault
+    Ok(n)
 }
 
 // Reads a path against a reference, or within it.
@@ -123,37 +95,23 @@ fn decode_by(
     canonic: bool,
     reference: &[u8],
     out: &mut [u8; path::lent::SIZE],
-) -> Decoded
+) -> Result<usize, DecodeError>
     ensures { Gives (path_from []) result (path_in out.new) (read_tested_by sized within canonic (path_in reference.now) (drop start message.now)) }
 {
     path::lent::clear(out);
-    let fits = path::lent::sized(reference);
-    if !fits {
-        return Decoded::Malformed;
+    if !path::lent::sized(reference) {
+        return Err(DecodeError::Malformed);
     }
-    let number = compact_u64::decode(message, start, canonic);
-    let DecodedU64::Value(shared, a) = number else {
-        return compact_u64::unvalued(number);
-    };
-    let first = start + a;
-    let sizes = path_suffix_decode::decode_sizes(message, first, canonic);
-    let sizes_answer = sizes.answer;
-    let Decoded::Consumed(b) = sizes_answer else {
-        return sizes_answer;
-    };
-    let total = sizes.total;
-    let n = sizes.count;
-    if (path::lent::count(reference) as u64) < shared {
-        return Decoded::TheirFault;
+    let shared = compact_u64::decode(message, start, canonic)?;
+    let first = start + shared.consumed;
+    let sizes = path_suffix_decode::decode_sizes(message, first, canonic)?;
+    if (path::lent::count(reference) as u64) < shared.value {
+        return Err(DecodeError::TheirFault);
     }
-    let at = first + b;
-    let k = shared as usize;
-    let rest = &message[at..];
-    let answer = decode_tested(rest, within, canonic, k, total, n, reference, out);
-    let Decoded::Consumed(m) = answer else {
-        return answer;
-    };
-    Decoded::Consumed(a + (b + m))
+    let rest = &message[first + sizes.consumed..];
+    let k = shared.value as usize;
+    let n = decode_tested(rest, within, canonic, k, sizes.value, reference, out)?;
+    Ok(shared.consumed + sizes.consumed + n)
 }
 
 // Reads a path against a reference.
@@ -163,7 +121,7 @@ pub fn relative_decode(
     canonic: bool,
     reference: &[u8],
     out: &mut [u8; path::lent::SIZE],
-) -> Decoded
+) -> Result<usize, DecodeError>
     ensures { Gives (path_from []) result (path_in out.new) (read_against_by sized canonic (path_in reference.now) (drop start message.now)) }
 {
     decode_by(message, start, false, canonic, reference, out)
@@ -176,7 +134,7 @@ pub fn decode_path_within(
     canonic: bool,
     reference: &[u8],
     out: &mut [u8; path::lent::SIZE],
-) -> Decoded
+) -> Result<usize, DecodeError>
     ensures { Gives (path_from []) result (path_in out.new) (read_within_by sized canonic (path_in reference.now) (drop start message.now)) }
 {
     decode_by(message, start, true, canonic, reference, out)
@@ -188,15 +146,12 @@ fn decode_outside(
     start: usize,
     canonic: bool,
     out: &mut [u8; path::lent::SIZE],
-) -> Decoded
+) -> Result<usize, DecodeError>
     ensures { Gives (path_from []) result (path_in out.new) (checked (λ p. false) (read_path canonic) (drop start message.now)) }
 {
-    let answer = path_codec::decode(message, start, canonic, out);
-    let Decoded::Consumed(_) = answer else {
-        return answer;
-    };
+    path_codec::decode(message, start, canonic, out)?;
     path::lent::clear(out);
-    Decoded::TheirFault
+    Err(DecodeError::TheirFault)
 }
 
 // Reads an extension of a path.
@@ -206,34 +161,22 @@ pub fn decode_path_extends_path(
     canonic: bool,
     extends: &[u8],
     out: &mut [u8; path::lent::SIZE],
-) -> Decoded
+) -> Result<usize, DecodeError>
     ensures { Gives (path_from []) result (path_in out.new) (read_extends_by sized canonic (path_in extends.now) (drop start message.now)) }
 {
     path::lent::clear(out);
-    let fits = path::lent::sized(extends);
-    if !fits {
-        return Decoded::Malformed;
+    if !path::lent::sized(extends) {
+        return Err(DecodeError::Malformed);
     }
-    let sizes = path_suffix_decode::decode_sizes(message, start, canonic);
-    let sizes_answer = sizes.answer;
-    let Decoded::Consumed(n) = sizes_answer else {
-        return sizes_answer;
-    };
-    let total = sizes.total;
-    let more = sizes.count;
+    let sizes = path_suffix_decode::decode_sizes(message, start, canonic)?;
     let count = path::lent::count(extends);
     let used = path::lent::span(extends, 0, count);
-    if ((Path::MAX_PATH_LENGTH - used) as u64) < total {
+    if ((Path::MAX_PATH_LENGTH - used) as u64) < sizes.value.total
+        || ((Path::MAX_COMPONENT_COUNT - count) as u64) < sizes.value.count
+    {
         return decode_outside(message, start, canonic, out);
     }
-    if ((Path::MAX_COMPONENT_COUNT - count) as u64) < more {
-        return decode_outside(message, start, canonic, out);
-    }
-    let at = start + n;
-    let rest = &message[at..];
-    let answer = path_suffix_decode::decode_after(rest, canonic, total, more, extends, count, out);
-    let Decoded::Consumed(m) = answer else {
-        return answer;
-    };
-    Decoded::Consumed(n + m)
+    let rest = &message[start + sizes.consumed..];
+    let n = path_suffix_decode::decode_after(rest, canonic, sizes.value, extends, count, out)?;
+    Ok(sizes.consumed + n)
 }

@@ -50,7 +50,7 @@ last_reads used total = reads_as _ _ _
     let sum = s.sum in
     (le-leb used total (omega arith), (le-leb (total - used) max_component_length (omega arith), (omega arith, s.ok.bytes, s.bytes))))
 
-last_bounded : (used total : ℕ) → Bounded (read_last used total)
+pub last_bounded : (used total : ℕ) → Bounded (read_last used total)
 unfolding read_last
 last_bounded used total = guard_bounded (leb used total) _ (guard_bounded (leb (total - used) max_component_length) _ (some_bytes_bounded (total - used)))
 

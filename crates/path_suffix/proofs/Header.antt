@@ -15,7 +15,8 @@ use Rattle.compact_u64.proofs.Number.{number_reads, number_relaxes, number_bound
 use Rattle.path_suffix.specs.declared.Tags.{Tags}
 use Rattle.path_suffix.specs.Header.{total_width, count_width, total_at, count_at, unpack_tags, pack_tags}
 use Rattle.path_suffix.specs.inside.Header.{TagsFit}
-use Rattle.path_suffix.specs.Suffix.{Sizes, sizes_from, tags_of, sizes_bytes, read_sizes}
+use Rattle.path_suffix.specs.declared.Sizes.{Sizes}
+use Rattle.path_suffix.specs.Suffix.{sizes_from, tags_of, sizes_bytes, read_sizes}
 use Rattle.path_suffix.proofs.Relations.{SizesAs}
 
 -- ---- the byte

@@ -7,7 +7,8 @@ use lib.ListN.{length}
 use Rattle.codec.specs.Writings.{All}
 use Rattle.compact_u64.specs.Number.{U64}
 use Rattle.path.specs.Limits.{total_of, Component}
-use Rattle.path_suffix.specs.Suffix.{sized_bytes, component_bytes, Sizes, sizes_bytes, suffix_bytes}
+use Rattle.path_suffix.specs.declared.Sizes.{Sizes}
+use Rattle.path_suffix.specs.Suffix.{sized_bytes, component_bytes, sizes_bytes, suffix_bytes}
 
 pub record SizesAs (h : Sizes) (e : List ℕ) : Type 0 where
   pub total : U64 h.total

@@ -8,7 +8,7 @@ use Rattle.path.specs.Limits.{max_component_length, total_of, Component}
 use Rattle.path_suffix.specs.Suffix.{read_sizes, read_sized, read_last, read_components, read_suffix}
 use Rattle.path_suffix.proofs.Relations.{ComponentsOk, SuffixOk}
 
-sized_yields : (canonic : Bool) → Yields (read_sized canonic) Component
+pub sized_yields : (canonic : Bool) → Yields (read_sized canonic) Component
 unfolding read_sized
 sized_yields canonic =
     then_yields (read_standalone canonic) _ (λ len. Unit {0}) Component (record { holds = λ s a n h e. tt }) (λ len x.

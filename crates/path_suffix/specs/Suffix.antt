@@ -6,6 +6,7 @@ use Rattle.codec.specs.Header.{read_header}
 use Rattle.compact_u64.specs.Number.{min_tag, number_bytes, read_number, standalone_bytes, read_standalone}
 use Rattle.path.specs.Record.{Path, components_of}
 use Rattle.path.specs.Limits.{max_component_length, total_of}
+use Rattle.path_suffix.specs.declared.Sizes.{Sizes}
 use Rattle.path_suffix.specs.declared.Tags.{Tags}
 use Rattle.path_suffix.specs.Header.{total_width, count_width, unpack_tags, pack_tags}
 
@@ -20,10 +21,6 @@ unfoldable pub component_bytes : List (List ℕ) → List ℕ
 component_bytes [] = []
 component_bytes (c ∷ []) = c
 component_bytes (c ∷ d ∷ cs) = sized_bytes c ++ component_bytes (d ∷ cs)
-
-pub record Sizes : Type 0 where
-  pub total : ℕ
-  pub count : ℕ
 
 abbrev pub sizes_from : ℕ → ℕ → Sizes
 sizes_from total count = record { total = total; count = count }

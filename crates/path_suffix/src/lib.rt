@@ -8,3 +8,10 @@ pub struct Tags {
     pub total: u8,
     pub count: u8,
 }
+
+// A suffix's total length and component count.
+#[derive(Clone, Copy)]
+pub struct Sizes {
+    pub total: u64,
+    pub count: u64,
+}

@@ -1,31 +1,28 @@
 -- Reading components into a lent record: the loop's invariant, its turns, and its end.
-use Rattle.codec.proofs.Prelude.{◌≡◌, refl, sym, ap, ◌∙◌, List, [], ◌∷◌, ◌++◌, append_assoc, append-nil, Bool, true, false, ℕ, zero, suc, ◌+◌, ◌-◌, ◌*◌, ◌≤◌, ◌<◌, zero-add, add_assoc, arith, leb, leb-true, leb-false, lt-leb, length, take, drop, drop-drop, length-drop, length-append, length-take-le}
-use Rattle.codec.specs.Answers.{Answer, accepted, refused}
+use Rattle.codec.proofs.Prelude.{◌≡◌, refl, sym, ap, ◌∙◌, List, [], ◌∷◌, ◌++◌, append_assoc, Bool, true, false, ℕ, zero, suc, ◌+◌, ◌-◌, ◌*◌, ◌≤◌, ◌<◌, add_assoc, arith, leb, leb-true, leb-false, lt-leb, length, take, drop, drop-drop, length-drop, length-append}
+use Rattle.std.specs.Prelude.{Result}
+use Rattle.std.specs.Result.{result_unwrap_or}
+use Rattle.codec.specs.Answers.{Answer, AllBytes, accepted, refused}
+use Rattle.codec.proofs.Bytes.{AllBytes-drop}
+use Rattle.path_suffix.proofs.Yields.{sized_yields}
 use Rattle.codec.specs.Reader.{shift, named}
-use Rattle.codec.specs.declared.Decoded.TheVariants as decoded
 use Rattle.path.specs.declared.PathBuilder.{PathBuilder}
-use Rattle.path.specs.declared.Growth.{Growth}
+use Rattle.path.specs.declared.PathError.{PathError}
 use Rattle.path.specs.Limits.{max_component_length, max_component_count, max_path_length, total_of}
 use Rattle.path.specs.Record.{components_of, path_from}
 use Rattle.path.specs.Flat.{path_flat, path_in}
 use Rattle.path.specs.Builder.{built, built_from, Appends}
 use Rattle.path.proofs.Limits.{total_append, total_snoc}
-use Rattle.path.proofs.Growing.{built_total, built_count, built_components, appends_built}
+use Rattle.path.proofs.Growing.{built_total, built_count, built_components, appends_or}
 use Rattle.path_suffix.specs.Suffix.{read_sized, read_last, read_components}
-use Rattle.path_suffix.proofs.Components.{sized_bounded}
-use Rattle.path_suffix_decode.specs.declared.components.DecodedComponent.{DecodedComponent}
-use Rattle.path_suffix_decode.specs.inside.Components.{ReadsSized, Ready, read_into, last_into}
+use Rattle.codec.proofs.Bounded.{mapped_bounded}
+use Rattle.codec.proofs.Lending.{to_end}
+use Rattle.path_suffix.proofs.Components.{sized_bounded, last_bounded}
+use Rattle.path_suffix_decode.specs.inside.Components.{Ready, read_into, last_into}
 
 -- ---- components that were read, before those that are read from place at of the message on
 abbrev later : Bool → ℕ → ℕ → ℕ → List (List ℕ) → ℕ → List ℕ → Answer (List (List ℕ))
 later canonic left used total done at m = shift at (named (λ cs. done ++ cs) (read_components canonic left used total (drop at m)))
-
-later_first : (canonic : Bool) (count total : ℕ) (m : List ℕ) → read_components canonic count 0 total m ≡ later canonic count 0 total [] 0 m
-later_first canonic count total m = go (read_components canonic count 0 total m)
-  where
-    go : (x : Answer (List (List ℕ))) → x ≡ shift 0 (named (λ cs. cs) x)
-    go (accepted cs n) = rw (zero-add n)
-    go (refused k) = refl
 
 module _ (canonic : Bool) (total : ℕ) (done : List (List ℕ)) (at : ℕ) (m : List ℕ) (used : ℕ) where
   next_refused : (left k : ℕ) → 1 < left → read_sized canonic (drop at m) ≡ refused k → later canonic left used total done at m ≡ refused k
@@ -62,18 +59,6 @@ pub record Held (canonic : Bool) (m : List ℕ) (count total : ℕ) (first : Lis
   pub kept : used ≤ total → built b s ≡ built_from (first ++ done)
   pub still : read_components canonic count 0 total m ≡ later canonic left used total done at m
 
-pub held_first : {canonic : Bool} {m : List ℕ} {count total : ℕ} {b : PathBuilder} {s : List ℕ} → 1 ≤ count → Ready b s count total → Held canonic m count total (components_of (path_in s)) b s 0 0 count
-held_first {canonic} {m} {count} {total} {b} {s} h r = record {
-  done = [];
-  more = h;
-  counts = omega arith;
-  sums = refl;
-  small = omega arith;
-  inside = omega arith;
-  kept = λ x. r.made ∙ ap built_from (sym (append-nil (components_of (path_in s))));
-  still = later_first canonic count total m;
-}
-
 -- room for all of them
 pub record Room (first : List (List ℕ)) (count total : ℕ) : Type 0 where
   pub few : length first + count ≤ max_component_count
@@ -85,39 +70,37 @@ ready_room {b} {s} {count} {total} r =
     record { few = omega (arith, built_count cs r.made, r.few); fits = omega (arith, built_total cs r.made, r.fits) }
 
 module _ {canonic : Bool} {m : List ℕ} {count total : ℕ} {first : List (List ℕ)} {b : PathBuilder} {s : List ℕ} {used at left : ℕ} (h : Held canonic m count total first b s used at left) where
-  pub turn_refused : (k : ℕ) → 1 < left → read_sized canonic (drop at m) ≡ refused k → read_into canonic first count total m ≡ refused k
+  pub turn_refused : (k : ℕ) → 1 < left → refused k ≡ read_sized canonic (take (length m - at) (drop at m)) → refused k ≡ read_into canonic first count total m
   unfolding read_into
-  turn_refused k l f = ap (named (λ ds. path_flat (path_from (first ++ ds)))) (h.still ∙ next_refused canonic total h.done at m used left k l f)
+  turn_refused k l e = let f = rw to_end at (sym e) in sym (ap (named (λ ds. path_flat (path_from (first ++ ds)))) (h.still ∙ next_refused canonic total h.done at m used left k l f))
 
-  module _ {r : DecodedComponent} {n : ℕ} (reads : ReadsSized canonic m at r) (told : r.answer ≡ decoded.Consumed n) where
-    part_long : length (take (r.end - r.begin) (drop r.begin m)) ≡ r.end - r.begin
-    part_long = length-take-le (r.end - r.begin) (drop r.begin m) (rw length-drop (omega (arith, reads.ordered, reads.inside)))
-
-    part_read : read_sized canonic (drop at m) ≡ accepted (take (r.end - r.begin) (drop r.begin m)) n
-    part_read = sym (rw told at reads.answer.answer)
+  module _ (c : List ℕ) (n : ℕ) (told : accepted c n ≡ read_sized canonic (take (length m - at) (drop at m))) where
+    read : read_sized canonic (drop at m) ≡ accepted c n
+    read = sym (rw to_end at told)
 
     pub part_inside : at + n ≤ length m
-    part_inside = omega (arith, h.inside, (sized_bounded canonic).bound (drop at m) _ n part_read, length-drop at m)
+    part_inside = omega (arith, h.inside, (sized_bounded canonic).bound (drop at m) c n read, length-drop at m)
 
-    pub turn : Room first count total → 1 < left → {g : Growth} {to : List ℕ} → Appends b (take (r.end - r.begin) (drop r.begin m)) s g to
-        → Held canonic m count total first g.builder to (used + (r.end - r.begin)) (at + n) (left - 1)
-    turn room l {g} {to} grows =
-        let c = take (r.end - r.begin) (drop r.begin m) in
-        let step = next_turn canonic total h.done at m used left c n l part_read in
-        record {
-          done = h.done ++ (c ∷ []);
-          more = omega arith;
-          counts = simp length-append (omega (arith, h.counts));
-          sums = omega (arith, total_snoc h.done c, h.sums, part_long);
-          small = omega (arith, h.small, reads.short);
-          inside = part_inside;
-          kept = λ within.
-              appends_built (first ++ h.done) (h.kept (omega arith)) c grows (omega (arith, part_long, reads.short))
-              (omega (arith, length-append first h.done, h.counts, room.few))
-              (omega (arith, total_append first h.done, h.sums, part_long, room.fits))
-              ∙ ap built_from (append_assoc first h.done (c ∷ []));
-          still = h.still ∙ rw part_long at step;
-        }
+    pub part_short : AllBytes m → length c ≤ max_component_length
+    part_short b = ((sized_yields canonic).holds (drop at m) c n (AllBytes-drop at m b) read).short
+
+    -- one more, which stands in the record while the total has room for it
+    pub turn : Room first count total → 1 < left → AllBytes m → (g : Result PathBuilder PathError) {to : List ℕ} → Appends b c s g to
+        → Held canonic m count total first (result_unwrap_or g b) to (used + length c) (at + n) (left - 1)
+    turn room l bytes g {to} grows = let short = part_short bytes in record {
+      done = h.done ++ (c ∷ []);
+      more = omega arith;
+      counts = simp length-append (omega (arith, h.counts));
+      sums = omega (arith, total_snoc h.done c, h.sums);
+      small = omega (arith, h.small, short);
+      inside = part_inside;
+      kept = λ within.
+          appends_or (first ++ h.done) (h.kept (omega arith)) c g grows short
+          (omega (arith, length-append first h.done, h.counts, room.few))
+          (omega (arith, total_append first h.done, h.sums, room.fits))
+          ∙ ap built_from (append_assoc first h.done (c ∷ []));
+      still = h.still ∙ next_turn canonic total h.done at m used left c n l read;
+    }
 
   module _ (room : Room first count total) where
     -- ---- after the loop: the last component
@@ -140,17 +123,26 @@ module _ {canonic : Bool} {m : List ℕ} {count total : ℕ} {first : List (List
             fits = omega (arith, built_total (first ++ h.done) is, end_fits);
           }
 
-    pub end_last : left ≤ 1 → read_into canonic first count total m ≡ last_into (components_of (path_in s)) used total at m
-    unfolding read_into last_into read_components
-    end_last l =
-        let one : left ≡ 1 = omega (arith, h.more) in
-        ap (named (λ ds. path_flat (path_from (first ++ ds)))) (rw one at h.still) ∙ go (leb used total) refl
-      where
-        same : (x : Answer (List ℕ)) → named (λ ds. path_flat (path_from (first ++ ds))) (shift at (named (λ cs. h.done ++ cs) (named (λ c. c ∷ []) x))) ≡ shift at (named (λ c. path_flat (path_from ((first ++ h.done) ++ (c ∷ [])))) x)
-        same (accepted c k) = rw append_assoc
-        same (refused k) = refl
+    module _ (l : left ≤ 1) where
+      end_last : read_into canonic first count total m ≡ shift at (last_into (components_of (path_in s)) used total (drop at m))
+      unfolding read_into last_into read_components
+      end_last =
+          let one : left ≡ 1 = omega (arith, h.more) in
+          ap (named (λ ds. path_flat (path_from (first ++ ds)))) (rw one at h.still) ∙ go (leb used total) refl
+        where
+          same : (x : Answer (List ℕ)) → named (λ ds. path_flat (path_from (first ++ ds))) (shift at (named (λ cs. h.done ++ cs) (named (λ c. c ∷ []) x))) ≡ shift at (named (λ c. path_flat (path_from ((first ++ h.done) ++ (c ∷ [])))) x)
+          same (accepted c k) = rw append_assoc
+          same (refused k) = refl
 
-        go : (t : Bool) → leb used total ≡ t
-            → named (λ ds. path_flat (path_from (first ++ ds))) (later canonic 1 used total h.done at m) ≡ shift at (named (λ c. path_flat (path_from (components_of (path_in s) ++ (c ∷ [])))) (read_last used total (drop at m)))
-        go true e = rw (end_components l (leb-true used total e)) (same (read_last used total (drop at m)))
-        go false e = rw (last_past used total (drop at m) (leb-false used total e))
+          go : (t : Bool) → leb used total ≡ t
+              → named (λ ds. path_flat (path_from (first ++ ds))) (later canonic 1 used total h.done at m) ≡ shift at (named (λ c. path_flat (path_from (components_of (path_in s) ++ (c ∷ [])))) (read_last used total (drop at m)))
+          go true e = rw (end_components l (leb-true used total e)) (same (read_last used total (drop at m)))
+          go false e = rw (last_past used total (drop at m) (leb-false used total e))
+
+      -- what is said of the last component, as the code takes the rest of the message
+      pub end_said : {x : Answer (List ℕ)} → x ≡ last_into (components_of (path_in s)) used total (take (length m - at) (drop at m)) → shift at x ≡ read_into canonic first count total m
+      end_said e = rw to_end at (ap (shift at) e) ∙ sym end_last
+
+      pub end_inside : {out : List ℕ} {n : ℕ} → accepted out n ≡ last_into (components_of (path_in s)) used total (take (length m - at) (drop at m)) → at + n ≤ length m
+      unfolding last_into
+      end_inside {out} {n} e = omega (arith, h.inside, (mapped_bounded _ _ (last_bounded used total)).bound (drop at m) out n (sym (rw to_end at e)), length-drop at m)

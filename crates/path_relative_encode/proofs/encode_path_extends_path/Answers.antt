@@ -6,18 +6,18 @@ use Rattle.path_relative.specs.Records.{extends_by, extends_path}
 use Rattle.path_relative.proofs.Lent.{extends_whole}
 use Rattle.path_relative_encode.proofs.encode_path_extends_path.Goals as goal
 
-pub returns-then-not-formed : goal.returns-then-not-formed
-returns-then-not-formed c =
+pub returns-then-not-both_formed : goal.returns-then-not-both_formed
+returns-then-not-both_formed c =
     let path : Path = path_in c.args.path.now in
     let reference : Path = path_in c.args.extends.now in
     writes_into (put_refused_value ((extends_path reference).check path) _ c.args.buffer.now 5
-    (rw (← c.both_formed-formed.ensures, c.if-not-formed.true)))
+    (rw (← c.both_formed.ensures, c.if-not-both_formed.true)))
 
 pub returns : goal.returns
 returns c =
     let path : Path = path_in c.args.path.now in
     let reference : Path = path_in c.args.extends.now in
-    let formed = sym c.both_formed-formed.ensures ∙ c.if-not-formed.false in
+    let formed = sym c.both_formed.ensures ∙ c.if-not-both_formed.false in
     let w = same_writing (extends_by sized reference) path (extends_path reference) (extends_whole reference path formed) refl c.args.buffer.now in
     let put = c.encode_path_extends_path.ensures in
     writes_into (put.answer ∙ w.0, put.buffer ∙ w.1)

@@ -1,35 +1,32 @@
-use Rattle.codec.proofs.Prelude.{◌≤◌, ◌∙◌, sym, arith, length, length-drop, length-append}
-use Rattle.codec.proofs.Lending.{to_end, put_end}
+use Rattle.codec.proofs.Prelude.{◌≡◌, refl, arith, length, length-append}
 use Rattle.compact_u64.specs.Number.{standalone_bytes}
-use Rattle.path_suffix.proofs.Writing.{sized_put}
+use Rattle.path_suffix.proofs.Writing.{length_put, sized_put}
 use Rattle.path_suffix_encode.proofs.put_sized.Goals as goal
 
-pub slice_bounds-put-count : goal.slice_bounds-put-count
-slice_bounds-put-count c =
-    let inside : c.len_of_encoding-n.result ≤ length c.encode.new.buffer = let a = c.args in
-    omega (arith, c.encode.auto.buffer, c.len_of_encoding-n.ensures.0, length-append (standalone_bytes (length a.s.now)) a.s.now) in
-    inside
-
-pub slice_bounds-put-start : goal.slice_bounds-put-start
-slice_bounds-put-start c =
-    let inside : c.len_of_encoding-n.result ≤ length c.encode.new.buffer = let a = c.args in
-    omega (arith, c.encode.auto.buffer, c.len_of_encoding-n.ensures.0, length-append (standalone_bytes (length a.s.now)) a.s.now) in
-    inside
-
-pub put-requires : goal.put-requires
-put-requires c =
+pub unwrap-n-requires : goal.unwrap-n-requires
+unwrap-n-requires c =
     let a = c.args in
-    let n = c.len_of_encoding-n in
-    let l = c.encode in
-    rw (to_end n.result l.new.buffer, length-drop) (omega (arith, l.auto.buffer, n.ensures.0, length-append (standalone_bytes (length a.s.now)) a.s.now))
+    rw (length_put a.s.now a.buffer.now c.requires c.encode.result c.encode.ensures.0) refl
+
+pub overflow_add-end : goal.overflow_add-end
+overflow_add-end c =
+    let a = c.args in
+    let told = length_put a.s.now a.buffer.now c.requires c.encode.result c.encode.ensures.0 in
+    let n : c.unwrap-n.result ≡ length (standalone_bytes (length a.s.now)) = cc in
+    omega (arith, n, length-append (standalone_bytes (length a.s.now)) a.s.now, c.requires)
+
+pub slice_bounds-copy_from_slice-end : goal.slice_bounds-copy_from_slice-end
+slice_bounds-copy_from_slice-end c =
+    let a = c.args in
+    let told = length_put a.s.now a.buffer.now c.requires c.encode.result c.encode.ensures.0 in
+    let n : c.unwrap-n.result ≡ length (standalone_bytes (length a.s.now)) = cc in
+    omega (arith, n, length-append (standalone_bytes (length a.s.now)) a.s.now, c.requires)
 
 pub returns : goal.returns
 returns c =
     let a = c.args in
-    let n = c.len_of_encoding-n in
-    let l = c.encode in
-    let w = c.put in
-    let bytes = rw (to_end n.result l.new.buffer) at w.ensures.1 in (
-      rw (n.ensures.0, w.ensures.0) (sym (length-append (standalone_bytes (length a.s.now)) a.s.now)),
-      put_end n.result l.new.buffer w.new.buffer ∙ rw (bytes, l.ensures.1) (sized_put a.s.now a.buffer.now n.result n.ensures.0 c.requires),
+    let told = length_put a.s.now a.buffer.now c.requires c.encode.result c.encode.ensures.0 in
+    let n : c.unwrap-n.result ≡ length (standalone_bytes (length a.s.now)) = cc in (
+      omega (arith, n, length-append (standalone_bytes (length a.s.now)) a.s.now),
+      sized_put a.s.now a.buffer.now c.requires _ _ n (omega arith) c.encode.ensures.1 c.copy_from_slice.ensures.after,
     )

@@ -7,10 +7,6 @@ use Rattle.path.proofs.lent.measure.Given as goal
 
 abbrev pub invariant-loop-i : goal.invariant-loop-i
 invariant-loop-i l =
-    (l.i ≤ l.n)
-    × (l.total ≤ 65535 * l.i)
+    (l.total ≤ 65535 * l.i)
     × (l.total + sum_of (take (l.n - l.i) (drop l.i (path_in l.path).lengths)) ≡ sum_of (take l.n (path_in l.path).lengths))
     × (all_at_most max_component_length (take l.n (path_in l.path).lengths) ≡ (all_at_most max_component_length (drop l.i (take l.n (path_in l.path).lengths)) && l.short))
-
-abbrev pub decreases-loop-i : goal.decreases-loop-i
-decreases-loop-i l = l.n - l.i

@@ -6,7 +6,4 @@ use Rattle.path.proofs.lent.sum.Given as goal
 
 abbrev pub invariant-loop-i : goal.invariant-loop-i
 invariant-loop-i l =
-    (l.from ≤ l.i) × (l.total ≤ 65535 * (l.i - l.from)) × (l.total + sum_of (take (l.to - l.i) (drop l.i (path_in l.path).lengths)) ≡ sum_of (take (l.to - l.from) (drop l.from (path_in l.path).lengths)))
-
-abbrev pub decreases-loop-i : goal.decreases-loop-i
-decreases-loop-i l = l.to - l.i
+    (l.total ≤ 65535 * (l.i - l.from)) × (l.total + sum_of (take (l.to - l.i) (drop l.i (path_in l.path).lengths)) ≡ sum_of (take (l.to - l.from) (drop l.from (path_in l.path).lengths)))

@@ -1,46 +1,38 @@
-use Rattle.codec.proofs.Prelude.{◌≡◌, refl, sym, ap, ◌∙◌, arith}
-use Rattle.codec.specs.Answers.{accepted, answer_of}
-use Rattle.codec.specs.Reader.{passed}
-use Rattle.codec.specs.declared.Decoded.{Decoded}
-use Rattle.codec.proofs.Answers.{gives_refused, bind_refused}
-use Rattle.path.specs.Record.{Path, components_of}
+use Rattle.codec.proofs.Prelude.{◌≡◌, sym, true, arith}
+use Rattle.std.proofs.Common.{Err, rules}
+use Rattle.codec.proofs.Answers.{bind_refused, test_passed, test_failed}
+use Rattle.path.specs.Record.{components_of}
 use Rattle.path.specs.Flat.{path_in}
-use Rattle.path.specs.Prefix.{is_prefix}
 use Rattle.path.proofs.Growing.{in_empty}
-use Rattle.path_relative.specs.inside.Reading.{read_joined, read_tested}
-use Rattle.path_relative.proofs.Within.{joined_told, tested_on, tested_loose, tested_within}
+use Rattle.path_relative.specs.inside.Reading.{prefix_if}
+use Rattle.path_relative.proofs.Within.{joined_told, tested_on}
+use Rattle.path_relative_decode.proofs.sized.decode_tested.Goals.{else-within-via-then-within+else-not-reaches, else-within-via-else-within}
 use Rattle.path_relative_decode.proofs.sized.decode_tested.Goals as goal
 
-pub returns-then-not-within : goal.returns-then-not-within
-returns-then-not-within c =
-    let reference : Path = path_in c.args.reference.now in
-    rw (tested_loose _ reference _ _ _ _ _ (c.if-not-within.true)) c.decode_joined-answer.ensures
+pub returns-in_err-n : goal.returns-in_err-n
+returns-in_err-n c =
+    let a = c.args in
+    let e : c.from_residual.result ≡ Err c.in_err-n.field-0.0 = search rules in
+    rw (e, tested_on a.canonic (path_in a.reference.now) a.k a.sizes.total a.sizes.count a.message.now a.within) (bind_refused _ _ c.in_err-n.ensures)
 
-pub returns-in_default : goal.returns-in_default
-returns-in_default c =
-    let reference : Path = path_in c.args.reference.now in
-    rw (tested_on _ reference _ _ _ _ _) (bind_refused _ _ c.in_default.not-Consumed c.decode_joined-answer.ensures)
+pub reaches-requires : goal.reaches-requires
+reaches-requires c =
+    let a = c.args in
+    (joined_told a.canonic (path_in a.reference.now) a.k a.sizes.total a.sizes.count c.requires).holds a.message.now _ _ (λ i. omega (arith, c.type_inv.message i)) (sym c.in_ok-n.ensures.answer)
 
-pub reaches-prefixed-requires : goal.reaches-prefixed-requires
-reaches-prefixed-requires c =
-    let reference : Path = path_in c.args.reference.now in
-    let path : Path = path_in c.decode_joined-answer.new.out in
-    let taken : let a = c.args in read_joined a.canonic reference a.k a.total a.count a.message.now ≡ accepted path c.in-Consumed.field-0 = sym c.decode_joined-answer.ensures.answer ∙ ap (λ (d : Decoded). answer_of d path) c.in-Consumed.is in
-    (joined_told _ reference _ _ _ c.requires).holds c.args.message.now _ _ (λ i. omega (arith, c.shared_slice_known-1.given i)) taken
-
-pub returns-then-prefixed : goal.returns-then-prefixed
-returns-then-prefixed c =
-    let path : Path = path_in c.decode_joined-answer.new.out in
-    let reference : Path = path_in c.args.reference.now in
-    let taken : let a = c.args in read_joined a.canonic reference a.k a.total a.count a.message.now ≡ accepted path c.in-Consumed.field-0 = sym c.decode_joined-answer.ensures.answer ∙ ap (λ (d : Decoded). answer_of d path) c.in-Consumed.is in
-    let judged : let a = c.args in read_tested a.within a.canonic reference a.k a.total a.count a.message.now ≡ passed (is_prefix (components_of reference) (components_of path)) (accepted path c.in-Consumed.field-0) = tested_within _ reference _ _ _ _ _ (c.if-not-within.false) _ _ taken in
-    let e = rw (sym c.reaches-prefixed.ensures ∙ c.if-prefixed.true) at judged in
-    record { answer = ap (λ (d : Decoded). answer_of d path) c.in-Consumed.is ∙ sym e; value = rw e }
+pub returns-then-not-reaches : goal.returns-then-not-reaches
+returns-then-not-reaches c =
+    let a = c.args in
+    let r = path_in a.reference.now in
+    rw (c.clear.ensures, in_empty, tested_on a.canonic r a.k a.sizes.total a.sizes.count a.message.now a.within)
+    (test_failed (λ p. prefix_if a.within (components_of r) (components_of p)) _ c.in_ok-n.ensures (rw c.if-within.true (sym c.if-not-reaches.ensures)))
 
 pub returns : goal.returns
 returns c =
-    let reference : Path = path_in c.args.reference.now in
-    let path : Path = path_in c.decode_joined-answer.new.out in
-    let taken : let a = c.args in read_joined a.canonic reference a.k a.total a.count a.message.now ≡ accepted path c.in-Consumed.field-0 = sym c.decode_joined-answer.ensures.answer ∙ ap (λ (d : Decoded). answer_of d path) c.in-Consumed.is in
-    let judged : let a = c.args in read_tested a.within a.canonic reference a.k a.total a.count a.message.now ≡ passed (is_prefix (components_of reference) (components_of path)) (accepted path c.in-Consumed.field-0) = tested_within _ reference _ _ _ _ _ (c.if-not-within.false) _ _ taken in
-    rw (c.clear.ensures, in_empty) (gives_refused 2 refl (judged ∙ rw (sym c.reaches-prefixed.ensures ∙ c.if-prefixed.false)))
+    let a = c.args in
+    let r = path_in a.reference.now in
+    let kept : prefix_if a.within (components_of r) (components_of (path_in c.decode_joined.new.out)) ≡ true = elim c.else-within.branch [
+      | else-within-via-then-within+else-not-reaches w ↦ rw w.if-within.true (sym w.if-not-reaches.ensures)
+      | else-within-via-else-within w ↦ rw w.if-within.false
+    ] in
+    rw (tested_on a.canonic r a.k a.sizes.total a.sizes.count a.message.now a.within) (test_passed (λ p. prefix_if a.within (components_of r) (components_of p)) _ c.in_ok-n.ensures kept)

@@ -1,35 +1,36 @@
-use Rattle.codec.proofs.Prelude.{sym, ap, ◌∙◌}
+use Rattle.codec.proofs.Prelude.{◌≡◌, ◌∙◌}
+use Rattle.std.proofs.Common.{Err, rules}
+use Rattle.codec.specs.declared.EncodeError.TheVariants as encoding
 use Rattle.codec.proofs.Lending.{put_refused_value, same_writing, writes_into}
 use Rattle.path.specs.Record.{Path, sized}
 use Rattle.path.specs.Flat.{path_in}
-use Rattle.path.specs.Answers.{compared_answer}
 use Rattle.path.proofs.Records.{lent_known}
 use Rattle.path_suffix.specs.Suffix.{suffix_by}
 use Rattle.path_relative.specs.Records.{extends_by}
 use Rattle.path_relative.proofs.Lent.{extends_malformed, extends_outside, extends_suffix, reference_formed}
 use Rattle.path_relative_encode.proofs.sized.encode_path_extends_path.Goals as goal
 
-pub returns-in-Yes : goal.returns-in-Yes
-returns-in-Yes c =
+pub returns-in_err-prefixed : goal.returns-in_err-prefixed
+returns-in_err-prefixed c =
     let path : Path = path_in c.args.path.now in
     let reference : Path = path_in c.args.extends.now in
-    let prefixed = sym (ap compared_answer c.in-Yes.is) ∙ c.is_prefix_of-prefixed.ensures in
+    let e : c.from_residual.result ≡ Err encoding.Malformed = search rules in
+    rw e (writes_into (put_refused_value ((extends_by sized reference).check path) _ c.args.buffer.now 5 (extends_malformed reference path c.in_err-prefixed.ensures)))
+
+pub returns-then-not-prefixed : goal.returns-then-not-prefixed
+returns-then-not-prefixed c =
+    let path : Path = path_in c.args.path.now in
+    let reference : Path = path_in c.args.extends.now in
+    writes_into (put_refused_value ((extends_by sized reference).check path) _ c.args.buffer.now 3
+    (extends_outside reference path (rw c.if-not-prefixed.true at c.in_ok-prefixed.ensures)))
+
+pub returns : goal.returns
+returns c =
+    let path : Path = path_in c.args.path.now in
+    let reference : Path = path_in c.args.extends.now in
+    let prefixed = rw c.if-not-prefixed.false at c.in_ok-prefixed.ensures in
     let count = c.count.ensures ∙ lent_known _ (reference_formed reference path prefixed) 0 (λ p. p.count) in
     let same = extends_suffix reference path prefixed _ count in
     let w = same_writing (suffix_by sized c.count.result) path (extends_by sized reference) same.0 same.1 c.args.buffer.now in
     let put = c.encode_suffix.ensures in
     writes_into (put.answer ∙ w.0, put.buffer ∙ w.1)
-
-pub returns-in-No : goal.returns-in-No
-returns-in-No c =
-    let path : Path = path_in c.args.path.now in
-    let reference : Path = path_in c.args.extends.now in
-    writes_into (put_refused_value ((extends_by sized reference).check path) _ c.args.buffer.now 3
-    (extends_outside reference path (sym (ap compared_answer c.in-No.is) ∙ c.is_prefix_of-prefixed.ensures)))
-
-pub returns-in-Malformed : goal.returns-in-Malformed
-returns-in-Malformed c =
-    let path : Path = path_in c.args.path.now in
-    let reference : Path = path_in c.args.extends.now in
-    writes_into (put_refused_value ((extends_by sized reference).check path) _ c.args.buffer.now 5
-    (extends_malformed reference path (sym (ap compared_answer c.in-Malformed.is) ∙ c.is_prefix_of-prefixed.ensures)))

@@ -1,52 +1,33 @@
-use Rattle.codec.proofs.Prelude.{◌∙◌, sym, arith}
-use Rattle.codec.proofs.Answers.{no_value}
-use Rattle.path_suffix_decode.proofs.Into.{held_first, ready_room, turn_refused, part_inside, turn, end_ready, end_last}
+use Rattle.codec.proofs.Prelude.{◌≡◌, ◌+◌, ◌-◌, arith}
+use Rattle.std.proofs.Common.{Err, rules}
+use Rattle.codec.specs.Answers.{AllBytes, decode_number}
+use Rattle.path_suffix_decode.proofs.Into.{ready_room, turn_refused, part_inside, turn, end_ready, end_said, end_inside}
 use Rattle.path_suffix_decode.proofs.components.decode_some.Goals as goal
 
-pub loop-left-init : goal.loop-left-init
-loop-left-init c =
-    held_first c.requires.0 c.requires.1
-
-pub decode_sized-component-requires : goal.decode_sized-component-requires
-decode_sized-component-requires c = c.loop-left.invariant.inside
-
-pub returns-in_default : goal.returns-in_default
-returns-in_default c =
-    let x = no_value c.decode_sized-component.result.answer c.in_default.not-Consumed in
-    rw (x.beside _) (sym (turn_refused c.loop-left.invariant x.why c.loop-left-test.true (sym c.decode_sized-component.ensures.answer.answer ∙ x.beside _)))
-
-pub slice_bounds-append_component-count : goal.slice_bounds-append_component-count
-slice_bounds-append_component-count c =
-    c.decode_sized-component.ensures.ordered
-
-pub slice_bounds-append_component-start : goal.slice_bounds-append_component-start
-slice_bounds-append_component-start c =
-    omega (arith, c.decode_sized-component.ensures.ordered, c.decode_sized-component.ensures.inside)
-
-pub slice_bounds-append_component-end : goal.slice_bounds-append_component-end
-slice_bounds-append_component-end c =
-    omega (arith, c.decode_sized-component.ensures.inside)
-
-pub overflow_sub-used : goal.overflow_sub-used
-overflow_sub-used c =
-    c.decode_sized-component.ensures.ordered
-
-pub overflow_add-used : goal.overflow_add-used
-overflow_add-used c =
-    omega (arith, c.decode_sized-component.ensures.short, c.loop-left.invariant.small, c.requires.1.few)
+pub returns-in_err-component : goal.returns-in_err-component
+returns-in_err-component c =
+    let e : c.from_residual.result ≡ Err c.in_err-component.field-0.0 = search rules in
+    rw e (turn_refused c.loop.invariant (decode_number c.in_err-component.field-0.0) (omega arith) c.in_err-component.ensures)
 
 pub overflow_add-at : goal.overflow_add-at
-overflow_add-at c =
-    omega (arith, part_inside c.loop-left.invariant c.decode_sized-component.ensures c.in-Consumed.is)
+overflow_add-at c = omega (arith, part_inside c.loop.invariant _ _ c.in_ok-component.ensures)
 
-pub loop-left-preserved : goal.loop-left-preserved
-loop-left-preserved c =
-    turn c.loop-left.invariant c.decode_sized-component.ensures c.in-Consumed.is (ready_room c.requires.1) c.loop-left-test.true c.append_component-growth.ensures
+pub loop-preserved : goal.loop-preserved
+loop-preserved c =
+    let bytes : AllBytes c.args.message.now = λ i. omega (arith, c.type_inv.message i) in
+    let next : c.args.count + 1 - (c.loop.counter + 1) ≡ c.args.count + 1 - c.loop.counter - 1 = omega arith in
+    rw (next, c.unwrap_or-builder.ensures) (turn c.loop.invariant _ _ c.in_ok-component.ensures (ready_room c.requires.1) (omega arith) bytes c.append_component.result c.append_component.ensures)
 
 pub decode_last-requires : goal.decode_last-requires
-decode_last-requires c =
-    (c.loop-left.invariant.inside, end_ready c.loop-left.invariant (ready_room c.requires.1) c.loop-left-test.false)
+decode_last-requires c = end_ready c.loop.invariant (ready_room c.requires.1) (omega arith)
+
+pub returns-in_err-n : goal.returns-in_err-n
+returns-in_err-n c =
+    let e : c.from_residual-in_err-n.result ≡ Err c.in_err-n.field-0.0 = search rules in
+    rw e (end_said c.loop.invariant (ready_room c.requires.1) (omega arith) c.in_err-n.ensures)
+
+pub overflow_add-result : goal.overflow_add-result
+overflow_add-result c = omega (arith, end_inside c.loop.invariant (ready_room c.requires.1) (omega arith) c.in_ok-n.ensures)
 
 pub returns : goal.returns
-returns c =
-    c.decode_last.ensures ∙ sym (end_last c.loop-left.invariant (ready_room c.requires.1) c.loop-left-test.false)
+returns c = end_said c.loop.invariant (ready_room c.requires.1) (omega arith) c.in_ok-n.ensures
