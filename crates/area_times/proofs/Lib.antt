@@ -1,4 +1,3 @@
 pub mod HeaderLayout
 pub mod Times
-pub mod Exits
 pub mod Relations

@@ -79,7 +79,7 @@ module _ (r : TimeRange) (h : AreaHeader) where
     written = λ x e w. w.bytes;
   }
 
-  end_field_lem : Field (TypedRange r × (spare_bits h ≡ false)) (λ canonic. read_end canonic r h) (EndAs r h.end_open h.end_added h.end_tag) (end_bytes r)
+  pub end_field_lem : Field (TypedRange r × (spare_bits h ≡ false)) (λ canonic. read_end canonic r h) (EndAs r h.end_open h.end_added h.end_tag) (end_bytes r)
   unfolding read_end EndRel
   end_field_lem = record {
     reads = λ f. reads_as _ _ _

@@ -50,23 +50,18 @@ pub(crate) fn pack(header: AreaHeader) -> u8
     requires { HeaderFits header }
     ensures { result ≡ pack_header header }
 {
-    byte_codec::bit(header.id_written) * ID_WRITTEN
-        + byte_codec::bit(header.end_open) * END_OPEN
-        + byte_codec::bit(header.start_added) * START_ADDED
-        + byte_codec::bit(header.end_added) * END_ADDED
+    u8::from(header.id_written) * ID_WRITTEN
+        + u8::from(header.end_open) * END_OPEN
+        + u8::from(header.start_added) * START_ADDED
+        + u8::from(header.end_added) * END_ADDED
         + header.start_tag * START_TAG
         + header.end_tag * END_TAG
 }
 
 // Whether an open end comes with a flag or a tag of its difference, which it does not have.
+#[tactic(auto, unfolding(crate::specs::Header::spare_bits))]
 pub fn spare_bits(header: AreaHeader) -> bool
     ensures { result ≡ spare_bits header }
 {
-    if !header.end_open {
-        return false;
-    }
-    if header.end_added {
-        return true;
-    }
-    header.end_tag != 0
+    header.end_open && (header.end_added || header.end_tag != 0)
 }

@@ -13,7 +13,7 @@ pub record ApartEntry (e : Entry) : Type 0 where
   pub made : entry_from (entry_of e) ≡ e
 
 pub apart_entry : (e : Entry) → TypedEntry e → well_formed_entry e ≡ true → ApartEntry e
-unfolding well_formed_entry entry_from
+unfolding entry_from
 apart_entry e t w =
     let p = apart_path e.path t.path (well_formed_lem e.path w) in
     record {
@@ -35,7 +35,7 @@ pub record MadeEntry (v : EntryValue) : Type 0 where
   pub back : entry_of (entry_from v) ≡ v
 
 pub made_entry : (v : EntryValue) → TypedEntryValue v → PathOk v.path → MadeEntry v
-unfolding well_formed_entry entry_from
+unfolding entry_from
 made_entry v t ok =
     let p = made_path v.path ok in
     record {

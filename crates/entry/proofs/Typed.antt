@@ -4,9 +4,6 @@ use denote.Struct.Declared as struct
 use Rattle.entry.specs.declared.EntryFields.{EntryFields}
 
 -- ids of an entry's fields
-pub namespace_long : (f : EntryFields) {vs : List Val} → Is (struct.row Rattle.entry.specs.contracts.EntryFields.the_type) f vs → length f.namespace_id ≡ 32
-namespace_long f g = g.1.1.0.1.0.1
-
 pub digest_long : (f : EntryFields) {vs : List Val} → Is (struct.row Rattle.entry.specs.contracts.EntryFields.the_type) f vs → length f.payload_digest ≡ 32
 digest_long f g = g.1.1.1.1.1.1.0.1.0.1
 

@@ -1,6 +1,5 @@
 -- docs/FORMAT.md, "Entries": an entry on plain values.
-use Rattle.std.specs.Prelude.{List, Bool, ◌&&◌, ℕ}
-use Rattle.std.proofs.Math.Option.{some}
+use Rattle.std.specs.Prelude.{Some, List, Bool, ◌&&◌, ℕ}
 use Rattle.codec.specs.Bytes.{same_bytes, TypedId}
 use Rattle.compact_u64.specs.Number.{U64}
 use Rattle.path.specs.Limits.{TypedComponents}
@@ -29,6 +28,6 @@ pub record TypedEntryValue (v : EntryValue) : Type 0 where
 unfoldable pub entry_lies_inside : List ℕ → AreaValue → EntryValue → Bool
 entry_lies_inside n r v =
     same_bytes n v.namespace
-    && (includes_subspace r.subspace (some v.subspace)
+    && (includes_subspace r.subspace (Some v.subspace)
     && (is_prefix r.path v.path
     && includes_time r.times v.time))

@@ -1,16 +1,17 @@
 -- docs/FORMAT.md, "Entries": an entry's record. It is well formed when its path is. The code holds the path's record apart from the other fields.
-use Rattle.std.specs.Prelude.{List, Bool, ◌&&◌, ℕ}
-use Rattle.std.proofs.Math.Option.{some}
+use Rattle.std.specs.Prelude.{Some, List, Bool, ◌&&◌, ℕ}
 use Rattle.codec.specs.Bytes.{same_bytes, TypedId}
 use Rattle.compact_u64.specs.Number.{U64}
 use Rattle.path.specs.Record.{Path, components_of, path_from, well_formed, TypedPath}
 use Rattle.codec.specs.Answers.{Said}
+use Rattle.path.specs.Flat.{path_in}
 use Rattle.path.specs.Answers.{said_if}
-use Rattle.grouping.specs.Record.{Area, subspace_of, area_of, well_formed_area}
+use Rattle.grouping.specs.Record.{Area, area_of, well_formed_area}
 use Rattle.grouping.specs.declared.AreaHead.{AreaHead}
 use Rattle.grouping.specs.Range.{includes_time}
 use Rattle.grouping.specs.Area.{includes_subspace}
 use Rattle.entry.specs.declared.EntryFields.{EntryFields}
+use Rattle.entry.specs.declared.Entry.{Entry as LentEntry}
 use Rattle.entry.specs.Entry.{EntryValue, entry_lies_inside}
 
 pub record Entry : Type 0 where
@@ -62,8 +63,12 @@ entry_with f path = record {
   payload_digest = f.payload_digest;
 }
 
+-- what an entry of the code stands for, whose path is lent
+abbrev pub entry_lent : LentEntry → Entry
+entry_lent e = entry_with e.fields (path_in e.path.now)
+
 -- ---- well formed: what 5 tests
-unfoldable pub well_formed_entry : Entry → Bool
+abbrev pub well_formed_entry : Entry → Bool
 well_formed_entry e = well_formed e.path
 
 -- what the language says of a record
@@ -79,7 +84,7 @@ pub record TypedEntry (e : Entry) : Type 0 where
 unfoldable pub fields_lie_inside : List ℕ → AreaHead → EntryFields → Bool
 fields_lie_inside n h f =
     same_bytes n f.namespace_id
-    && (includes_subspace (subspace_of h.subspace) (some f.subspace_id)
+    && (includes_subspace h.subspace (Some f.subspace_id)
     && includes_time h.times f.timestamp)
 
 -- 5 unless both are well formed

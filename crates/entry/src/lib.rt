@@ -3,15 +3,14 @@
 #![tactic(auto)]
 
 ghost use Rattle.std.specs.Prelude.{◌≡◌};
-ghost use Rattle.entry.specs.Record.{fields_lie_inside};
-ghost use Rattle.entry.specs.Answers.{fields_refusal};
+ghost use Rattle.codec.specs.Answers.{said_of};
+ghost use Rattle.grouping.specs.Record.{area_lent};
+ghost use Rattle.entry.specs.Record.{entry_lent, well_formed_entry, fields_lie_inside, says_entry_inside};
 
-use codec::Decoded;
-use grouping::{AreaHead, AreaSubspace};
+use codec::Malformed;
+use grouping::{Area, AreaHead};
 
-pub mod lent;
-
-// What an entry has beside its path, whose record is lent.
+// What an entry has beside its path.
 #[derive(Clone, Copy)]
 pub struct EntryFields {
     pub namespace_id: [u8; 32],
@@ -21,48 +20,44 @@ pub struct EntryFields {
     pub payload_digest: [u8; 32],
 }
 
-// What an entry has beside its path, which is read into a lent record, beside the answer; beside a refusal all of it is zero.
+// An entry whose path is lent as its record.
 #[derive(Clone, Copy)]
-pub struct DecodedFields {
-    pub answer: Decoded,
+pub struct Entry<'a> {
     pub fields: EntryFields,
-}
-
-// A refusal beside fields that are all zero.
-pub fn refuse_fields(answer: Decoded) -> DecodedFields
-    ensures { result ≡ fields_refusal answer }
-{
-    DecodedFields {
-        answer: answer,
-        fields: EntryFields {
-            namespace_id: [0u8; 32],
-            subspace_id: [0u8; 32],
-            timestamp: 0,
-            payload_length: 0,
-            payload_digest: [0u8; 32],
-        },
-    }
+    pub path: &'a [u8],
 }
 
 impl EntryFields {
-    // Whether what an entry has beside its path lies inside a namespace and what an area has beside its own.
+    // Whether an entry lies inside a namespace and an area, as far as what both have beside their paths tells.
+    #[tactic(auto, unfolding(crate::specs::Record::fields_lie_inside))]
     pub fn lies_inside(self, namespace: [u8; 32], reference: AreaHead) -> bool
         ensures { result ≡ fields_lie_inside namespace reference self }
     {
-        let id = self.namespace_id;
-        let same = byte_codec::same_bytes(&namespace, &id);
-        if !same {
-            return false;
+        namespace == self.namespace_id
+            && grouping::includes_subspace(reference.subspace, Some(self.subspace_id))
+            && reference.times.includes(self.timestamp)
+    }
+}
+
+impl<'a> Entry<'a> {
+    // Whether an entry is well formed: for where it comes in.
+    pub fn is_well_formed(self) -> bool
+        ensures { result ≡ well_formed_entry (entry_lent self.entry) }
+    {
+        path::lent::well_formed(self.path)
+    }
+
+    // Whether an entry lies inside a namespace and an area.
+    #[tactic(auto, using(grouping::proofs::Compare::both_sized), unfolding(crate::specs::Record::says_entry_inside, crate::specs::Entry::entry_lies_inside, crate::specs::Record::fields_lie_inside))]
+    pub fn lies_inside(self, namespace: [u8; 32], area: Area<'a>) -> Result<bool, Malformed>
+        ensures { said_of result ≡ says_entry_inside namespace (area_lent area.entry) (entry_lent self.entry) }
+    {
+        if !area.is_well_formed() || !self.is_well_formed() {
+            return Err(Malformed);
         }
-        let subspace_id = self.subspace_id;
-        let subspace = AreaSubspace {
-            any: false,
-            id: subspace_id,
-        };
-        let included = reference.subspace.includes_area_subspace(subspace);
-        if !included {
-            return false;
+        if !self.fields.lies_inside(namespace, area.head) {
+            return Ok(false);
         }
-        reference.times.includes(self.timestamp)
+        path::lent::is_prefix_of(area.path, self.path)
     }
 }

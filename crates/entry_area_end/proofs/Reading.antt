@@ -1,7 +1,6 @@
--- The laws of the fields after the path, and what the reader's definition answers at each exit of the code.
-use Rattle.codec.proofs.Prelude.{◌≡◌, refl, List, Bool, ℕ, ◌+◌, ◌≤◌, arith, length, drop, length-drop, drop-drop}
-use Rattle.codec.specs.Answers.{accepted, refused}
-use Rattle.codec.specs.Reader.{Reader, some_bytes}
+-- The laws of the fields after the path.
+use Rattle.codec.proofs.Prelude.{refl, arith}
+use Rattle.codec.specs.Reader.{some_bytes}
 use Rattle.codec.proofs.Relations.{SomeBytes}
 use Rattle.codec.proofs.Readers.{some_bytes_reads}
 use Rattle.codec.proofs.Relaxes.{relaxes_self}
@@ -51,37 +50,3 @@ module _ (r : TimeRange) (h : EntryAreaHeader) where
       field_last (λ end. end.payload_digest) digest-field (end_from time size) (λ d. (((tt {0}, refl), refl), refl)) (λ end k. rw (← k.0.1, ← k.1)))))
       (λ end e w. record { time = search; size = search; digest = search; bytes = w.whole })
       (λ end e a. record { known = tt; holds = search; whole = a.bytes })
-
--- ---- the exits, by the first reader and the second
-module _ (canonic : Bool) (r : TimeRange) (h : EntryAreaHeader) where
-  abbrev pub first_read : Reader ℕ
-  first_read = read_included canonic time_tag_width r h.time_added h.time_tag
-
-  abbrev pub second_read : Reader ℕ
-  second_read = read_number canonic length_tag_width h.length_tag
-
-  module _ (s : List ℕ) where
-    pub end_first : (k : ℕ) → first_read s ≡ refused k → read_after_path canonic r h s ≡ refused k
-    unfolding read_after_path
-    end_first k e = rw e
-
-    module _ (x a : ℕ) (e : first_read s ≡ accepted x a) where
-      pub end_second : (k : ℕ) → second_read (drop a s) ≡ refused k → read_after_path canonic r h s ≡ refused k
-      unfolding read_after_path
-      end_second k f = rw (e, f)
-
-      module _ (y b : ℕ) (f : second_read (drop a s) ≡ accepted y b) where
-        pub end_inside : a + b ≤ length s
-        end_inside = omega (arith, ((time_field r h).bounded canonic).bound s x a e, ((size_field r h).bounded canonic).bound (drop a s) y b f, length-drop a s)
-
-        pub end_digest : (k : ℕ) → some_bytes 32 (drop (a + b) s) ≡ refused k → read_after_path canonic r h s ≡ refused k
-        unfolding read_after_path
-        end_digest k g = rw (e, f, drop-drop, g)
-
-        module _ (d : List ℕ) (n : ℕ) (g : some_bytes 32 (drop (a + b) s) ≡ accepted d n) where
-          pub end_read : read_after_path canonic r h s ≡ accepted (end_from x y d) (a + (b + n))
-          unfolding read_after_path
-          end_read = rw (e, f, drop-drop, g)
-
-          pub digest_inside : a + (b + n) ≤ length s
-          digest_inside = ((end_laws r h).bounded canonic).bound s _ _ end_read

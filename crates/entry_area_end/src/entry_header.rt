@@ -51,8 +51,8 @@ pub(crate) fn pack(header: EntryAreaHeader) -> u8
     requires { HeaderFits header }
     ensures { result ≡ pack_header header }
 {
-    byte_codec::bit(header.id_written) * ID_WRITTEN
-        + byte_codec::bit(header.time_added) * TIME_ADDED
+    u8::from(header.id_written) * ID_WRITTEN
+        + u8::from(header.time_added) * TIME_ADDED
         + header.time_tag * TIME_TAG
         + header.length_tag * LENGTH_TAG
         + header.spare * SPARE

@@ -1,6 +1,5 @@
--- The laws of the time and the payload length, and what the readers' definitions answer at each exit of the code.
-use Rattle.codec.proofs.Prelude.{◌≡◌, refl, List, Bool, true, false, ℕ, ◌+◌, ◌≤◌, arith, ltb, length, drop, ltb-true, ltb-false}
-use Rattle.codec.specs.Answers.{accepted, refused}
+-- The laws of the time and the payload length.
+use Rattle.codec.proofs.Prelude.{◌≡◌, refl, Bool, true, false, ℕ, arith, ltb, ltb-true, ltb-false}
 use Rattle.codec.specs.Reader.{mapped}
 use Rattle.codec.specs.Reads.{ReadsAs, Bounded}
 use Rattle.codec.proofs.ReadsAs.{one_of, then_as, mapped_as}
@@ -36,22 +35,3 @@ unfolding read_numbers
 numbers_bounded time h =
     then_bounded (read_from time_tag_width (Closed time) h.time_added h.time_tag) _ (from_bounded time_tag_width (Closed time) h.time_added h.time_tag) (λ x.
     mapped_bounded (numbers_from x) _ (number_bounded length_tag_width h.length_tag false))
-
--- ---- the exits
-module _ (time : ℕ) (h : EntryHeader) (s : List ℕ) where
-  pub numbers_first : (k : ℕ) → read_from time_tag_width (Closed time) h.time_added h.time_tag s ≡ refused k → read_numbers time h s ≡ refused k
-  unfolding read_numbers
-  numbers_first k e = rw e
-
-  module _ (x a : ℕ) (e : read_from time_tag_width (Closed time) h.time_added h.time_tag s ≡ accepted x a) where
-    pub numbers_second : (k : ℕ) → read_number false length_tag_width h.length_tag (drop a s) ≡ refused k → read_numbers time h s ≡ refused k
-    unfolding read_numbers
-    numbers_second k f = rw (e, f)
-
-    module _ (y b : ℕ) (f : read_number false length_tag_width h.length_tag (drop a s) ≡ accepted y b) where
-      pub numbers_read : read_numbers time h s ≡ accepted (numbers_from x y) (a + b)
-      unfolding read_numbers
-      numbers_read = rw (e, f)
-
-      pub numbers_inside : a + b ≤ length s
-      numbers_inside = (numbers_bounded time h).bound s _ _ numbers_read

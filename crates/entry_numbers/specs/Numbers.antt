@@ -25,9 +25,6 @@ numbers_bytes r time size = number_bytes time_tag_width (distance time r) ++ num
 abbrev pub numbers_from : ℕ → ℕ → Numbers
 numbers_from time size = record { timestamp = time; payload_length = size }
 
-abbrev pub no_numbers : Numbers
-no_numbers = numbers_from 0 0
-
 unfoldable pub read_numbers : ℕ → EntryHeader → Reader Numbers
 read_numbers r h =
     and_then (read_from time_tag_width (Closed r) h.time_added h.time_tag) (λ time.

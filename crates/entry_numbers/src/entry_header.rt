@@ -47,9 +47,9 @@ pub(crate) fn pack(header: EntryHeader) -> u8
     requires { HeaderFits header }
     ensures { result ≡ pack_header header }
 {
-    byte_codec::bit(header.namespace_written) * NAMESPACE_WRITTEN
-        + byte_codec::bit(header.subspace_written) * SUBSPACE_WRITTEN
-        + byte_codec::bit(header.time_added) * TIME_ADDED
+    u8::from(header.namespace_written) * NAMESPACE_WRITTEN
+        + u8::from(header.subspace_written) * SUBSPACE_WRITTEN
+        + u8::from(header.time_added) * TIME_ADDED
         + header.time_tag * TIME_TAG
         + header.length_tag * LENGTH_TAG
 }

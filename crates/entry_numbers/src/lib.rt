@@ -4,15 +4,14 @@
 #![tactic(auto)]
 
 ghost use Rattle.std.specs.Prelude.{◌≡◌, ◌≤◌, length};
-ghost use Rattle.codec.specs.Answers.{outcome_of, Gives};
+ghost use Rattle.codec.specs.Answers.{answer_of, outcome_of};
 ghost use Rattle.codec.specs.Format.{allowed, put_answer, put_buffer};
 ghost use Rattle.entry_numbers.specs.Header.{pack_header};
-ghost use Rattle.entry_numbers.specs.Numbers.{header_of, numbers_bytes, no_numbers, read_numbers};
+ghost use Rattle.entry_numbers.specs.Numbers.{header_of, numbers_bytes, read_numbers};
 
-use codec::{Decoded, Encoded};
-use compact_u64::DecodedU64;
+use codec::{DecodeError, Decoded, EncodeError};
 use entry_header::{LENGTH_TAG_WIDTH, TIME_TAG_WIDTH};
-use grouping::RangeEnd;
+use grouping::{DifferenceTag, RangeEnd};
 
 pub mod entry_header;
 
@@ -33,13 +32,7 @@ pub struct Numbers {
     pub payload_length: u64,
 }
 
-// Numbers beside the answer; beside a refusal both are zero.
-#[derive(Clone, Copy)]
-pub struct DecodedNumbers {
-    pub answer: Decoded,
-    pub numbers: Numbers,
-}
-
+#[tactic(auto, unfolding(crate::specs::Numbers::header_of))]
 fn header_of(
     namespace_written: bool,
     subspace_written: bool,
@@ -49,17 +42,17 @@ fn header_of(
 ) -> EntryHeader
     ensures { result ≡ header_of namespace_written subspace_written reference time size }
 {
-    let difference = time_distance::abs_diff(time, reference);
     EntryHeader {
-        namespace_written: namespace_written,
-        subspace_written: subspace_written,
+        namespace_written,
+        subspace_written,
         time_added: reference < time,
-        time_tag: compact_u64::min_tag(TIME_TAG_WIDTH, difference),
+        time_tag: compact_u64::min_tag(TIME_TAG_WIDTH, time.abs_diff(reference)),
         length_tag: compact_u64::min_tag(LENGTH_TAG_WIDTH, size),
     }
 }
 
 // The header byte of an entry with this time and payload length, against a reference's time; whether its ids are written is told elsewhere.
+#[tactic(auto, using(crate::proofs::HeaderLayout::header_fits))]
 pub fn header_byte(
     namespace_written: bool,
     subspace_written: bool,
@@ -72,65 +65,54 @@ pub fn header_byte(
     entry_header::pack(header_of(namespace_written, subspace_written, time, size, reference))
 }
 
-fn refuse(answer: Decoded) -> DecodedNumbers
-    ensures { (result.answer ≡ answer) × (result.numbers ≡ no_numbers) }
-{
-    DecodedNumbers {
-        answer: answer,
-        numbers: Numbers {
-            timestamp: 0,
-            payload_length: 0,
-        },
-    }
-}
-
 // Reads the time against a reference's and the payload length, by the header.
-pub fn relative_decode(message: &[u8], header: EntryHeader, reference: u64) -> DecodedNumbers
-    ensures { Gives no_numbers result.answer result.numbers (read_numbers reference header message.now) }
+#[tactic(auto, unfolding(crate::specs::Numbers::read_numbers))]
+pub fn relative_decode(
+    message: &[u8],
+    header: EntryHeader,
+    reference: u64,
+) -> Result<Decoded<Numbers>, DecodeError>
+    ensures { answer_of result ≡ read_numbers reference header message.now }
 {
-    let from = RangeEnd::Closed(reference);
-    let first = time_distance::relative_decode(
-        message,
-        0,
-        from,
-        header.time_added,
-        TIME_TAG_WIDTH,
-        header.time_tag,
-    );
-    let DecodedU64::Value(time, a) = first else {
-        return refuse(compact_u64::unvalued(first));
+    let by = DifferenceTag {
+        added: header.time_added,
+        width: TIME_TAG_WIDTH,
+        tag: header.time_tag,
     };
-    let second = compact_u64::relative_decode(
+    let time = time_distance::relative_decode(message, 0, RangeEnd::Closed(reference), by)?;
+    let size = compact_u64::relative_decode(
         message,
-        a,
+        time.consumed,
         LENGTH_TAG_WIDTH,
         header.length_tag,
         false,
-    );
-    let DecodedU64::Value(size, b) = second else {
-        return refuse(compact_u64::unvalued(second));
-    };
-    DecodedNumbers {
-        answer: Decoded::Consumed(a + b),
-        numbers: Numbers {
-            timestamp: time,
-            payload_length: size,
+    )?;
+    Ok(Decoded {
+        value: Numbers {
+            timestamp: time.value,
+            payload_length: size.value,
         },
-    }
+        consumed: time.consumed + size.consumed,
+    })
 }
 
 // How many bytes the time's difference and the payload length take.
 pub fn relative_len_of_encoding(time: u64, size: u64, reference: u64) -> usize
     ensures { (result ≡ length (numbers_bytes reference time size)) × (result ≤ 16) }
 {
-    let difference = time_distance::abs_diff(time, reference);
+    let difference = time.abs_diff(reference);
     compact_u64::relative_len_of_pair(TIME_TAG_WIDTH, difference, LENGTH_TAG_WIDTH, size)
 }
 
 // Writes the time's difference and the payload length.
-pub fn relative_encode(buffer: &mut [u8], time: u64, size: u64, reference: u64) -> Encoded
+pub fn relative_encode(
+    buffer: &mut [u8],
+    time: u64,
+    size: u64,
+    reference: u64,
+) -> Result<usize, EncodeError>
     ensures { (outcome_of result ≡ put_answer allowed (numbers_bytes reference time size) (length buffer.old)) × (buffer.new ≡ put_buffer allowed (numbers_bytes reference time size) buffer.old) }
 {
-    let difference = time_distance::abs_diff(time, reference);
+    let difference = time.abs_diff(reference);
     compact_u64::relative_encode_pair(buffer, TIME_TAG_WIDTH, difference, LENGTH_TAG_WIDTH, size)
 }

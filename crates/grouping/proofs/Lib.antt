@@ -1,5 +1,5 @@
 pub mod Typed
 pub mod Record
-pub mod Heads
 pub mod Compare
 pub mod Values
+pub mod Heads

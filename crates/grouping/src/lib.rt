@@ -3,18 +3,13 @@
 #![tactic(auto)]
 
 ghost use Rattle.std.specs.Prelude.{◌≡◌};
-ghost use Rattle.codec.specs.Answers.{Gives};
-ghost use Rattle.codec.specs.Reader.{named};
-ghost use Rattle.compact_u64.specs.Answers.{number_answer};
-ghost use Rattle.grouping.specs.declared.RangeEnd.TheVariants.{Closed, Open};
-ghost use Rattle.grouping.specs.Answers.{empty_head, head_refusal, times_refusal};
-ghost use Rattle.grouping.specs.Area.{head_lies_inside};
-ghost use Rattle.grouping.specs.Record.{subspace_of, well_formed_subspace, subspace_includes};
+ghost use Rattle.codec.specs.Answers.{said_of};
+ghost use Rattle.grouping.specs.Area.{includes_subspace, head_lies_inside};
+ghost use Rattle.grouping.specs.Record.{area_lent, well_formed_area, area_includes, says_area_inside};
 
-use codec::Decoded;
-use compact_u64::DecodedU64;
+use codec::Malformed;
+use compact_u64::TagWidth;
 
-pub mod lent;
 mod range;
 
 // Where a range of times ends: before a time, or nowhere.
@@ -31,144 +26,84 @@ pub struct TimeRange {
     pub end: RangeEnd,
 }
 
-// Times beside the answer; beside a refusal no time lies in them.
+// How a header tells a time's difference: whether it is added, and the tag of its number.
 #[derive(Clone, Copy)]
-pub struct DecodedTimes {
-    pub answer: Decoded,
-    pub times: TimeRange,
+pub struct DifferenceTag {
+    pub added: bool,
+    pub width: TagWidth,
+    pub tag: u8,
 }
 
-// An end beside the answer; beside a refusal it is open.
-#[derive(Clone, Copy)]
-pub struct DecodedEnd {
-    pub answer: Decoded,
-    pub end: RangeEnd,
-}
+// One subspace, or any: none.
+pub type AreaSubspace = Option<[u8; 32]>;
 
-// One subspace, or any: then the id is zero.
-#[derive(Clone, Copy)]
-pub struct AreaSubspace {
-    pub any: bool,
-    pub id: [u8; 32],
-}
-
-// What an area has beside its path, whose record is lent.
+// What an area has beside its path.
 #[derive(Clone, Copy)]
 pub struct AreaHead {
     pub subspace: AreaSubspace,
     pub times: TimeRange,
 }
 
-// What an area has beside its path, which is read into a lent record, beside the answer; beside a refusal that of the empty area.
+// An area whose path is lent as its record.
 #[derive(Clone, Copy)]
-pub struct DecodedAreaHead {
-    pub answer: Decoded,
+pub struct Area<'a> {
     pub head: AreaHead,
+    pub path: &'a [u8],
 }
 
-// A refusal beside times in which none lies.
-pub fn refuse_times(answer: Decoded) -> DecodedTimes
-    ensures { result ≡ times_refusal answer }
+pub fn includes_subspace(subspace: AreaSubspace, other: AreaSubspace) -> bool
+    ensures { result ≡ includes_subspace subspace other }
 {
-    DecodedTimes {
-        answer: answer,
-        times: TimeRange {
-            start: 0,
-            end: RangeEnd::Closed(0),
-        },
-    }
-}
-
-// The closed end that a number says.
-pub fn closed_end(number: DecodedU64) -> DecodedEnd
-    ensures { Gives Open result.answer result.end (named Closed (number_answer number)) }
-{
-    let DecodedU64::Value(end, n) = number else {
-        return DecodedEnd {
-            answer: compact_u64::unvalued(number),
-            end: RangeEnd::Open,
-        };
-    };
-    DecodedEnd {
-        answer: Decoded::Consumed(n),
-        end: RangeEnd::Closed(end),
-    }
-}
-
-// A refusal beside the head of the empty area.
-pub fn refuse_head(answer: Decoded) -> DecodedAreaHead
-    ensures { result ≡ head_refusal answer }
-{
-    let head = AreaHead::empty();
-    DecodedAreaHead {
-        answer: answer,
-        head: head,
-    }
-}
-
-impl AreaSubspace {
-    pub fn well_formed(self) -> bool
-        ensures { result ≡ well_formed_subspace self }
-    {
-        if self.any {
-            let id = self.id;
-            let zero = [0u8; 32];
-            return byte_codec::same_bytes(&id, &zero);
-        }
-        true
-    }
-
-    pub fn includes_area_subspace(self, other: AreaSubspace) -> bool
-        ensures { result ≡ subspace_includes self other }
-    {
-        if self.any {
-            return true;
-        }
-        if other.any {
-            return false;
-        }
-        let id = self.id;
-        let other_id = other.id;
-        byte_codec::same_bytes(&id, &other_id)
-    }
+    subspace.is_none() || subspace == other
 }
 
 impl AreaHead {
-    // That of the empty area, in which no time lies.
-    pub fn empty() -> AreaHead
-        ensures { result ≡ empty_head }
+    // Whether another area lies inside, as far as subspaces and times tell.
+    #[tactic(auto, unfolding(crate::specs::Area::head_lies_inside))]
+    pub fn contains(self, other: AreaHead) -> bool
+        ensures { result ≡ head_lies_inside self other }
     {
-        AreaHead {
-            subspace: AreaSubspace {
-                any: true,
-                id: [0u8; 32],
-            },
-            times: TimeRange {
-                start: 0,
-                end: RangeEnd::Closed(0),
-            },
-        }
+        includes_subspace(self.subspace, other.subspace)
+            && self.times.includes_range(other.times)
+            && self.times.bounds(other.times.start)
+            && self.times.bounds(other.times.end.value())
+    }
+}
+
+impl<'a> Area<'a> {
+    // Whether an area is well formed: for where it comes in.
+    pub fn is_well_formed(self) -> bool
+        ensures { result ≡ well_formed_area (area_lent self.entry) }
+    {
+        path::lent::well_formed(self.path)
     }
 
-    // Whether another area lies inside, as far as subspaces and times tell.
-    pub fn contains(self, other: AreaHead) -> bool
-        ensures { result ≡ head_lies_inside (subspace_of self.subspace) self.times (subspace_of other.subspace) other.times }
+    #[tactic(auto, using(crate::proofs::Compare::both_sized), unfolding(crate::specs::Record::area_includes, crate::specs::Area::includes_area))]
+    pub fn includes_area(self, other: Area<'a>) -> Result<bool, Malformed>
+        ensures { said_of result ≡ area_includes (area_lent self.entry) (area_lent other.entry) }
     {
-        let included = self.subspace.includes_area_subspace(other.subspace);
-        if !included {
-            return false;
+        if !path::lent::both_formed(self.path, other.path) {
+            return Err(Malformed);
         }
-        let times = self.times;
-        let other_times = other.times;
-        let within = times.includes_range(other_times);
-        if !within {
-            return false;
+        if !includes_subspace(self.head.subspace, other.head.subspace)
+            || !self.head.times.includes_range(other.head.times)
+        {
+            return Ok(false);
         }
-        let first = times.bounds(other_times.start);
-        if !first {
-            return false;
+        path::lent::is_prefix_of(self.path, other.path)
+    }
+
+    // Whether another area lies inside: it is included, and its start and end lie between the start and the end.
+    #[tactic(auto, using(crate::proofs::Compare::both_sized), unfolding(crate::specs::Record::says_area_inside, crate::specs::Area::includes_area, crate::specs::Area::area_lies_inside, crate::specs::Area::head_lies_inside))]
+    pub fn contains(self, other: Area<'a>) -> Result<bool, Malformed>
+        ensures { said_of result ≡ says_area_inside (area_lent self.entry) (area_lent other.entry) }
+    {
+        if !path::lent::both_formed(self.path, other.path) {
+            return Err(Malformed);
         }
-        let end = other_times.end;
-        times.bounds(end.value())
+        if !self.head.contains(other.head) {
+            return Ok(false);
+        }
+        path::lent::is_prefix_of(self.path, other.path)
     }
 }

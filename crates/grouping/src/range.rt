@@ -11,17 +11,14 @@ impl RangeEnd {
     {
         match self {
             RangeEnd::Closed(time) => time,
-            RangeEnd::Open => 18446744073709551615,
+            RangeEnd::Open => u64::MAX,
         }
     }
 
     pub fn is_open(self) -> bool
         ensures { result ≡ is_open self }
     {
-        match self {
-            RangeEnd::Closed(_) => false,
-            RangeEnd::Open => true,
-        }
+        matches!(self, RangeEnd::Open)
     }
 
     // Whether an end is after a time.
@@ -38,46 +35,34 @@ impl RangeEnd {
     pub fn at_most(self, other: RangeEnd) -> bool
         ensures { result ≡ end_at_most self other }
     {
-        match other {
-            RangeEnd::Open => true,
-            RangeEnd::Closed(limit) => match self {
-                RangeEnd::Closed(end) => end <= limit,
-                RangeEnd::Open => false,
-            },
+        match (self, other) {
+            (_, RangeEnd::Open) => true,
+            (RangeEnd::Closed(end), RangeEnd::Closed(limit)) => end <= limit,
+            (RangeEnd::Open, RangeEnd::Closed(_)) => false,
         }
     }
 }
 
 impl TimeRange {
+    #[tactic(auto, unfolding(crate::specs::Range::includes_time))]
     pub fn includes(self, time: u64) -> bool
         ensures { result ≡ includes_time self time }
     {
-        if time < self.start {
-            return false;
-        }
-        let end = self.end;
-        end.gt_val(time)
+        self.start <= time && self.end.gt_val(time)
     }
 
+    #[tactic(auto, unfolding(crate::specs::Range::includes_range))]
     pub fn includes_range(self, other: TimeRange) -> bool
         ensures { result ≡ includes_range self other }
     {
-        if other.start < self.start {
-            return false;
-        }
-        let end = self.end;
-        let other_end = other.end;
-        other_end.at_most(end)
+        self.start <= other.start && other.end.at_most(self.end)
     }
 
     // Whether a time lies between start and end, both counted in.
+    #[tactic(auto, unfolding(crate::specs::Range::bounds))]
     pub fn bounds(self, time: u64) -> bool
         ensures { result ≡ bounds self time }
     {
-        if time < self.start {
-            return false;
-        }
-        let end = self.end;
-        time <= end.value()
+        self.start <= time && time <= self.end.value()
     }
 }

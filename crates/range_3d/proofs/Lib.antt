@@ -1,5 +1,5 @@
 pub mod Record
-pub mod Typed
-pub mod Heads
 pub mod Facts
 pub mod Made
+pub mod Heads
+pub mod Typed

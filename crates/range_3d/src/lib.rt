@@ -3,23 +3,30 @@
 #![tactic(auto)]
 
 ghost use Rattle.std.specs.Prelude.{◌≡◌};
-ghost use Rattle.range_3d.specs.Record.{well_formed_subspaces};
-ghost use Rattle.range_3d.specs.Answers.{head_refusal};
+ghost use Rattle.range_3d.specs.Record.{range_lent, well_formed_range3d};
 
-use codec::Decoded;
-use grouping::{RangeEnd, TimeRange};
+use grouping::TimeRange;
 
-pub mod lent;
-
-// The subspaces from a start on, before an end; beside an open end the id is zero.
+// From a start on, before an end; none is open.
 #[derive(Clone, Copy)]
-pub struct SubspaceRange {
-    pub start: [u8; 32],
-    pub end_open: bool,
-    pub end: [u8; 32],
+pub struct Range<T> {
+    pub start: T,
+    pub end: Option<T>,
 }
 
-// What a 3d range has beside its two paths, whose records are lent; beside the mark of an open end the second is empty.
+pub type SubspaceRange = Range<[u8; 32]>;
+
+// Paths are lent as their records.
+pub type PathRange<'a> = Range<&'a [u8]>;
+
+#[derive(Clone, Copy)]
+pub struct Range3d<'a> {
+    pub subspaces: SubspaceRange,
+    pub paths: PathRange<'a>,
+    pub times: TimeRange,
+}
+
+// What is read of a 3d range beside its two paths; the record for the second is left empty where it has no end.
 #[derive(Clone, Copy)]
 pub struct Range3dHead {
     pub subspaces: SubspaceRange,
@@ -27,43 +34,12 @@ pub struct Range3dHead {
     pub times: TimeRange,
 }
 
-// That beside the answer; the paths are read into lent records. Beside a refusal nothing lies in the range.
-#[derive(Clone, Copy)]
-pub struct DecodedRange3dHead {
-    pub answer: Decoded,
-    pub head: Range3dHead,
-}
-
-// A refusal beside the head of a 3d range in which nothing lies.
-pub fn refuse_head(answer: Decoded) -> DecodedRange3dHead
-    ensures { result ≡ head_refusal answer }
-{
-    DecodedRange3dHead {
-        answer: answer,
-        head: Range3dHead {
-            subspaces: SubspaceRange {
-                start: [0u8; 32],
-                end_open: false,
-                end: [0u8; 32],
-            },
-            end_open: false,
-            times: TimeRange {
-                start: 0,
-                end: RangeEnd::Closed(0),
-            },
-        },
-    }
-}
-
-impl SubspaceRange {
-    pub fn well_formed(self) -> bool
-        ensures { result ≡ well_formed_subspaces self }
+impl<'a> Range3d<'a> {
+    // Whether a 3d range is well formed: for where it comes in.
+    pub fn is_well_formed(self) -> bool
+        ensures { result ≡ well_formed_range3d (range_lent self.entry) }
     {
-        if self.end_open {
-            let end = self.end;
-            let zero = [0u8; 32];
-            return byte_codec::same_bytes(&end, &zero);
-        }
-        true
+        path::lent::well_formed(self.paths.start)
+            && self.paths.end.is_none_or(path::lent::well_formed)
     }
 }

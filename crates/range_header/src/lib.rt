@@ -53,23 +53,16 @@ fn source_from(bits: u8) -> IdSource
 fn source_bits(source: IdSource) -> u8
     ensures { (result ≡ source_bits source) × (result < 2 ^ source_width) }
 {
-    match source {
-        IdSource::Nowhere => 0,
-        IdSource::Start => 1,
-        IdSource::End => 2,
-        IdSource::Written => 3,
-    }
+    source as u8
 }
 
 // What a header byte says.
 pub fn unpack(b: u8) -> Range3dHeader
     ensures { result ≡ unpack_header b }
 {
-    let start = source_from(b / SUBSPACE_START % SOURCES);
-    let end = source_from(b / SUBSPACE_END % SOURCES);
     Range3dHeader {
-        subspace_start: start,
-        subspace_end: end,
+        subspace_start: source_from(b / SUBSPACE_START % SOURCES),
+        subspace_end: source_from(b / SUBSPACE_END % SOURCES),
         path_start_from_start: b / PATH_START_FROM_START % 2 == 1,
         path_end_open: b / PATH_END_OPEN % 2 == 1,
         path_end_from_start: b / PATH_END_FROM_START % 2 == 1,
@@ -81,12 +74,10 @@ pub fn unpack(b: u8) -> Range3dHeader
 pub fn pack(header: Range3dHeader) -> u8
     ensures { result ≡ pack_header header }
 {
-    let start = header.subspace_start;
-    let end = header.subspace_end;
-    source_bits(start) * SUBSPACE_START
-        + source_bits(end) * SUBSPACE_END
-        + byte_codec::bit(header.path_start_from_start) * PATH_START_FROM_START
-        + byte_codec::bit(header.path_end_open) * PATH_END_OPEN
-        + byte_codec::bit(header.path_end_from_start) * PATH_END_FROM_START
-        + byte_codec::bit(header.times_end_open) * TIMES_END_OPEN
+    source_bits(header.subspace_start) * SUBSPACE_START
+        + source_bits(header.subspace_end) * SUBSPACE_END
+        + u8::from(header.path_start_from_start) * PATH_START_FROM_START
+        + u8::from(header.path_end_open) * PATH_END_OPEN
+        + u8::from(header.path_end_from_start) * PATH_END_FROM_START
+        + u8::from(header.times_end_open) * TIMES_END_OPEN
 }

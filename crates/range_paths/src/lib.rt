@@ -19,22 +19,10 @@ pub struct NearPath {
     pub shared: usize,
 }
 
-#[derive(Clone, Copy)]
-enum Near {
-    At(NearPath),
-    Malformed,
-}
-
 // The same of start and end, and how many bytes both take.
 #[derive(Clone, Copy)]
 pub struct MeasuredPaths {
     pub start: NearPath,
-    pub end: NearPath,
+    pub end: Option<NearPath>,
     pub len: usize,
-}
-
-#[derive(Clone, Copy)]
-pub enum Measured {
-    Paths(MeasuredPaths),
-    Malformed,
 }

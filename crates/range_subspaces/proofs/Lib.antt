@@ -1,3 +1,3 @@
 pub mod Subspaces
-pub mod Exits
 pub mod Yields
+pub mod Writing

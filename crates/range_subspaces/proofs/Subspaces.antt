@@ -1,5 +1,6 @@
 -- The laws of subspaces against a reference's.
-use Rattle.codec.proofs.Prelude.{◌≡◌, refl, ap, List, [], Bool, true, false, cond, false≢true, Option, none, some, ℕ}
+use Rattle.codec.proofs.Prelude.{◌≡◌, refl, ap, List, [], Bool, true, false, cond, false≢true, ℕ}
+use Rattle.std.specs.Prelude.{Option, Some, None}
 use Rattle.codec.specs.Answers.{AllBytes}
 use Rattle.codec.specs.Bytes.{same_bytes, TypedId}
 use Rattle.codec.specs.Reader.{give, mapped}
@@ -10,8 +11,8 @@ use Rattle.codec.proofs.Yields.{mapped_yields}
 use Rattle.codec.proofs.Bounded.{give_bounded, some_bytes_bounded, then_bounded, guard_bounded, checked_bounded, mapped_bounded}
 use Rattle.codec.proofs.ReadsAs.{give_as, bytes_as, then_as, checked_as, mapped_as}
 use Rattle.codec.proofs.SameBytes.{same_eq}
-use Rattle.range_3d.specs.Range3d.{Range}
-use Rattle.range_3d.proofs.Facts.{OnEnd, Both}
+use Rattle.range_3d.specs.declared.Range.{Range}
+use Rattle.range_3d.specs.Range3d.{OnEnd, Both}
 use Rattle.range_subspaces.specs.declared.IdSource.{IdSource}
 use Rattle.range_subspaces.specs.declared.IdSource.TheVariants.{Nowhere, Start, End, Written}
 use Rattle.range_subspaces.specs.declared.Sources.{Sources}
@@ -19,8 +20,8 @@ use Rattle.range_subspaces.specs.Subspaces.{same_end, source_of, end_source, sou
 
 -- ---- what is written is read back
 end_named : (e : Option (List ℕ)) (id : List ℕ) → same_end e id ≡ true → ReadsAs (give_end e) id []
-end_named none id q = absurd (false≢true q)
-end_named (some end) id q = rw (same_eq id end q) (give_as end)
+end_named None id q = absurd (false≢true q)
+end_named (Some end) id q = rw (same_eq id end q) (give_as end)
 
 module _ (r : Range (List ℕ)) where
   id_as : (id : List ℕ) → TypedId id → ReadsAs (read_id r (source_of r id)) id (id_bytes r id)
@@ -34,18 +35,18 @@ module _ (r : Range (List ℕ)) where
       go false false p q = checked_as (bytes_as 32 id t.0 t.1) (λ id. is_written (source_of r id)) (rw (p, q))
 
   -- an id is taken from somewhere
-  some_read : (id : List ℕ) → read_end r (source_of r id) ≡ mapped some (read_id r (source_of r id))
+  some_read : (id : List ℕ) → read_end r (source_of r id) ≡ mapped Some (read_id r (source_of r id))
   unfolding source_of
   some_read id = go (same_bytes id r.start) (same_end r.end id)
     where
-      go : (a b : Bool) → read_end r (cond a Start (cond b End Written)) ≡ mapped some (read_id r (cond a Start (cond b End Written)))
+      go : (a b : Bool) → read_end r (cond a Start (cond b End Written)) ≡ mapped Some (read_id r (cond a Start (cond b End Written)))
       go true b = refl
       go false true = refl
       go false false = refl
 
   end_as : (e : Option (List ℕ)) → OnEnd TypedId e → ReadsAs (read_end r (end_source r e)) e (end_bytes r e)
-  end_as none t = give_as none
-  end_as (some id) t = rw (some_read id) (mapped_as (id_as id t) some)
+  end_as None t = give_as None
+  end_as (Some id) t = rw (some_read id) (mapped_as (id_as id t) Some)
 
 pub subspaces_as : (r v : Range (List ℕ)) → Both TypedId v → ReadsAs (read_subspaces r (sources_of r v)) v (subspaces_bytes r v)
 unfolding read_subspaces sources_of subspaces_bytes
@@ -55,8 +56,8 @@ subspaces_as r v t =
 
 -- ---- no more is read than there is
 given_bounded : (e : Option (List ℕ)) → Bounded (give_end e)
-given_bounded none = guard_bounded false (give []) (give_bounded [])
-given_bounded (some id) = give_bounded id
+given_bounded None = guard_bounded false (give []) (give_bounded [])
+given_bounded (Some id) = give_bounded id
 
 module _ (r : Range (List ℕ)) where
   pub id_bounded : (x : IdSource) → Bounded (read_id r x)
@@ -66,10 +67,10 @@ module _ (r : Range (List ℕ)) where
   id_bounded Written = checked_bounded (λ id. is_written (source_of r id)) _ (some_bytes_bounded 32)
 
   end_bounded : (x : IdSource) → Bounded (read_end r x)
-  end_bounded Nowhere = give_bounded none
-  end_bounded Start = mapped_bounded some _ (id_bounded Start)
-  end_bounded End = mapped_bounded some _ (id_bounded End)
-  end_bounded Written = mapped_bounded some _ (id_bounded Written)
+  end_bounded Nowhere = give_bounded None
+  end_bounded Start = mapped_bounded Some _ (id_bounded Start)
+  end_bounded End = mapped_bounded Some _ (id_bounded End)
+  end_bounded Written = mapped_bounded Some _ (id_bounded Written)
 
 pub subspaces_bounded : (r : Range (List ℕ)) (s : Sources) → Bounded (read_subspaces r s)
 unfolding read_subspaces
@@ -77,8 +78,8 @@ subspaces_bounded r s = then_bounded (read_id r s.start) _ (id_bounded r s.start
 
 -- ---- a value is read from one form alone
 given_once : (e : Option (List ℕ)) → Once (give_end e)
-given_once none = guard_once false (give []) (λ h. give_once [])
-given_once (some id) = give_once id
+given_once None = guard_once false (give []) (λ h. give_once [])
+given_once (Some id) = give_once id
 
 module _ (r : Range (List ℕ)) where
   id_once : (x : IdSource) → Once (read_id r x)
@@ -87,11 +88,11 @@ module _ (r : Range (List ℕ)) where
   id_once End = given_once r.end
   id_once Written = checked_once (λ id. is_written (source_of r id)) _ (some_bytes_once 32)
 
-  some_once : (x : IdSource) → Once (mapped some (read_id r x))
-  some_once x = named_once some _ (λ a b e. cc) (id_once x)
+  some_once : (x : IdSource) → Once (mapped Some (read_id r x))
+  some_once x = named_once Some _ (λ a b e. cc) (id_once x)
 
   end_once : (x : IdSource) → Once (read_end r x)
-  end_once Nowhere = give_once none
+  end_once Nowhere = give_once None
   end_once Start = some_once Start
   end_once End = some_once End
   end_once Written = some_once Written
@@ -117,5 +118,5 @@ unfolding subspaces_bytes
 AllBytes-subspaces r v t = AllBytes-append (id_bytes r v.start) (end_bytes r v.end) (id_bytes_lem r v.start t.start) (go v.end t.end)
   where
     go : (e : Option (List ℕ)) → OnEnd TypedId e → AllBytes (end_bytes r e)
-    go none h = AllBytes-none
-    go (some id) h = id_bytes_lem r id h
+    go None h = AllBytes-none
+    go (Some id) h = id_bytes_lem r id h

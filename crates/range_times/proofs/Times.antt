@@ -21,7 +21,7 @@ use Rattle.range_times.specs.Header.{start_tag_width, end_tag_width}
 use Rattle.range_times.specs.Times.{header_of, end_bytes, times_bytes, read_end, read_times}
 
 module _ (r : TimeRange) (end_open : Bool) (h : RangeTimesHeader) where
-  end_bounded : Bounded (read_end r end_open h)
+  pub end_bounded : Bounded (read_end r end_open h)
   unfolding read_end
   end_bounded = choose_bounded end_open _ _ (give_bounded Open) (mapped_bounded Closed _ (from_bounded end_tag_width (side_of r h.end_from_start) h.end_added h.end_tag))
 

@@ -46,10 +46,10 @@ pub(crate) fn pack(header: RangeTimesHeader) -> u8
     requires { HeaderFits header }
     ensures { result ≡ pack_header header }
 {
-    byte_codec::bit(header.start_from_start) * START_FROM_START
-        + byte_codec::bit(header.start_added) * START_ADDED
+    u8::from(header.start_from_start) * START_FROM_START
+        + u8::from(header.start_added) * START_ADDED
         + header.start_tag * START_TAG
-        + byte_codec::bit(header.end_from_start) * END_FROM_START
-        + byte_codec::bit(header.end_added) * END_ADDED
+        + u8::from(header.end_from_start) * END_FROM_START
+        + u8::from(header.end_added) * END_ADDED
         + header.end_tag * END_TAG
 }

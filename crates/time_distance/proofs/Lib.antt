@@ -1,2 +1,1 @@
-pub mod Exits
 pub mod Distance

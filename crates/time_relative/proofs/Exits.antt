@@ -1,11 +1,9 @@
--- What the reader's definition answers at each exit of the code.
-use Rattle.codec.proofs.Prelude.{◌≡◌, refl, ap, List, Bool, true, false, cond, ◌&&◌, not, ℕ, ◌+◌, ◌-◌, ◌≤◌, ◌<◌, arith, le-leb, lt-leb, ne_eqb}
-use Rattle.codec.specs.Answers.{Answer, accepted, refused}
-use Rattle.codec.specs.Reader.{named, passed}
-use Rattle.compact_u64.specs.Number.{read_number}
+-- What the reader's definition answers by the test of the code.
+use Rattle.codec.proofs.Prelude.{◌≡◌, refl, sym, ap, List, Bool, true, false, ◌&&◌, ℕ, ◌+◌, ◌-◌, ◌<◌, arith, leb, le-leb, lt-leb, leb-false, ne_eqb}
 use Rattle.grouping.specs.declared.TimeRange.{TimeRange}
-use Rattle.grouping.specs.Range.{TypedRange, end_value, bounds, includes_time}
-use Rattle.time_relative.specs.Difference.{difference_of, time_at, is_nearest, read_time, reach_of, is_included, read_included}
+use Rattle.grouping.specs.Range.{TypedRange, end_value, bounds}
+use Rattle.time_relative.specs.Difference.{difference_of, time_at, is_nearest, read_time, reach_of}
+use Rattle.time_relative.specs.inside.Told.{read_told}
 
 -- ---- whether a difference is one that writing gives
 module _ (canonic : Bool) (r : TimeRange) (added : Bool) (d x : ℕ) where
@@ -37,30 +35,15 @@ past_reach canonic r t false d h = go (bounds r (time_at r false d)) refl
     go true e = farther canonic r false d (time_at r false d) e (λ q. omega (arith, h, ap (λ (x : ℕ). (difference_of r x).difference) nought, at_nought, q))
     go false e = outside canonic r false d (time_at r false d) e
 
--- ---- reading, by the one test or the other
-abbrev read_told : Bool → Bool → ℕ → TimeRange → Bool → ℕ → List ℕ → Answer ℕ
-read_told included canonic w r added tag s = cond included (read_included canonic w r added tag s) (read_time canonic w r added tag s)
+-- the test of the nearest asks what can be told
+module _ (canonic : Bool) (r : TimeRange) (t : TypedRange r) (added : Bool) where
+  reached : (d : ℕ) → (leb d (reach_of r added) && is_nearest canonic r added d (time_at r added d)) ≡ is_nearest canonic r added d (time_at r added d)
+  reached d = go (leb d (reach_of r added)) refl
+    where
+      go : (b : Bool) → leb d (reach_of r added) ≡ b → (b && is_nearest canonic r added d (time_at r added d)) ≡ is_nearest canonic r added d (time_at r added d)
+      go true e = refl
+      go false e = sym (past_reach canonic r t added d (leb-false d (reach_of r added) e))
 
-module _ (canonic : Bool) (w : ℕ) (r : TimeRange) (added : Bool) (tag : ℕ) (s : List ℕ) where
-  pub told_refused : (included : Bool) (k : ℕ) → read_number canonic w tag s ≡ refused k → read_told included canonic w r added tag s ≡ refused k
-  unfolding read_time read_included
-  told_refused true k e = rw e
-  told_refused false k e = rw e
-
-  module _ (d n : ℕ) (e : read_number canonic w tag s ≡ accepted d n) where
-    pub told_past : (included : Bool) → TypedRange r → reach_of r added < d → read_told included canonic w r added tag s ≡ refused 2
-    unfolding read_time read_included is_included
-    told_past true ty h = rw (e, lt-leb d (reach_of r added) h)
-    told_past false ty h = rw (e, past_reach canonic r ty added d h)
-
-    module _ (h : d ≤ reach_of r added) (t : Bool) where
-      passed_time : (b : Bool) → named (time_at r added) (passed b (accepted d n)) ≡ passed b (accepted (time_at r added d) n)
-      passed_time true = refl
-      passed_time false = refl
-
-      pub told_tested : (included : Bool)
-          → cond included (includes_time r (time_at r added d) && cond canonic (cond (difference_of r (time_at r added d)).added added (not added)) true) (is_nearest canonic r added d (time_at r added d)) ≡ t
-          → read_told included canonic w r added tag s ≡ passed t (accepted (time_at r added d) n)
-      unfolding read_time read_included is_included
-      told_tested true f = rw (e, le-leb d (reach_of r added) h, f) (passed_time t)
-      told_tested false f = rw (e, f) (passed_time t)
+  pub nearest_told : (w tag : ℕ) (s : List ℕ) → read_told (is_nearest canonic r added) canonic w r added tag s ≡ read_time canonic w r added tag s
+  unfolding read_time
+  nearest_told w tag s = simp reached

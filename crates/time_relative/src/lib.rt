@@ -2,13 +2,14 @@
 
 #![tactic(auto)]
 
-ghost use Rattle.std.specs.Prelude.{◌≡◌, true, cond, ◌&&◌, not, ◌-◌, ◌≤◌, drop};
-ghost use Rattle.compact_u64.specs.Answers.{bits, number_answer};
+ghost use Rattle.std.specs.Prelude.{◌≡◌, ◌≤◌, Bool, ℕ, drop};
+ghost use Rattle.codec.specs.Answers.{answer_of};
+ghost use Rattle.compact_u64.specs.Answers.{bits};
 ghost use Rattle.time_relative.specs.Difference.{difference_of, end_difference, reach_of, time_at, is_nearest, read_time, read_included};
-ghost use Rattle.grouping.specs.Range.{includes_time};
+ghost use Rattle.time_relative.specs.inside.Told.{Tests, includes_told, read_told};
 
-use compact_u64::{DecodedU64, TagWidth};
-use grouping::{RangeEnd, TimeRange};
+use codec::{DecodeError, Decoded};
+use grouping::{DifferenceTag, RangeEnd, TimeRange};
 
 // The smaller of the differences from a range's start, to which it is added, and to the range's end.
 #[derive(Clone, Copy)]
@@ -17,31 +18,15 @@ pub struct TimeDifference {
     pub difference: u64,
 }
 
-// How far a is above b.
-fn above(a: u64, b: u64) -> u64
-    ensures { result ≡ a - b }
-{
-    if a < b {
-        return 0;
-    }
-    a - b
-}
-
+#[tactic(auto, unfolding(crate::specs::Difference::difference_of))]
 pub fn difference(range: TimeRange, time: u64) -> TimeDifference
     ensures { result ≡ difference_of range time }
 {
-    let end = range.end;
-    let from_start = above(time, range.start);
-    let to_end = above(end.value(), time);
-    if from_start <= to_end {
-        return TimeDifference {
-            added: true,
-            difference: from_start,
-        };
-    }
+    let from_start = time.saturating_sub(range.start);
+    let to_end = range.end.value().saturating_sub(time);
     TimeDifference {
-        added: false,
-        difference: to_end,
+        added: from_start <= to_end,
+        difference: from_start.min(to_end),
     }
 }
 
@@ -63,106 +48,65 @@ fn reach(range: TimeRange, added: bool) -> u64
     ensures { result ≡ reach_of range added }
 {
     if added {
-        return 18446744073709551615 - range.start;
+        u64::MAX - range.start
+    } else {
+        range.end.value()
     }
-    let end = range.end;
-    end.value()
 }
 
 // The time that a difference says.
+#[tactic(auto, unfolding(crate::specs::Difference::time_at))]
 fn time_at(range: TimeRange, added: bool, difference: u64) -> u64
     requires { difference ≤ reach_of range added }
     ensures { result ≡ time_at range added difference }
 {
     if added {
-        return range.start + difference;
+        range.start + difference
+    } else {
+        range.end.value() - difference
     }
-    let end = range.end;
-    end.value() - difference
 }
 
 // Whether a time lies in the range and this is its difference; strictly, also whether it is rightly added.
+#[tactic(auto, unfolding(crate::specs::Difference::is_nearest))]
 fn is_nearest(canonic: bool, range: TimeRange, added: bool, told: u64, time: u64) -> bool
     ensures { result ≡ is_nearest canonic range added told time }
 {
-    let inside = range.bounds(time);
-    if !inside {
-        return false;
-    }
     let nearest = difference(range, time);
-    if nearest.difference != told {
-        return false;
-    }
-    if !canonic {
-        return true;
-    }
-    if nearest.added {
-        return added;
-    }
-    !added
+    range.bounds(time) && nearest.difference == told && (!canonic || nearest.added == added)
 }
 
 // Whether the range includes the time that a difference says; strictly, also whether it is the smaller and rightly added.
 fn is_included(canonic: bool, range: TimeRange, added: bool, time: u64) -> bool
-    ensures { result ≡ (includes_time range time && cond canonic (cond (difference_of range time).added added (not added)) true) }
+    ensures { result ≡ includes_told canonic range added time }
 {
-    let included = range.includes(time);
-    if !included {
-        return false;
-    }
-    if !canonic {
-        return true;
-    }
-    let nearest = difference(range, time);
-    if nearest.added {
-        return added;
-    }
-    !added
+    range.includes(time) && (!canonic || difference(range, time).added == added)
 }
 
-// Whether a difference and its time pass the test: `is_included` where `included` says so, else `is_nearest`.
-fn is_taken(
-    canonic: bool,
-    range: TimeRange,
-    added: bool,
-    told: u64,
-    time: u64,
-    included: bool,
-) -> bool
-    ensures { result ≡ cond included (includes_time range time && cond canonic (cond (difference_of range time).added added (not added)) true) (is_nearest canonic range added told time) }
-{
-    if included {
-        return is_included(canonic, range, added, time);
-    }
-    is_nearest(canonic, range, added, told, time)
-}
-
-// Reads the difference after its tag, which starts at `start`, and answers the time, where it passes the test.
-fn decode_told(
+// Reads the difference after its tag, which starts at `start`, and answers the time that it says, where both pass a test.
+fn decode_told<F: Fn(u64, u64) -> bool>(
     message: &[u8],
     start: usize,
     canonic: bool,
     range: TimeRange,
-    added: bool,
-    width: TagWidth,
-    tag: u8,
-    included: bool,
-) -> DecodedU64
-    ensures { number_answer result ≡ cond included (read_included canonic (bits width) range added tag (drop start message.now)) (read_time canonic (bits width) range added tag (drop start message.now)) }
+    by: DifferenceTag,
+    test: F,
+) -> Result<Decoded<u64>, DecodeError>
+    requires { F.IsAlwaysCallable test }
+    ensures { (t : ℕ → ℕ → Bool) → Tests (F.post test) t → answer_of result ≡ read_told t canonic (bits by.width) range by.added by.tag (drop start message.now) }
 {
-    let number = compact_u64::relative_decode(message, start, width, tag, canonic);
-    let DecodedU64::Value(told, n) = number else {
-        return number;
-    };
-    if reach(range, added) < told {
-        return DecodedU64::TheirFault;
+    let told = compact_u64::relative_decode(message, start, by.width, by.tag, canonic)?;
+    if reach(range, by.added) < told.value {
+        return Err(DecodeError::TheirFault);
     }
-    let time = time_at(range, added, told);
-    let taken = is_taken(canonic, range, added, told, time, included);
-    if !taken {
-        return DecodedU64::TheirFault;
+    let time = time_at(range, by.added, told.value);
+    if !test(told.value, time) {
+        return Err(DecodeError::TheirFault);
     }
-    DecodedU64::Value(time, n)
+    Ok(Decoded {
+        value: time,
+        consumed: told.consumed,
+    })
 }
 
 // Reads the smaller difference of a time that lies between the range's start and end.
@@ -171,13 +115,13 @@ pub fn relative_decode(
     start: usize,
     canonic: bool,
     range: TimeRange,
-    added: bool,
-    width: TagWidth,
-    tag: u8,
-) -> DecodedU64
-    ensures { number_answer result ≡ read_time canonic (bits width) range added tag (drop start message.now) }
+    by: DifferenceTag,
+) -> Result<Decoded<u64>, DecodeError>
+    ensures { answer_of result ≡ read_time canonic (bits by.width) range by.added by.tag (drop start message.now) }
 {
-    decode_told(message, start, canonic, range, added, width, tag, false)
+    decode_told(message, start, canonic, range, by, |told, time| {
+        is_nearest(canonic, range, by.added, told, time)
+    })
 }
 
 // Reads the difference of a time that the range includes.
@@ -186,11 +130,11 @@ pub fn decode_included(
     start: usize,
     canonic: bool,
     range: TimeRange,
-    added: bool,
-    width: TagWidth,
-    tag: u8,
-) -> DecodedU64
-    ensures { number_answer result ≡ read_included canonic (bits width) range added tag (drop start message.now) }
+    by: DifferenceTag,
+) -> Result<Decoded<u64>, DecodeError>
+    ensures { answer_of result ≡ read_included canonic (bits by.width) range by.added by.tag (drop start message.now) }
 {
-    decode_told(message, start, canonic, range, added, width, tag, true)
+    decode_told(message, start, canonic, range, by, |_, time| {
+        is_included(canonic, range, by.added, time)
+    })
 }
