@@ -1,103 +1,50 @@
 -- What the readers' definitions answer at each exit of the code.
-use Rattle.codec.proofs.Prelude.{◌≡◌, refl, ap, List, [], Bool, true, false, cond, not, ◌⊎◌, inl, inr, ℕ, suc, ◌+◌, ◌≤◌, ◌<◌, add-one, length, drop, get_or, drop_of_length-le, drop-cons, drop-drop}
-use Rattle.codec.specs.Answers.{Answer, accepted, refused, answer_of}
-use Rattle.codec.specs.declared.Decoded.{Decoded}
-use Rattle.codec.specs.Bytes.{same_bytes}
-use Rattle.codec.specs.Reader.{shift, named, some_bytes, mapped}
-use Rattle.codec.proofs.Answers.{gives_refused}
+use Rattle.codec.proofs.Prelude.{◌≡◌, refl, List, Bool, true, false, cond, not, ℕ, suc, ◌+◌, ◌≤◌, ◌<◌, add-one, length, drop, get_or, drop_of_length-le, drop-cons, drop-drop}
+use Rattle.std.specs.Prelude.{Option}
+use Rattle.codec.specs.Answers.{Answer, accepted, refused}
+use Rattle.codec.specs.Reader.{shift, named, mapped}
 use Rattle.codec.proofs.Bounded.{mapped_bounded}
 use Rattle.codec.proofs.Readers.{named_inv, named_refused}
 use Rattle.path.specs.Record.{Path, components_of, path_from}
-use Rattle.path.specs.Flat.{path_in}
 use Rattle.path_relative.specs.Extension.{read_extension}
 use Rattle.grouping.specs.declared.TimeRange.{TimeRange}
-use Rattle.grouping.specs.declared.AreaSubspace.{AreaSubspace}
-use Rattle.grouping.specs.Record.{Area, subspace_of, subspace_from, well_formed_subspace, subspace_includes, area_of, area_from, well_formed_area}
+use Rattle.grouping.specs.Record.{Area, area_of, area_from, well_formed_area}
 use Rattle.grouping.specs.Area.{AreaValue}
-use Rattle.grouping.specs.Answers.{empty_area, ReadsArea, head_refusal}
-use Rattle.grouping.proofs.Record.{subspace_back}
 use Rattle.area_times.specs.declared.AreaHeader.{AreaHeader}
 use Rattle.area_times.specs.Header.{header_length, unpack_header, spare_bits}
 use Rattle.area_times.specs.Times.{read_times}
-use Rattle.area_area.specs.Area.{same_id, read_subspace, read_parts, read_area}
+use Rattle.area_area.specs.Area.{read_subspace, read_parts, read_area}
 use Rattle.area_area.specs.Records.{read_against_area}
 use Rattle.area_area.proofs.Area.{parts_bounded}
-
--- ---- a refusal beside an empty record
-pub reads_refused : (d : Decoded) (path : List ℕ) {x : Answer Area} (k : ℕ) → path_in path ≡ path_from [] → answer_of d empty_area ≡ refused k → x ≡ refused k → ReadsArea (head_refusal d) path x
-unfolding head_refusal area_from
-reads_refused d path k e f g = rw e (gives_refused k f g)
-
--- ---- the id
-abbrev pub one_subspace : List ℕ → AreaSubspace
-one_subspace id = record { any = false; id = id }
-
-module _ (canonic : Bool) (r : AreaSubspace) (written : Bool) (s : List ℕ) where
-  pub subspace_kept : well_formed_subspace r ≡ true → written ≡ false → mapped subspace_from (read_subspace canonic (subspace_of r) written) s ≡ accepted r 0
-  unfolding read_subspace
-  subspace_kept w e = rw e (ap (λ (x : AreaSubspace). accepted x 0) (subspace_back r w))
-
-  module _ (e : written ≡ true) where
-    pub subspace_refused : (k : ℕ) → some_bytes 32 s ≡ refused k → mapped subspace_from (read_subspace canonic (subspace_of r) written) s ≡ refused k
-    unfolding read_subspace
-    subspace_refused k f = rw (e, f)
-
-    module _ (id : List ℕ) (n : ℕ) (f : some_bytes 32 s ≡ accepted id n) where
-      pub subspace_outside : subspace_includes r (one_subspace id) ≡ false → mapped subspace_from (read_subspace canonic (subspace_of r) written) s ≡ refused 2
-      unfolding read_subspace subspace_includes
-      subspace_outside o = rw (e, f, o)
-
-      module _ (i : subspace_includes r (one_subspace id) ≡ true) where
-        pub subspace_known : canonic ≡ true → r.any ≡ false → mapped subspace_from (read_subspace canonic (subspace_of r) written) s ≡ refused 2
-        unfolding read_subspace subspace_includes
-        subspace_known c a =
-            let same : same_bytes r.id id ≡ true = rw a at i in
-            rw (e, f, c, a, same)
-
-        free : (canonic ≡ false) ⊎ (r.any ≡ true) → cond canonic (not (same_id (subspace_of r) id)) true ≡ true
-        free (inl c) = rw c
-        free (inr a) = rw a (go canonic)
-          where
-            go : (b : Bool) → cond b true true ≡ true
-            go true = refl
-            go false = refl
-
-        pub subspace_read : (canonic ≡ false) ⊎ (r.any ≡ true) → mapped subspace_from (read_subspace canonic (subspace_of r) written) s ≡ accepted (one_subspace id) n
-        unfolding read_subspace subspace_includes
-        subspace_read x = rw (e, f, i, free x)
 
 -- ---- what follows the header, where the reference was tested
 module _ (canonic : Bool) (r : Area) (h : AreaHeader) (s : List ℕ) where
   pub tested_inside : (x : Area) (n : ℕ) → mapped area_from (read_parts canonic (area_of r) h) s ≡ accepted x n → n ≤ length s
   tested_inside x n e = (mapped_bounded area_from _ (parts_bounded (area_of r) h canonic)).bound s x n e
 
-  pub tested_subspace : (k : ℕ) → mapped subspace_from (read_subspace canonic (subspace_of r.subspace) h.id_written) s ≡ refused k
+  pub tested_subspace : (k : ℕ) → read_subspace canonic r.subspace h.id_written s ≡ refused k
       → mapped area_from (read_parts canonic (area_of r) h) s ≡ refused k
   unfolding read_parts
-  tested_subspace k e = rw (named_refused subspace_from (read_subspace canonic (subspace_of r.subspace) h.id_written s) k e)
+  tested_subspace k e = rw e
 
-  module _ (i : AreaSubspace) (a : ℕ) (e : mapped subspace_from (read_subspace canonic (subspace_of r.subspace) h.id_written) s ≡ accepted i a) where
+  module _ (i : Option (List ℕ)) (a : ℕ) (e : read_subspace canonic r.subspace h.id_written s ≡ accepted i a) where
     pub tested_times : (k : ℕ) → read_times canonic r.times h (drop a s) ≡ refused k → mapped area_from (read_parts canonic (area_of r) h) s ≡ refused k
     unfolding read_parts
-    tested_times k f =
-        let (v, p, q) = named_inv subspace_from (read_subspace canonic (subspace_of r.subspace) h.id_written s) i a e in
-        rw (p, f)
+    tested_times k f = rw (e, f)
 
     module _ (t : TimeRange) (b : ℕ) (f : read_times canonic r.times h (drop a s) ≡ accepted t b) where
       pub tested_path : (k : ℕ) → mapped path_from (read_extension canonic (components_of r.path)) (drop (a + b) s) ≡ refused k
           → mapped area_from (read_parts canonic (area_of r) h) s ≡ refused k
       unfolding read_parts
       tested_path k g =
-          let (v, p, q) = named_inv subspace_from (read_subspace canonic (subspace_of r.subspace) h.id_written s) i a e in
-          rw (p, f, drop-drop, named_refused path_from (read_extension canonic (components_of r.path) (drop (a + b) s)) k g)
+          rw (e, f, drop-drop, named_refused path_from (read_extension canonic (components_of r.path) (drop (a + b) s)) k g)
 
       pub tested_read : (x : Path) (n : ℕ) → mapped path_from (read_extension canonic (components_of r.path)) (drop (a + b) s) ≡ accepted x n
           → mapped area_from (read_parts canonic (area_of r) h) s ≡ accepted (record { subspace = i; path = x; times = t }) (a + (b + n))
       unfolding read_parts area_from
       tested_read x n g =
-          let (v, p, q) = named_inv subspace_from (read_subspace canonic (subspace_of r.subspace) h.id_written s) i a e in
           let (cs, k, l) = named_inv path_from (read_extension canonic (components_of r.path) (drop (a + b) s)) x n g in
-          rw (p, f, drop-drop, k, q, l)
+          rw (e, f, drop-drop, k, l)
 
 -- ---- an area against a reference that was tested
 module _ (canonic : Bool) (r : Area) (s : List ℕ) where

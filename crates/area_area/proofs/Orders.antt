@@ -2,7 +2,7 @@
 use Rattle.codec.proofs.Prelude.{◌≡◌, refl, [], ◌∷◌, Bool, true, false, ℕ, replicate}
 use Rattle.codec.specs.Answers.{refused}
 use Rattle.codec.specs.Bytes.{zero_id}
-use mathlib.Core.Option.{Option, none, some}
+use Rattle.std.specs.Prelude.{Option, Some, None}
 use mathlib.Core.List.{List}
 use Rattle.compact_u64.specs.Number.{inline_limit}
 use Rattle.grouping.specs.declared.RangeEnd.TheVariants.{Open}
@@ -19,15 +19,15 @@ abbrev head : Bool → ℕ
 head added = pack_header (record { id_written = true; end_open = true; start_added = true; end_added = added; start_tag = inline_limit start_tag_width; end_tag = 0 })
 
 -- strictly, spare bits are refused before the id is missed; leniently it is missed first
-spare_first : read_area true (reference none) (head true ∷ []) ≡ refused 2
+spare_first : read_area true (reference None) (head true ∷ []) ≡ refused 2
 unfolding read_area spare_bits
 spare_first = refl
 
-spare_later : read_area false (reference none) (head true ∷ []) ≡ refused 1
+spare_later : read_area false (reference None) (head true ∷ []) ≡ refused 1
 unfolding read_area read_parts read_subspace
 spare_later = refl
 
 -- another's id is refused before the start is missed
-id_first : read_area false (reference (some zero_id)) (head false ∷ replicate 32 1) ≡ refused 2
+id_first : read_area false (reference (Some zero_id)) (head false ∷ replicate 32 1) ≡ refused 2
 unfolding read_area read_parts read_subspace
 id_first = refl

@@ -3,13 +3,12 @@ use Rattle.codec.proofs.Prelude.{◌≡◌, refl, Bool, true, false, cond, not, 
 use Rattle.codec.specs.Header.{read_header}
 use Rattle.codec.specs.Reader.{mapped, on_formed}
 use Rattle.codec.specs.Reads.{Yields}
-use Rattle.codec.proofs.Tests.{and_right}
 use Rattle.codec.proofs.Yields.{yields_as, then_yields, guard_yields, mapped_yields}
 use Rattle.path.specs.Record.{well_formed, TypedPath}
 use Rattle.path.specs.Limits.{PathOk}
 use Rattle.path.proofs.Record.{well_formed_lem, apart_path, well_made}
 use Rattle.path_relative.proofs.Yields.{extension_yields}
-use Rattle.grouping.specs.Record.{Area, area_of, area_from, well_formed_subspace, well_formed_area}
+use Rattle.grouping.specs.Record.{Area, area_of, area_from, well_formed_area}
 use Rattle.grouping.specs.Area.{AreaValue}
 use Rattle.area_times.specs.Header.{unpack_header, spare_bits}
 use Rattle.area_times.specs.Times.{read_times}
@@ -33,11 +32,11 @@ unfolding area_from
 value_well v ok = well_made v.path ok
 
 pub area_yields : (r : Area) → TypedPath r.path → (canonic : Bool) → Yields (read_against_area canonic r) PathWell
-unfolding read_against_area well_formed_area
+unfolding read_against_area
 area_yields r t canonic = by_cases (well_formed_area r) refl
   where
     by_cases : (b : Bool) → well_formed_area r ≡ b → Yields (on_formed b (mapped area_from (read_area canonic (area_of r)))) PathWell
     by_cases true w =
-        let x = apart_path r.path t (well_formed_lem r.path (and_right (well_formed_subspace r.subspace) _ w)) in
+        let x = apart_path r.path t (well_formed_lem r.path w) in
         mapped_yields area_from _ PathWell (yields_as _ _ _ (value_yields (area_of r) x.ok canonic) value_well)
     by_cases false w = record { holds = λ s a n h e. let z : ◌≡◌ {A = ℕ} 0 1 = cc in absurd (omega arith) }

@@ -1,6 +1,5 @@
 -- docs/FORMAT.md, "Areas": an area against an area, on plain values.
-use Rattle.std.specs.Prelude.{List, [], ◌∷◌, ◌++◌, Bool, true, false, cond, ◌&&◌, not, ℕ}
-use Rattle.std.proofs.Math.Option.{Option, none, some}
+use Rattle.std.specs.Prelude.{Option, Some, None, List, [], ◌∷◌, ◌++◌, Bool, true, false, cond, ◌&&◌, not, ℕ}
 use Rattle.codec.specs.Bytes.{same_bytes}
 use Rattle.codec.specs.Header.{read_header}
 use Rattle.codec.specs.Reader.{Reader, give, some_bytes, and_then, guard, checked, mapped, choose}
@@ -13,14 +12,14 @@ use Rattle.area_times.specs.Times.{header_of, times_bytes, read_times}
 
 -- ---- writing: header, id, start difference, end difference, path. The id is written where the reference has any subspace
 abbrev pub id_written : Option (List ℕ) → Option (List ℕ) → Bool
-id_written none none = false
-id_written none (some id) = true
-id_written (some r) s = false
+id_written None None = false
+id_written None (Some id) = true
+id_written (Some r) s = false
 
 abbrev pub subspace_bytes : Option (List ℕ) → Option (List ℕ) → List ℕ
-subspace_bytes none none = []
-subspace_bytes none (some id) = id
-subspace_bytes (some r) s = []
+subspace_bytes None None = []
+subspace_bytes None (Some id) = id
+subspace_bytes (Some r) s = []
 
 -- the header and the id, by the subspaces and the times; what stands before the path
 abbrev pub start_of : Option (List ℕ) → TimeRange → Option (List ℕ) → TimeRange → List ℕ
@@ -37,14 +36,14 @@ area_bytes r a = start_bytes r a ++ rest_bytes r a
 
 -- ---- reading
 abbrev pub same_id : Option (List ℕ) → List ℕ → Bool
-same_id none id = false
-same_id (some r) id = same_bytes r id
+same_id None id = false
+same_id (Some r) id = same_bytes r id
 
 -- the id, then the id against the reference's; strictly, an id equal to that is refused
 unfoldable pub read_subspace : Bool → Option (List ℕ) → Bool → Reader (Option (List ℕ))
 read_subspace canonic r written =
     choose written
-    (mapped some (checked (λ id. includes_subspace r (some id) && cond canonic (not (same_id r id)) true) (some_bytes 32)))
+    (mapped Some (checked (λ id. includes_subspace r (Some id) && cond canonic (not (same_id r id)) true) (some_bytes 32)))
     (give r)
 
 abbrev pub value_from : Option (List ℕ) → TimeRange → List (List ℕ) → AreaValue

@@ -2,13 +2,3 @@
 // crates area_area_decode and area_area_encode have the functions.
 
 #![tactic(auto)]
-
-use codec::Decoded;
-use grouping::AreaSubspace;
-
-// A subspace beside the answer.
-#[derive(Clone, Copy)]
-pub struct DecodedSubspace {
-    pub answer: Decoded,
-    pub subspace: AreaSubspace,
-}

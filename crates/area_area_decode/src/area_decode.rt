@@ -1,54 +1,33 @@
 // Reading the subspace of an area: the reference's, or an id that is written.
-ghost use Rattle.std.specs.Prelude.{◌≡◌, true};
+ghost use Rattle.std.specs.Prelude.{◌≡◌};
 ghost use Rattle.codec.specs.Answers.{answer_of};
-ghost use Rattle.codec.specs.Reader.{mapped};
-ghost use Rattle.grouping.specs.Record.{subspace_of, subspace_from, well_formed_subspace};
 ghost use Rattle.area_area.specs.Area.{read_subspace};
 
-use area_area::DecodedSubspace;
-use codec::Decoded;
+use codec::{DecodeError, Decoded};
 use grouping::AreaSubspace;
 
+#[tactic(auto, unfolding(area_area::specs::Area::read_subspace))]
 pub(crate) fn decode_subspace(
     message: &[u8],
     canonic: bool,
     reference: AreaSubspace,
     written: bool,
-) -> DecodedSubspace
-    requires { well_formed_subspace reference ≡ true }
-    ensures { answer_of result.answer result.subspace ≡ mapped subspace_from (read_subspace canonic (subspace_of reference) written) message.now }
+) -> Result<Decoded<AreaSubspace>, DecodeError>
+    ensures { answer_of result ≡ read_subspace canonic reference written message.now }
 {
     if !written {
-        return DecodedSubspace {
-            answer: Decoded::Consumed(0),
-            subspace: reference,
-        };
+        return Ok(Decoded {
+            value: reference,
+            consumed: 0,
+        });
     }
-    let read = byte_codec::decode_id(message, 0);
-    let answer = read.answer;
-    let Decoded::Consumed(_) = answer else {
-        return DecodedSubspace {
-            answer: answer,
-            subspace: reference,
-        };
-    };
-    let id = read.id;
-    let subspace = AreaSubspace { any: false, id: id };
-    let included = reference.includes_area_subspace(subspace);
-    if !included {
-        return DecodedSubspace {
-            answer: Decoded::TheirFault,
-            subspace: reference,
-        };
+    let read = byte_codec::decode_id(message, 0)?;
+    let subspace = Some(read.value);
+    if !grouping::includes_subspace(reference, subspace) || canonic && reference.is_some() {
+        return Err(DecodeError::TheirFault);
     }
-    if canonic && !reference.any {
-        return DecodedSubspace {
-            answer: Decoded::TheirFault,
-            subspace: reference,
-        };
-    }
-    DecodedSubspace {
-        answer: answer,
-        subspace: subspace,
-    }
+    Ok(Decoded {
+        value: subspace,
+        consumed: read.consumed,
+    })
 }

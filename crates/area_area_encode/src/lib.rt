@@ -2,90 +2,66 @@
 
 #![tactic(auto)]
 
-ghost use Rattle.std.specs.Prelude.{◌≡◌};
-ghost use Rattle.codec.specs.Answers.{outcome_of};
-ghost use Rattle.codec.specs.Format.{length_answer, WritesInto};
-ghost use Rattle.path.specs.Flat.{path_in};
-ghost use Rattle.grouping.specs.Record.{area_with};
+ghost use Rattle.std.specs.Prelude.{◌≡◌, OnOk, IfErr};
+ghost use Rattle.codec.specs.Answers.{encode_number, outcome_of};
+ghost use Rattle.codec.specs.Format.{refused_value, length_answer, WritesInto};
+ghost use Rattle.grouping.specs.Record.{area_lent};
 ghost use Rattle.area_area.specs.Records.{against_area};
+ghost use Rattle.area_area.specs.inside.Writing.{IsInHead};
 
-use codec::Encoded;
-use grouping::AreaHead;
+use codec::EncodeError;
+use grouping::Area;
 
 mod area_encode;
 
+// The tests before the paths are compared: 5, then 3 as far as subspaces and times tell.
+fn check<'a>(area: Area<'a>, reference: Area<'a>) -> Result<(), EncodeError>
+    ensures ok { OnOk result (IsInHead (area_lent reference.entry) (area_lent area.entry)) }
+    ensures err { IfErr result (λ error. (against_area (area_lent reference.entry)).check (area_lent area.entry) ≡ refused_value (encode_number error)) }
+{
+    if !reference.is_well_formed() || !area.is_well_formed() {
+        return Err(EncodeError::Malformed);
+    }
+    if !reference.head.contains(area.head) {
+        return Err(EncodeError::Outside);
+    }
+    Ok(())
+}
+
 // How many bytes an area against a reference takes.
 pub fn relative_len_of_encoding<'a>(
-    area: AreaHead,
-    path: &'a [u8],
-    reference: AreaHead,
-    reference_path: &'a [u8],
-) -> Encoded
-    ensures { outcome_of result ≡ length_answer (against_area (area_with reference (path_in reference_path.now))) (area_with area (path_in path.now)) }
+    area: Area<'a>,
+    reference: Area<'a>,
+) -> Result<usize, EncodeError>
+    ensures { outcome_of result ≡ length_answer (against_area (area_lent reference.entry)) (area_lent area.entry) }
 {
-    let formed = grouping::lent::both_formed(reference, reference_path, area, path);
-    if !formed {
-        return Encoded::Malformed;
-    }
-    let inside = reference.contains(area);
-    if !inside {
-        return Encoded::Outside;
-    }
-    let rest = path_relative_encode::sized::path_extends_path_encoding_len(path, reference_path);
-    let Encoded::Length(n) = rest else {
-        return rest;
-    };
-    let a = area_encode::head_len(
-        area.subspace,
-        reference.subspace,
-        area.times,
-        reference.times,
-    );
-    Encoded::Length(a + n)
+    check(area, reference)?;
+    let path = path_relative_encode::sized::path_extends_path_encoding_len(
+        area.path,
+        reference.path,
+    )?;
+    Ok(area_encode::head_len(area.head, reference.head) + path)
 }
 
 // Writes an area against a reference: the path before what comes first, since it is what may not fit.
 pub fn relative_encode<'a>(
     buffer: &mut [u8],
-    area: AreaHead,
-    path: &'a [u8],
-    reference: AreaHead,
-    reference_path: &'a [u8],
-) -> Encoded
-    ensures { WritesInto (against_area (area_with reference (path_in reference_path.now))) (area_with area (path_in path.now)) result buffer.old buffer.new }
+    area: Area<'a>,
+    reference: Area<'a>,
+) -> Result<usize, EncodeError>
+    ensures { WritesInto (against_area (area_lent reference.entry)) (area_lent area.entry) result buffer.old buffer.new }
 {
-    let formed = grouping::lent::both_formed(reference, reference_path, area, path);
-    if !formed {
-        return Encoded::Malformed;
-    }
-    let inside = reference.contains(area);
-    if !inside {
-        return Encoded::Outside;
-    }
-    let a = area_encode::head_len(
-        area.subspace,
-        reference.subspace,
-        area.times,
-        reference.times,
-    );
-    if buffer.len() < a {
-        let whole = relative_len_of_encoding(area, path, reference, reference_path);
+    check(area, reference)?;
+    let head = area_encode::head_len(area.head, reference.head);
+    if buffer.len() < head {
+        let whole = relative_len_of_encoding(area, reference);
         return byte_codec::in_room(whole, buffer.len());
     }
-    let rest = path_relative_encode::sized::encode_path_extends_path(
-        &mut buffer[a..],
-        path,
-        reference_path,
-    );
-    let Encoded::Length(n) = rest else {
-        return rest;
-    };
-    area_encode::put_head(
-        buffer,
-        area.subspace,
-        reference.subspace,
-        area.times,
-        reference.times,
-    );
-    Encoded::Length(a + n)
+    let path = path_relative_encode::sized::encode_path_extends_path(
+        &mut buffer[head..],
+        area.path,
+        reference.path,
+    )?;
+    area_encode::put_head(buffer, area.head, reference.head);
+    Ok(head + path)
 }

@@ -1,25 +1,19 @@
 -- What the readers' definitions answer at each exit of the code.
-use Rattle.codec.proofs.Prelude.{◌≡◌, refl, sym, ap, ◌∙◌, List, [], Bool, true, false, cond, Bool·beq, none, some, ℕ, suc, ◌+◌, ◌≤◌, ◌<◌, arith, add-one, length, drop, get_or, length-drop, drop_of_length-le, drop-cons, eq-eqb, ne_eqb}
-use Rattle.codec.specs.Answers.{Answer, accepted, refused, answer_of}
-use Rattle.codec.specs.declared.Decoded.{Decoded}
-use Rattle.codec.specs.Reader.{Reader, shift, named, give, some_bytes, checked, mapped, choose}
-use Rattle.codec.proofs.Answers.{gives_refused}
+use Rattle.codec.proofs.Prelude.{◌≡◌, refl, sym, ap, ◌∙◌, List, Bool, true, false, ℕ, suc, ◌+◌, ◌≤◌, ◌<◌, arith, add-one, length, drop, get_or, length-drop, drop_of_length-le, drop-cons, eq-eqb, ne_eqb}
+use Rattle.codec.specs.Answers.{Answer, accepted, refused}
+use Rattle.codec.specs.Reader.{Reader, shift, named, checked, mapped}
 use Rattle.codec.proofs.Bounded.{checked_bounded}
-use Rattle.codec.proofs.Tests.{and_right}
 use Rattle.codec.proofs.Readers.{named_inv, named_refused}
 use Rattle.path.specs.Record.{Path, components_of, path_from, sized, well_formed}
 use Rattle.path.specs.Prefix.{is_prefix}
-use Rattle.path.specs.Flat.{path_in}
 use Rattle.path.proofs.Components.{well_sized}
 use Rattle.path_relative.specs.Against.{read_against}
 use Rattle.path_relative.specs.Records.{read_within_by}
 use Rattle.path_relative.proofs.Against.{against_bounded}
 use Rattle.grouping.specs.declared.TimeRange.{TimeRange}
-use Rattle.grouping.specs.declared.AreaSubspace.{AreaSubspace}
-use Rattle.grouping.specs.Record.{Area, subspace_of, area_of, well_formed_subspace, well_formed_area}
-use Rattle.entry.specs.Record.{Entry, entry_from}
+use Rattle.grouping.specs.Record.{Area, area_of, well_formed_area}
+use Rattle.entry.specs.Record.{entry_from}
 use Rattle.entry.specs.Entry.{EntryValue}
-use Rattle.entry.specs.Answers.{zero_entry, ReadsEntry, fields_refusal}
 use Rattle.entry_area.proofs.Id.{id_bounded}
 use Rattle.entry_area_end.specs.declared.EntryAreaHeader.{EntryAreaHeader}
 use Rattle.entry_area_end.specs.declared.End.{End}
@@ -28,35 +22,6 @@ use Rattle.entry_area_end.specs.End.{read_after_path}
 use Rattle.entry_area_end.proofs.Reading.{end_laws}
 use Rattle.entry_area.specs.Entry.{read_id, read_rest, read_parts, read_entry}
 use Rattle.entry_area.specs.Records.{read_against_namespace_area}
-
--- ---- a refusal beside fields and a path that are empty
-pub reads_refused : (d : Decoded) (left : List ℕ) {x : Answer Entry} (k : ℕ) → answer_of d zero_entry ≡ refused k → path_in left ≡ path_from [] → x ≡ refused k → ReadsEntry (fields_refusal d) left x
-unfolding fields_refusal entry_from
-reads_refused d left k e empty f = rw empty (gives_refused k e f)
-
--- ---- the id
-module _ (r : AreaSubspace) (written : Bool) (s : List ℕ) where
-  pub id_fault : Bool·beq r.any written ≡ false → read_id (subspace_of r) written s ≡ refused 2
-  id_fault e = go r.any written e
-    where
-      go : (a b : Bool) → Bool·beq a b ≡ false → read_id (cond a none (some r.id)) b s ≡ refused 2
-      go true true f = let z : true ≡ false = f in cc
-      go true false f = refl
-      go false true f = refl
-      go false false f = let z : true ≡ false = f in cc
-
-  pub id_as : r.any ≡ written → read_id (subspace_of r) written s ≡ choose written (some_bytes 32) (give r.id) s
-  id_as e = rw e (go written)
-    where
-      go : (b : Bool) → read_id (cond b none (some r.id)) b s ≡ choose b (some_bytes 32) (give r.id) s
-      go true = refl
-      go false = refl
-
-pub same_flags : (a b : Bool) → Bool·beq a b ≡ true → a ≡ b
-same_flags true true e = refl
-same_flags true false e = let z : false ≡ true = e in cc
-same_flags false true e = let z : false ≡ true = e in cc
-same_flags false false e = refl
 
 -- ---- what follows the id, where the area's path was tested
 module _ (canonic : Bool) (n i : List ℕ) (r : Path) (w : well_formed r ≡ true) (times : TimeRange) (h : EntryAreaHeader) (s : List ℕ) where
@@ -96,13 +61,13 @@ module _ (canonic : Bool) (n i : List ℕ) (r : Path) (w : well_formed r ≡ tru
 
 -- ---- what follows the header
 module _ (canonic : Bool) (n : List ℕ) (r : Area) (h : EntryAreaHeader) (s : List ℕ) where
-  pub parts-id : (k : ℕ) → read_id (subspace_of r.subspace) h.id_written s ≡ refused k → mapped entry_from (read_parts canonic n (area_of r) h) s ≡ refused k
+  pub parts-id : (k : ℕ) → read_id r.subspace h.id_written s ≡ refused k → mapped entry_from (read_parts canonic n (area_of r) h) s ≡ refused k
   unfolding read_parts
   parts-id k e = rw e
 
-  module _ (i : List ℕ) (a : ℕ) (e : read_id (subspace_of r.subspace) h.id_written s ≡ accepted i a) where
+  module _ (i : List ℕ) (a : ℕ) (e : read_id r.subspace h.id_written s ≡ accepted i a) where
     pub id_inside : a ≤ length s
-    id_inside = (id_bounded (subspace_of r.subspace) h.id_written).bound s i a e
+    id_inside = (id_bounded r.subspace h.id_written).bound s i a e
 
     pub parts_rest : shift header_length (mapped entry_from (read_parts canonic n (area_of r) h) s) ≡ shift (header_length + a) (mapped entry_from (read_rest canonic n i (components_of r.path) r.times h) (drop a s))
     unfolding read_parts
@@ -116,10 +81,6 @@ module _ (canonic : Bool) (n : List ℕ) (r : Area) (h : EntryAreaHeader) (s : L
 pub area_malformed : (canonic : Bool) (n : List ℕ) (r : Area) (s : List ℕ) → well_formed_area r ≡ false → read_against_namespace_area canonic n r s ≡ refused 5
 unfolding read_against_namespace_area
 area_malformed canonic n r s w = rw w
-
-pub area_path : (r : Area) → well_formed_area r ≡ true → well_formed r.path ≡ true
-unfolding well_formed_area
-area_path r w = and_right (well_formed_subspace r.subspace) (well_formed r.path) w
 
 module _ (canonic : Bool) (n : List ℕ) (r : Area) (w : well_formed_area r ≡ true) (s : List ℕ) (i : ℕ) where
   pub entry_none : length s ≤ i → read_against_namespace_area canonic n r (drop i s) ≡ refused 1

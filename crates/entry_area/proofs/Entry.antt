@@ -1,5 +1,6 @@
 -- The laws of an entry against a namespace and an area, on plain values.
-use Rattle.codec.proofs.Prelude.{◌≡◌, refl, ◌∙◌, List, [], ◌∷◌, ◌++◌, Bool, true, false, some, ℕ, arith, eqb, eqb-true}
+use Rattle.codec.proofs.Prelude.{◌≡◌, refl, ◌∙◌, List, [], ◌∷◌, ◌++◌, Bool, true, false, ℕ, arith, eqb, eqb-true}
+use Rattle.std.specs.Prelude.{Some, is_none}
 use Rattle.codec.specs.Answers.{refused}
 use Rattle.codec.specs.Bytes.{same_bytes, TypedId}
 use Rattle.codec.specs.Header.{read_header}
@@ -27,18 +28,18 @@ use Rattle.entry_area_end.specs.End.{header_of, end_from}
 use Rattle.entry_area_end.proofs.Relations.{EndAs}
 use Rattle.entry_area_end.proofs.HeaderLayout.{header_layout, header_fits}
 use Rattle.entry_area_end.proofs.Reading.{end_laws}
-use Rattle.entry_area.specs.Entry.{is_any, id_bytes, after_path_bytes, rest_bytes, entry_bytes, read_id, value_from, read_rest, read_parts, read_entry}
+use Rattle.entry_area.specs.Entry.{id_bytes, after_path_bytes, rest_bytes, entry_bytes, read_id, value_from, read_rest, read_parts, read_entry}
 use Rattle.entry_area.specs.Relations.{EntryAs}
 use Rattle.entry_area.proofs.Relations.{IdAs}
 use Rattle.entry_area.proofs.Id.{id_reads}
 
 abbrev entry_header : AreaValue → EntryValue → EntryAreaHeader
-entry_header r v = header_of (is_any r.subspace) r.times v.time v.size
+entry_header r v = header_of (is_none r.subspace) r.times v.time v.size
 
 -- ---- lies inside, part by part
 pub record Inside (n : List ℕ) (r : AreaValue) (v : EntryValue) : Type 0 where
   pub namespace : same_bytes n v.namespace ≡ true
-  pub subspace : includes_subspace r.subspace (some v.subspace) ≡ true
+  pub subspace : includes_subspace r.subspace (Some v.subspace) ≡ true
   pub prefix : is_prefix r.path v.path ≡ true
   pub time : includes_time r.times v.time ≡ true
 
@@ -46,7 +47,7 @@ pub inside : (n : List ℕ) (r : AreaValue) (v : EntryValue) → entry_lies_insi
 unfolding entry_lies_inside
 inside n r v e =
     let s = and_right (same_bytes n v.namespace) _ e in
-    let p = and_right (includes_subspace r.subspace (some v.subspace)) _ s in
+    let p = and_right (includes_subspace r.subspace (Some v.subspace)) _ s in
     record { namespace = and_left _ _ e; subspace = and_left _ _ s; prefix = and_left _ _ p; time = and_right (is_prefix r.path v.path) _ p }
 
 inside_of : (n : List ℕ) (r : AreaValue) (v : EntryValue) → Inside n r v → entry_lies_inside n r v ≡ true
@@ -97,7 +98,7 @@ module _ (n : List ℕ) (r : AreaValue) where
         front = pack_header h ∷ [];
         rear = id_bytes r.subspace v.subspace ++ rest_bytes r v;
         whole = x.bytes;
-        first = (header_fits (is_any r.subspace) r.times v.time v.size, refl);
+        first = (header_fits (is_none r.subspace) r.times v.time v.size, refl);
         second = (
           refl,
           record {

@@ -1,6 +1,5 @@
 -- docs/FORMAT.md, "Entries": an entry against a namespace and an area, on plain values.
-use Rattle.std.specs.Prelude.{List, [], ◌∷◌, ◌++◌, Bool, true, false, not, ℕ, eqb}
-use Rattle.std.proofs.Math.Option.{Option, none, some}
+use Rattle.std.specs.Prelude.{Option, Some, None, is_none, List, [], ◌∷◌, ◌++◌, Bool, not, ℕ, eqb}
 use Rattle.codec.specs.Header.{read_header}
 use Rattle.codec.specs.Reader.{Reader, give, some_bytes, and_then, guard, checked, mapped}
 use Rattle.path.specs.Prefix.{is_prefix}
@@ -14,13 +13,9 @@ use Rattle.entry_area_end.specs.Header.{unpack_header, pack_header}
 use Rattle.entry_area_end.specs.End.{header_of, end_of, end_from, read_after_path}
 
 -- ---- writing: header, id, path against the area's, time difference, payload length, digest. The id is written where the area has any subspace
-abbrev pub is_any : Option (List ℕ) → Bool
-is_any none = true
-is_any (some id) = false
-
 abbrev pub id_bytes : Option (List ℕ) → List ℕ → List ℕ
-id_bytes none id = id
-id_bytes (some r) id = []
+id_bytes None id = id
+id_bytes (Some r) id = []
 
 -- the fields after the path
 abbrev pub value_end : EntryValue → End
@@ -28,7 +23,7 @@ value_end v = end_from v.time v.size v.digest
 
 -- the header and the id
 abbrev pub start_of : TimeRange → Option (List ℕ) → List ℕ → End → List ℕ
-start_of r s id e = pack_header (header_of (is_any s) r e.timestamp e.payload_length) ∷ id_bytes s id
+start_of r s id e = pack_header (header_of (is_none s) r e.timestamp e.payload_length) ∷ id_bytes s id
 
 abbrev pub start_bytes : AreaValue → EntryValue → List ℕ
 start_bytes r v = start_of r.times r.subspace v.subspace (value_end v)
@@ -46,8 +41,8 @@ entry_bytes r v = start_bytes r v ++ rest_bytes r v
 
 -- the id, which is written just where the area has any subspace
 abbrev pub read_id : Option (List ℕ) → Bool → Reader (List ℕ)
-read_id none written = guard written (some_bytes 32)
-read_id (some id) written = guard (not written) (give id)
+read_id None written = guard written (some_bytes 32)
+read_id (Some id) written = guard (not written) (give id)
 
 abbrev pub value_from : List ℕ → List ℕ → List (List ℕ) → End → EntryValue
 value_from namespace subspace path end = record {

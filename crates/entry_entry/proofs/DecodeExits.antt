@@ -1,18 +1,13 @@
 -- What the readers' definitions answer at each exit of the code.
-use Rattle.codec.proofs.Prelude.{◌≡◌, refl, ap, List, [], Bool, true, false, ℕ, ◌+◌, ◌≤◌, ◌<◌, arith, add-one, leb, leb-true, leb-false, length, drop, get_or, length-drop, drop_of_length-le, drop-cons, drop-drop}
-use Rattle.codec.specs.Answers.{Answer, accepted, refused, answer_of}
+use Rattle.codec.proofs.Prelude.{◌≡◌, refl, ap, List, Bool, true, false, ℕ, ◌+◌, ◌≤◌, ◌<◌, arith, leb, leb-true, leb-false, length, drop, get_or, length-drop, drop_of_length-le, drop-drop}
+use Rattle.codec.specs.Answers.{accepted, refused}
 use Rattle.codec.specs.Reader.{some_bytes, mapped, on_formed}
-use Rattle.codec.specs.declared.Decoded.{Decoded}
-use Rattle.codec.proofs.Answers.{gives_refused}
-use Rattle.codec.proofs.Bounded.{some_bytes_bounded}
 use Rattle.codec.proofs.Readers.{named_inv, named_refused}
 use Rattle.path.specs.Record.{Path, components_of, path_from, well_formed}
-use Rattle.path.specs.Flat.{path_in}
 use Rattle.path_relative.specs.Against.{read_against}
 use Rattle.path_relative.specs.Records.{read_against_path}
 use Rattle.path_relative.proofs.Against.{against_bounded}
-use Rattle.entry.specs.Record.{Entry, entry_of, entry_from, well_formed_entry}
-use Rattle.entry.specs.Answers.{zero_entry, ReadsEntry, fields_refusal}
+use Rattle.entry.specs.Record.{Entry, entry_of, entry_from}
 use Rattle.entry_numbers.specs.declared.EntryHeader.{EntryHeader}
 use Rattle.entry_numbers.specs.declared.Numbers.{Numbers}
 use Rattle.entry_numbers.specs.Header.{header_length, unpack_header}
@@ -20,21 +15,13 @@ use Rattle.entry_numbers.specs.Numbers.{read_numbers}
 use Rattle.entry_numbers.proofs.Reading.{numbers_bounded}
 use Rattle.entry_entry.specs.declared.Ids.{Ids}
 use Rattle.entry_entry.specs.declared.Head.{Head}
-use Rattle.entry_entry.specs.Entry.{read_id, ids_from, read_ids, head_from, read_head, read_entry}
+use Rattle.entry_entry.specs.Entry.{read_id, ids_from, read_ids, read_head, read_entry}
 use Rattle.entry_entry.specs.Records.{read_against_entry}
 use Rattle.entry_entry.proofs.Entry.{ids_bounded, head_bounded}
 
 -- ---- the ids
 module _ (namespace subspace : List ℕ) (h : EntryHeader) (s : List ℕ) where
-  pub ids_first : (k : ℕ) → read_id h.namespace_written namespace s ≡ refused k → read_ids namespace subspace h s ≡ refused k
-  unfolding read_ids
-  ids_first k e = rw e
-
   module _ (n : List ℕ) (a : ℕ) (e : read_id h.namespace_written namespace s ≡ accepted n a) where
-    pub ids_second : (k : ℕ) → read_id h.subspace_written subspace (drop a s) ≡ refused k → read_ids namespace subspace h s ≡ refused k
-    unfolding read_ids
-    ids_second k f = rw (e, f)
-
     module _ (i : List ℕ) (b : ℕ) (f : read_id h.subspace_written subspace (drop a s) ≡ accepted i b) where
       pub ids_read : read_ids namespace subspace h s ≡ accepted (ids_from n i) (a + b)
       unfolding read_ids
@@ -50,23 +37,11 @@ module _ (namespace subspace : List ℕ) (time : ℕ) (s : List ℕ) (i : ℕ) w
   head_none l = rw (drop_of_length-le s l)
 
   module _ (l : i < length s) where
-    pub head_ids : (k : ℕ) → read_ids namespace subspace (unpack_header (get_or s i 0)) (drop (i + header_length) s) ≡ refused k → read_head namespace subspace time (drop i s) ≡ refused k
-    unfolding read_head
-    head_ids k e = rw (drop-cons s i 0 l, ← add-one i, e)
-
     module _ (ids : Ids) (a : ℕ) (e : read_ids namespace subspace (unpack_header (get_or s i 0)) (drop (i + header_length) s) ≡ accepted ids a) where
       pub first_inside : i + header_length + a ≤ length s
       first_inside = omega (arith, (ids_bounded namespace subspace (unpack_header (get_or s i 0))).bound (drop (i + header_length) s) _ _ e, length-drop (i + header_length) s)
 
-      pub head_numbers : (k : ℕ) → read_numbers time (unpack_header (get_or s i 0)) (drop (i + header_length + a) s) ≡ refused k → read_head namespace subspace time (drop i s) ≡ refused k
-      unfolding read_head
-      head_numbers k f = rw (drop-cons s i 0 l, ← add-one i, e, drop-drop, f)
-
       module _ (n : Numbers) (b : ℕ) (f : read_numbers time (unpack_header (get_or s i 0)) (drop (i + header_length + a) s) ≡ accepted n b) where
-        pub head_read : read_head namespace subspace time (drop i s) ≡ accepted (head_from ids n) (header_length + (a + b))
-        unfolding read_head
-        head_read = rw (drop-cons s i 0 l, ← add-one i, e, drop-drop, f)
-
         pub second_inside : i + (header_length + (a + b)) ≤ length s
         second_inside = omega (arith, first_inside, (numbers_bounded time (unpack_header (get_or s i 0))).bound (drop (i + header_length + a) s) n b f, length-drop (i + header_length + a) s)
 
@@ -92,24 +67,19 @@ joined h p d = record {
   payload_digest = d;
 }
 
--- a refusal beside an empty record
-pub reads_refused : (d : Decoded) (path : List ℕ) {x : Answer Entry} (k : ℕ) → path_in path ≡ path_from [] → answer_of d zero_entry ≡ refused k → x ≡ refused k → ReadsEntry (fields_refusal d) path x
-unfolding fields_refusal entry_from
-reads_refused d path k e f g = rw e (gives_refused k f g)
-
 module _ (r : Entry) (s : List ℕ) (i : ℕ) where
   pub entry_malformed : well_formed r.path ≡ false → read_against_entry r (drop i s) ≡ refused 5
-  unfolding read_against_entry well_formed_entry
+  unfolding read_against_entry
   entry_malformed w = rw w
 
   pub entry_head : well_formed r.path ≡ true → (k : ℕ) → read_head r.namespace_id r.subspace_id r.timestamp (drop i s) ≡ refused k
       → read_against_entry r (drop i s) ≡ refused k
-  unfolding read_against_entry read_entry well_formed_entry
+  unfolding read_against_entry read_entry
   entry_head w k e = rw (w, e)
 
   module _ (h : Head) (a : ℕ) (e : read_head r.namespace_id r.subspace_id r.timestamp (drop i s) ≡ accepted h a) where
     pub entry_path : (k : ℕ) → read_against_path false r.path (drop (i + a) s) ≡ refused k → read_against_entry r (drop i s) ≡ refused k
-    unfolding read_against_entry read_entry read_against_path well_formed_entry
+    unfolding read_against_entry read_entry read_against_path
     entry_path k f = go (well_formed r.path) f
       where
         go : (b : Bool) → on_formed b (mapped path_from (read_against false (components_of r.path))) (drop (i + a) s) ≡ refused k
@@ -141,17 +111,14 @@ module _ (r : Entry) (s : List ℕ) (i : ℕ) where
           )
 
       pub entry_digest : (k : ℕ) → some_bytes 32 (drop (i + a + b) s) ≡ refused k → read_against_entry r (drop i s) ≡ refused k
-      unfolding read_against_entry read_entry well_formed_entry
+      unfolding read_against_entry read_entry
       entry_digest k g =
           let (w, cs, l, q) = formed in
           rw (w, e, drop-drop, l, drop-drop, g)
 
       module _ (d : List ℕ) (c : ℕ) (g : some_bytes 32 (drop (i + a + b) s) ≡ accepted d c) where
         pub entry_read : read_against_entry r (drop i s) ≡ accepted (joined h p d) (a + (b + c))
-        unfolding read_against_entry read_entry well_formed_entry entry_from
+        unfolding read_against_entry read_entry entry_from
         entry_read =
             let (w, cs, l, q) = formed in
             rw (w, e, drop-drop, l, drop-drop, g, q)
-
-        pub digest_inside : i + a + b + c ≤ length s
-        digest_inside = omega (arith, path_inside, (some_bytes_bounded 32).bound (drop (i + a + b) s) d c g, length-drop (i + a + b) s)

@@ -3,7 +3,6 @@
 
 #![tactic(auto)]
 
-use codec::Decoded;
 use entry_numbers::Numbers;
 
 #[derive(Clone, Copy)]
@@ -12,21 +11,9 @@ pub struct Ids {
     pub subspace_id: [u8; 32],
 }
 
-#[derive(Clone, Copy)]
-pub struct DecodedIds {
-    pub answer: Decoded,
-    pub ids: Ids,
-}
-
 // What comes before the path.
 #[derive(Clone, Copy)]
 pub struct Head {
     pub ids: Ids,
     pub numbers: Numbers,
-}
-
-#[derive(Clone, Copy)]
-pub struct DecodedHead {
-    pub answer: Decoded,
-    pub head: Head,
 }

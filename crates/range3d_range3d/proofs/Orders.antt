@@ -2,7 +2,7 @@
 use Rattle.codec.proofs.Prelude.{◌≡◌, refl, List, [], ◌∷◌, ◌++◌, Bool, true, false, ℕ}
 use Rattle.codec.specs.Answers.{refused}
 use Rattle.codec.specs.Bytes.{zero_id}
-use mathlib.Core.Option.{none}
+use Rattle.std.specs.Prelude.{None}
 use Rattle.compact_u64.specs.Number.{inline_limit, min_tag, encoding_width, number_bytes, number_said, read_number}
 use Rattle.path_suffix.specs.Suffix.{component_bytes, sizes_bytes, suffix_bytes, read_sizes, read_components, read_suffix}
 use Rattle.path_relative.specs.Against.{join_ok, read_against}
@@ -20,8 +20,8 @@ use Rattle.range3d_range3d.specs.Range.{read_parts, read_range}
 -- all of it: every end is open
 abbrev reference : Range3dValue
 reference = record {
-  subspaces = record { start = zero_id; end = none };
-  paths = record { start = []; end = none };
+  subspaces = record { start = zero_id; end = None };
+  paths = record { start = []; end = None };
   times = record { start = 0; end = Open };
 }
 

@@ -9,8 +9,7 @@ use Rattle.codec.proofs.ReadsAs.{one_of, then_as, mapped_as}
 use Rattle.path.specs.Limits.{PathOk}
 use Rattle.grouping.specs.declared.TimeRange.{TimeRange}
 use Rattle.grouping.specs.Range.{is_open, TypedRange}
-use Rattle.range_3d.specs.Range3d.{Range3dValue}
-use Rattle.range_3d.proofs.Facts.{Both}
+use Rattle.range_3d.specs.Range3d.{Range3dValue, Both}
 use Rattle.range_subspaces.proofs.Subspaces.{subspaces_as}
 use Rattle.range_paths.specs.Paths.{read_paths}
 use Rattle.range_paths.proofs.Paths.{paths_as}

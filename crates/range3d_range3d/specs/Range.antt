@@ -4,7 +4,8 @@ use Rattle.codec.specs.Header.{read_header}
 use Rattle.codec.specs.Reader.{Reader, one_byte, and_then, mapped}
 use Rattle.grouping.specs.declared.TimeRange.{TimeRange}
 use Rattle.grouping.specs.Range.{is_open}
-use Rattle.range_3d.specs.Range3d.{Range, Range3dValue, open_end}
+use Rattle.range_3d.specs.declared.Range.{Range}
+use Rattle.range_3d.specs.Range3d.{Range3dValue, open_end}
 use Rattle.range_subspaces.specs.declared.Sources.{Sources}
 use Rattle.range_subspaces.specs.Subspaces.{sources_of, subspaces_bytes, read_subspaces}
 use Rattle.range_paths.specs.declared.Sides.{Sides}

@@ -1,6 +1,5 @@
 -- The worked examples of docs/FORMAT.md, "Examples", that are proved: one list.
-use Rattle.std.specs.Prelude.{◌≡◌, List, [], ◌∷◌, true, false, ℕ, length, replicate}
-use Rattle.std.proofs.Math.Option.{none, some}
+use Rattle.std.specs.Prelude.{◌≡◌, List, [], ◌∷◌, true, false, ℕ, Some, None, length, replicate}
 use Rattle.codec.specs.Answers.{Answer, accepted, refused, wrote}
 use Rattle.codec.specs.Format.{write_answer}
 use Rattle.codec.specs.Reader.{named}
@@ -30,7 +29,7 @@ bc = 0x62 ∷ 0x63 ∷ []
 
 -- an area of any subspace and the empty path
 abbrev pub times : ℕ → RangeEnd → AreaValue
-times start end = value_from none (times_from start end) []
+times start end = value_from None (times_from start end) []
 
 -- a namespace, an id, a digest; the area of that id, the empty path and all times; an entry in it
 abbrev pub namespace : List ℕ
@@ -43,14 +42,14 @@ abbrev pub digest : List ℕ
 digest = replicate 32 0x64
 
 abbrev pub everything : AreaValue
-everything = value_from (some id) (times_from 0 Open) []
+everything = value_from (Some id) (times_from 0 Open) []
 
 abbrev pub at : ℕ → ℕ → EntryValue
 at time size = record { namespace = namespace; subspace = id; path = []; time = time; size = size; digest = digest }
 
 -- the 3d range from that id to open, from the empty path to open, from 0 to open
 abbrev pub all : Range3dValue
-all = record { subspaces = record { start = id; end = none }; paths = record { start = []; end = none }; times = times_from 0 Open }
+all = record { subspaces = record { start = id; end = None }; paths = record { start = []; end = None }; times = times_from 0 Open }
 
 -- a message with the answers of strict and of lenient reading (of a 3d range lenient only), or a value with the bytes that writing gives; records stand as their values
 pub data Case : Type 0 where

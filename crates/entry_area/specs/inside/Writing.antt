@@ -3,7 +3,6 @@ use Rattle.std.specs.Prelude.{List, ◌++◌, ℕ}
 use Rattle.path.specs.Record.{Path, sized}
 use Rattle.path_relative.specs.Records.{shared_by}
 use Rattle.grouping.specs.declared.TimeRange.{TimeRange}
-use Rattle.grouping.specs.Record.{subspace_of}
 use Rattle.grouping.specs.declared.AreaHead.{AreaHead}
 use Rattle.entry.specs.declared.EntryFields.{EntryFields}
 use Rattle.entry_area_end.specs.declared.End.{End}
@@ -19,4 +18,4 @@ abbrev pub tail_bytes : TimeRange → End → Path → ℕ → List ℕ
 tail_bytes r e p k = (shared_by sized k).encode p ++ end_of r e
 
 abbrev pub known_bytes : AreaHead → EntryFields → Path → ℕ → List ℕ
-known_bytes h f p k = start_of h.times (subspace_of h.subspace) f.subspace_id (end_in f) ++ tail_bytes h.times (end_in f) p k
+known_bytes h f p k = start_of h.times h.subspace f.subspace_id (end_in f) ++ tail_bytes h.times (end_in f) p k

@@ -1,7 +1,8 @@
 -- What the writer's private functions are stated by.
-use Rattle.std.specs.Prelude.{List, ◌++◌, ℕ}
+use Rattle.std.specs.Prelude.{List, ◌∷◌, ◌++◌, ℕ}
 use Rattle.entry.specs.declared.EntryFields.{EntryFields}
 use Rattle.entry_numbers.specs.declared.EntryHeader.{EntryHeader}
+use Rattle.entry_numbers.specs.Header.{pack_header}
 use Rattle.entry_numbers.specs.Numbers.{header_of, numbers_bytes}
 use Rattle.entry_entry.specs.Entry.{id_written, id_bytes}
 
@@ -22,3 +23,6 @@ rest_with r f path = numbers_bytes r.timestamp f.timestamp f.payload_length ++ (
 
 abbrev pub parts_with : EntryFields → EntryFields → List ℕ → List ℕ
 parts_with r f path = ids_with r f ++ rest_with r f path
+
+abbrev pub known_bytes : EntryFields → EntryFields → List ℕ → List ℕ
+known_bytes r f path = pack_header (header_with r f) ∷ parts_with r f path

@@ -1,25 +1,20 @@
-use Rattle.codec.proofs.Prelude.{◌≡◌, sym, ◌∙◌, true}
-use Rattle.path.specs.Flat.{path_in}
-use Rattle.range_3d.specs.Record.{Range3d, range_with, well_formed_range3d}
+use Rattle.codec.proofs.Prelude.{sym, ◌∙◌}
+use Rattle.range_3d.specs.Record.{range_lent}
 use Rattle.range3d_range3d.proofs.Writing.{reference_malformed, range_malformed, measure_whole}
 use Rattle.range3d_range3d_encode.proofs.measure.Goals as goal
+use Rattle.range3d_range3d_encode.proofs.measure.Goals.{then-not-is_well_formed-via-then-not-is_well_formed, then-not-is_well_formed-via-else-not-is_well_formed+then-not-is_well_formed-2}
 
-pub returns-then-not-known : goal.returns-then-not-known
-returns-then-not-known c =
-    let value : Range3d = range_with c.args.range (path_in c.args.start.now) (path_in c.args.end.now) in
-    let known : Range3d = range_with c.args.reference (path_in c.args.reference_start.now) (path_in c.args.reference_end.now) in
-    reference_malformed known value (sym c.well_formed-known.ensures ∙ c.if-not-known.true)
-
-pub returns-then-not-well : goal.returns-then-not-well
-returns-then-not-well c =
-    let value : Range3d = range_with c.args.range (path_in c.args.start.now) (path_in c.args.end.now) in
-    let known : Range3d = range_with c.args.reference (path_in c.args.reference_start.now) (path_in c.args.reference_end.now) in
-    let known_well : well_formed_range3d known ≡ true = sym c.well_formed-known.ensures ∙ c.if-not-known.false in
-    range_malformed known value known_well (sym c.well_formed-well.ensures ∙ c.if-not-well.true)
+pub returns-then-not-is_well_formed : goal.returns-then-not-is_well_formed
+returns-then-not-is_well_formed c =
+    let value = range_lent c.args.range in
+    let known = range_lent c.args.reference in
+    elim c.then-not-is_well_formed.branch [
+      | then-not-is_well_formed-via-then-not-is_well_formed w ↦ reference_malformed known value (sym c.is_well_formed.ensures ∙ w.if-not-is_well_formed.true)
+      | then-not-is_well_formed-via-else-not-is_well_formed+then-not-is_well_formed-2 w ↦
+          range_malformed known value (sym c.is_well_formed.ensures ∙ w.if-not-is_well_formed.false) (sym w.is_well_formed-else-not-is_well_formed.ensures ∙ w.if-not-is_well_formed-2.true)
+    ]
 
 pub returns : goal.returns
 returns c =
-    let value : Range3d = range_with c.args.range (path_in c.args.start.now) (path_in c.args.end.now) in
-    let known : Range3d = range_with c.args.reference (path_in c.args.reference_start.now) (path_in c.args.reference_end.now) in
-    let known_well : well_formed_range3d known ≡ true = sym c.well_formed-known.ensures ∙ c.if-not-known.false in
-    c.measure.ensures ∙ measure_whole known value known_well (sym c.well_formed-well.ensures ∙ c.if-not-well.false)
+    c.measure.ensures ∙ measure_whole (range_lent c.args.reference) (range_lent c.args.range) (sym c.is_well_formed.ensures ∙ c.if-not-is_well_formed.false)
+    (sym c.is_well_formed-else-not-is_well_formed.ensures ∙ c.if-not-is_well_formed-2.false)

@@ -1,45 +1,28 @@
-use Rattle.codec.proofs.Prelude.{sym, ap, ◌∙◌, arith}
+use Rattle.std.proofs.Common.{◌≡◌, Err, rules}
+use Rattle.codec.specs.declared.EncodeError.TheVariants as encoding
+use Rattle.codec.proofs.Prelude.{arith}
 use Rattle.codec.proofs.Lending.{length_refused_value, length_allowed}
-use Rattle.path.specs.Flat.{path_in}
-use Rattle.range_3d.specs.Record.{Range3d, range_with}
-use Rattle.range_paths.specs.Records.{measured_answer}
+use Rattle.range_3d.specs.Record.{range_lent}
 use Rattle.range3d_range3d.specs.Records.{against_range}
-use Rattle.range3d_range3d.proofs.Writing.{Measures, measures, unmeasured, range_long}
+use Rattle.range3d_range3d.proofs.Writing.{measures, unmeasured, range_long}
 use Rattle.range3d_range3d_encode.proofs.relative_len_of_encoding.Goals as goal
 
-pub returns-in_default : goal.returns-in_default
-returns-in_default c =
-    let value : Range3d = range_with c.args.range (path_in c.args.start.now) (path_in c.args.end.now) in
-    let known : Range3d = range_with c.args.reference (path_in c.args.reference_start.now) (path_in c.args.reference_end.now) in
-    length_refused_value (against_range known) value 5
-    (unmeasured known value (sym (ap measured_answer c.in_default.is) ∙ c.measure-measured.ensures))
-
-pub overflow_add-result : goal.overflow_add-result
-overflow_add-result c =
-    let value : Range3d = range_with c.args.range (path_in c.args.start.now) (path_in c.args.end.now) in
-    let known : Range3d = range_with c.args.reference (path_in c.args.reference_start.now) (path_in c.args.reference_end.now) in
-    let paths_are : Measures known value c.in-Paths.paths = measures known value _ (sym (ap measured_answer c.in-Paths.is) ∙ c.measure-measured.ensures) in
-    omega (arith, paths_are.short, c.relative_len_of_encoding-c.ensures.1)
+pub returns-in_err-paths : goal.returns-in_err-paths
+returns-in_err-paths c =
+    let e : c.from_residual.result ≡ Err encoding.Malformed = search rules in
+    let known = range_lent c.args.reference in
+    rw e (length_refused_value (against_range known) (range_lent c.args.range) 5 (unmeasured known (range_lent c.args.range) c.in_err-paths.ensures))
 
 pub overflow_add-result-2 : goal.overflow_add-result-2
-overflow_add-result-2 c =
-    let value : Range3d = range_with c.args.range (path_in c.args.start.now) (path_in c.args.end.now) in
-    let known : Range3d = range_with c.args.reference (path_in c.args.reference_start.now) (path_in c.args.reference_end.now) in
-    let paths_are : Measures known value c.in-Paths.paths = measures known value _ (sym (ap measured_answer c.in-Paths.is) ∙ c.measure-measured.ensures) in
-    omega (arith, paths_are.short, c.relative_len_of_encoding-c.ensures.1, c.relative_len_of_encoding-a.ensures.1)
+overflow_add-result-2 c = omega (arith, (measures (range_lent c.args.reference) (range_lent c.args.range) _ c.in_ok-paths.ensures).short)
 
 pub overflow_add-result-3 : goal.overflow_add-result-3
-overflow_add-result-3 c =
-    let value : Range3d = range_with c.args.range (path_in c.args.start.now) (path_in c.args.end.now) in
-    let known : Range3d = range_with c.args.reference (path_in c.args.reference_start.now) (path_in c.args.reference_end.now) in
-    let paths_are : Measures known value c.in-Paths.paths = measures known value _ (sym (ap measured_answer c.in-Paths.is) ∙ c.measure-measured.ensures) in
-    omega (arith, paths_are.short, c.relative_len_of_encoding-c.ensures.1, c.relative_len_of_encoding-a.ensures.1)
+overflow_add-result-3 c = omega (arith, (measures (range_lent c.args.reference) (range_lent c.args.range) _ c.in_ok-paths.ensures).short)
 
 pub returns : goal.returns
 returns c =
-    let value : Range3d = range_with c.args.range (path_in c.args.start.now) (path_in c.args.end.now) in
-    let known : Range3d = range_with c.args.reference (path_in c.args.reference_start.now) (path_in c.args.reference_end.now) in
-    let paths_are : Measures known value c.in-Paths.paths = measures known value _ (sym (ap measured_answer c.in-Paths.is) ∙ c.measure-measured.ensures) in
-    let m = paths_are in
+    let known = range_lent c.args.reference in
+    let value = range_lent c.args.range in
+    let m = measures known value _ c.in_ok-paths.ensures in
     length_allowed (against_range known) value _ m.allows
-    (range_long known value m _ _ c.relative_len_of_encoding-a.ensures.0 c.relative_len_of_encoding-c.ensures.0)
+    (omega (arith, range_long known value m _ _ c.relative_len_of_encoding-subspaces.ensures.0 c.relative_len_of_encoding-times.ensures.0))

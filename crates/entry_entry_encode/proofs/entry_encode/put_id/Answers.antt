@@ -1,21 +1,20 @@
-use Rattle.codec.proofs.Prelude.{sym, ap, ◌∙◌, List, ℕ, ◌≤◌, arith, length}
-use Rattle.codec.specs.Format.{over}
-use Rattle.codec.proofs.Lending.{put_over}
-use Rattle.entry_entry.proofs.Writing.{id_there, id-kept}
+use Rattle.codec.proofs.Prelude.{◌≡◌, refl, ◌∙◌, ◌≤◌, length}
+use Rattle.codec.proofs.Lending.{put_done, put_over}
+use Rattle.entry_entry.specs.Entry.{id_written, id_bytes}
 use Rattle.entry_entry_encode.proofs.entry_encode.put_id.Goals as goal
 
-pub returns-then-written : goal.returns-then-written
-returns-then-written c =
-    let a = c.args in
-    let l = a.buffer.now in
-    let is = id_there a.reference a.id c.id_written-written.ensures c.if-written.true in
-    let long : length a.id ≤ length l = omega (arith, c.requires, ap length is) in (
-      sym (ap length is ∙ c.well_formed.1.0.1.0.1),
-      c.put_bytes.ensures.1 ∙ put_over a.id l long ∙ ap (λ (bs : List ℕ). over bs l) (sym is),
-    )
+pub unwrap-requires : goal.unwrap-requires
+unfolding id_bytes id_written
+unwrap-requires c =
+    let written : id_bytes c.args.reference c.args.id ≡ c.args.id = rw (← c.eq.ensures, c.if-eq.false) refl in
+    let room : length c.args.id ≤ length c.args.buffer.now = rw written at c.requires in
+    rw (put_done c.args.id _ c.put_bytes.result room c.put_bytes.ensures.0) refl
 
-pub returns : goal.returns
-returns c =
-    let a = c.args in
-    let is = id-kept a.reference a.id c.id_written-written.ensures c.if-written.false in
-    (sym (ap length is), ap (λ (bs : List ℕ). over bs a.buffer.now) (sym is))
+pub returns-else-eq : goal.returns-else-eq
+unfolding id_bytes id_written
+returns-else-eq c =
+    let written : id_bytes c.args.reference c.args.id ≡ c.args.id = rw (← c.eq.ensures, c.if-eq.false) refl in
+    let room : length c.args.id ≤ length c.args.buffer.now = rw written at c.requires in
+    let done = put_done c.args.id _ c.put_bytes.result room c.put_bytes.ensures.0 in
+    let n_is : c.unwrap.result ≡ length c.args.id = cc in
+    rw written (n_is, c.put_bytes.ensures.1 ∙ put_over c.args.id c.args.buffer.now room)
