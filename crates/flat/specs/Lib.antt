@@ -1,3 +1,4 @@
+pub mod Optional
 pub mod PathRecord
 pub mod Times
 pub mod AreaRecord

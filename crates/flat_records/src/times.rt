@@ -13,35 +13,27 @@ const END: usize = 9;
 pub(crate) const SIZE: usize = END + 8;
 
 // Whether the bytes from a place on are a range's: the mark is 0 or 1, and the end beside 1 is zero.
+#[tactic(auto, using(flat::proofs::TimesLaws::times_marked_at))]
 pub(crate) fn marked(flat: &[u8], at: usize) -> bool
     requires { at + times_size ≤ length flat.now }
     ensures { result ≡ times_marked (drop at flat.now) }
 {
-    let times = &flat[at..];
-    if times[MARK] == 0 {
-        return true;
-    }
-    if times[MARK] != 1 {
-        return false;
-    }
-    crate::number_at(times, END) == 0
+    let mark = flat[at + MARK];
+    mark == 0 || (mark == 1 && crate::number_at(flat, at + END) == 0)
 }
 
+#[tactic(auto, using(flat::proofs::TimesLaws::times_in_at))]
 pub(crate) fn times_in(flat: &[u8], at: usize) -> TimeRange
     requires { at + times_size ≤ length flat.now }
     ensures { result ≡ times_in (drop at flat.now) }
 {
-    let times = &flat[at..];
-    let start = crate::number_at(times, 0);
-    if times[MARK] == 1 {
-        return TimeRange {
-            start: start,
-            end: RangeEnd::Open,
-        };
-    }
     TimeRange {
-        start: start,
-        end: RangeEnd::Closed(crate::number_at(times, END)),
+        start: crate::number_at(flat, at),
+        end: if flat[at + MARK] == 1 {
+            RangeEnd::Open
+        } else {
+            RangeEnd::Closed(crate::number_at(flat, at + END))
+        },
     }
 }
 
@@ -59,8 +51,7 @@ pub(crate) fn put_times(flat: &mut [u8], times: TimeRange)
     requires { times_size ≤ length flat.old }
     ensures { Puts times_size (times_flat times) flat.old flat.new }
 {
-    let end = times.end;
-    compact_u64::put_big_endian(flat, 8, times.start);
-    flat[MARK] = byte_codec::bit(end.is_open());
-    compact_u64::put_big_endian(&mut flat[END..], 8, end_time(end));
+    crate::put_number(flat, times.start);
+    flat[MARK] = u8::from(times.end.is_open());
+    crate::put_number(&mut flat[END..], end_time(times.end));
 }

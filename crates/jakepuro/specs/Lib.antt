@@ -1,3 +1,2 @@
 pub mod Interface
 pub mod Tagged
-pub mod inside

@@ -1,85 +1,89 @@
 // Areas.
-ghost use Rattle.std.specs.Prelude.{drop};
-ghost use Rattle.codec.specs.Format.{length_answer};
+ghost use Rattle.std.specs.Prelude.{◌≡◌, drop};
+ghost use Rattle.codec.specs.Answers.{outcome_of};
+ghost use Rattle.codec.specs.Format.{length_answer, WritesInto};
 ghost use Rattle.area_area.specs.Records.{against_area, read_against_area};
 ghost use Rattle.flat.specs.AreaRecord.{area_in, area_flat};
-ghost use Rattle.calls.specs.Calls.{Encodes, Told, Stores};
+ghost use Rattle.calls.specs.Calls.{Encodes, Told, Stores, Leaves};
 
-use codec::{Decoded, Encoded};
+use codec::{DecodeError, EncodeError};
+use flat_records::area_record;
+
+fn encode(
+    buffer: &mut [u8],
+    area: &[u8; area_record::SIZE],
+    reference: &[u8; area_record::SIZE],
+) -> Result<usize, EncodeError>
+    ensures { WritesInto (against_area (area_in reference.now)) (area_in area.now) result buffer.old buffer.new }
+{
+    let reference = area_record::load(reference)?;
+    let area = area_record::load(area)?;
+    area_area_encode::relative_encode(buffer, area, reference)
+}
+
+fn len_of_encoding(
+    area: &[u8; area_record::SIZE],
+    reference: &[u8; area_record::SIZE],
+) -> Result<usize, EncodeError>
+    ensures { outcome_of result ≡ length_answer (against_area (area_in reference.now)) (area_in area.now) }
+{
+    let reference = area_record::load(reference)?;
+    let area = area_record::load(area)?;
+    area_area_encode::relative_len_of_encoding(area, reference)
+}
+
+fn decode(
+    message: &[u8],
+    start: usize,
+    canonic: bool,
+    reference: &[u8; area_record::SIZE],
+    area: &mut [u8; area_record::SIZE],
+) -> Result<usize, DecodeError>
+    ensures { Leaves area_flat (read_against_area canonic (area_in reference.now) (drop start message.now)) area.old area.new result }
+{
+    let reference = area_record::load(reference)?;
+    let mut path = [0; path::lent::SIZE];
+    let read = area_area_decode::relative_decode(message, start, canonic, reference, &mut path)?;
+    area_record::store(area, read.value, &path);
+    Ok(read.consumed)
+}
 
 // Writes an area against a reference.
 #[unsafe(no_mangle)]
-pub extern "C" fn jakepuro_area_area_encode<'a>(
+pub extern "C" fn jakepuro_area_area_encode(
     buffer: &mut [u8],
-    area: &'a [u8; flat_records::area_record::SIZE],
-    reference: &'a [u8; flat_records::area_record::SIZE],
+    area: &[u8; area_record::SIZE],
+    reference: &[u8; area_record::SIZE],
     written: &mut usize,
 ) -> u8
     ensures { Encodes (against_area (area_in reference.now)) (area_in area.now) buffer.old buffer.new result written.new }
 {
-    let marked = flat_records::area_record::is_marked(reference)
-        && flat_records::area_record::is_marked(area);
-    if !marked {
-        return calls::tell_length(Encoded::Malformed, written);
-    }
-    let answer = area_area_encode::relative_encode(
-        buffer,
-        flat_records::area_record::head(area),
-        flat_records::area_record::path(area),
-        flat_records::area_record::head(reference),
-        flat_records::area_record::path(reference),
-    );
-    calls::tell_length(answer, written)
+    calls::tell(encode(buffer, area, reference), written)
 }
 
 // How many bytes that takes.
 #[unsafe(no_mangle)]
-pub extern "C" fn jakepuro_area_area_len_of_encoding<'a>(
-    area: &'a [u8; flat_records::area_record::SIZE],
-    reference: &'a [u8; flat_records::area_record::SIZE],
+pub extern "C" fn jakepuro_area_area_len_of_encoding(
+    area: &[u8; area_record::SIZE],
+    reference: &[u8; area_record::SIZE],
     length: &mut usize,
 ) -> u8
     ensures { Told (length_answer (against_area (area_in reference.now)) (area_in area.now)) result length.new }
 {
-    let marked = flat_records::area_record::is_marked(reference)
-        && flat_records::area_record::is_marked(area);
-    if !marked {
-        return calls::tell_length(Encoded::Malformed, length);
-    }
-    let answer = area_area_encode::relative_len_of_encoding(
-        flat_records::area_record::head(area),
-        flat_records::area_record::path(area),
-        flat_records::area_record::head(reference),
-        flat_records::area_record::path(reference),
-    );
-    calls::tell_length(answer, length)
+    calls::tell(len_of_encoding(area, reference), length)
 }
 
 // Reads an area against a reference.
 #[unsafe(no_mangle)]
-pub extern "C" fn jakepuro_area_area_decode<'a>(
-    message: &'a [u8],
+pub extern "C" fn jakepuro_area_area_decode(
+    message: &[u8],
     start: usize,
     canonic: bool,
-    reference: &'a [u8; flat_records::area_record::SIZE],
-    area: &mut [u8; flat_records::area_record::SIZE],
+    reference: &[u8; area_record::SIZE],
+    area: &mut [u8; area_record::SIZE],
     consumed: &mut usize,
 ) -> u8
     ensures { Stores area_flat (read_against_area canonic (area_in reference.now) (drop start message.now)) area.old area.new result consumed.new }
 {
-    let marked = flat_records::area_record::is_marked(reference);
-    if !marked {
-        return calls::tell_refusal(Decoded::Malformed, consumed);
-    }
-    let mut path = [0u8; path::lent::SIZE];
-    let read = area_area_decode::relative_decode(
-        message,
-        start,
-        canonic,
-        flat_records::area_record::head(reference),
-        flat_records::area_record::path(reference),
-        &mut path,
-    );
-    let answer = read.answer;
-    calls::give_area(answer, read.head, &path, area, consumed)
+    calls::tell(decode(message, start, canonic, reference, area), consumed)
 }

@@ -1,58 +1,55 @@
 // Compact numbers.
 ghost use Rattle.std.specs.Prelude.{◌≡◌, length, drop};
-ghost use Rattle.codec.specs.Format.{write_answer, length_answer};
+ghost use Rattle.codec.specs.Answers.{answer_of, outcome_of};
+ghost use Rattle.codec.specs.Format.{write_answer, length_answer, WritesInto};
 ghost use Rattle.compact_u64.specs.Number.{min_tag, standalone, read_standalone};
-ghost use Rattle.compact_u64.specs.Answers.{number_answer};
-ghost use Rattle.calls.specs.Calls.{Encodes, Told, read_code, Stores};
+ghost use Rattle.calls.specs.Calls.{Encodes, Told, Stores, Leaves};
 ghost use Rattle.jakepuro.specs.Tagged.{tagged, read_tagged, tag_or};
-ghost use Rattle.jakepuro.specs.inside.Tagged.{HasBits};
 
-use codec::Encoded;
-use compact_u64::{DecodedU64, TagWidth};
+use codec::{DecodeError, Decoded, EncodeError};
+use compact_u64::TagWidth;
 
-// A tag's width by its bits.
-#[derive(Clone, Copy)]
-enum NumberWidth {
-    Bits(TagWidth),
-    Malformed,
+fn encode(buffer: &mut [u8], width: u8, value: u64, tag: &mut u8) -> Result<usize, EncodeError>
+    ensures written { WritesInto (tagged width) value result buffer.old buffer.new }
+    ensures tag { tag.new ≡ tag_or (write_answer (tagged width) value (length buffer.old)) (min_tag width value) tag.old }
+{
+    let width = TagWidth::try_from(width)?;
+    let written = compact_u64::relative_encode(buffer, width, value)?;
+    *tag = compact_u64::min_tag(width, value);
+    Ok(written)
 }
 
-fn width_of(width: u8) -> NumberWidth
-    ensures { HasBits result width }
+fn len_of_encoding(width: u8, value: u64) -> Result<usize, EncodeError>
+    ensures { outcome_of result ≡ length_answer (tagged width) value }
 {
-    match width {
-        2 => NumberWidth::Bits(TagWidth::Two),
-        3 => NumberWidth::Bits(TagWidth::Three),
-        4 => NumberWidth::Bits(TagWidth::Four),
-        5 => NumberWidth::Bits(TagWidth::Five),
-        6 => NumberWidth::Bits(TagWidth::Six),
-        7 => NumberWidth::Bits(TagWidth::Seven),
-        8 => NumberWidth::Bits(TagWidth::Eight),
-        _ => NumberWidth::Malformed,
-    }
-}
-
-fn refusal(number: DecodedU64) -> u8
-    ensures { result ≡ read_code (number_answer number) }
-{
-    match number {
-        DecodedU64::Value(_, _) => 0,
-        DecodedU64::EndOfInput => 1,
-        DecodedU64::TheirFault => 2,
-    }
+    let width = TagWidth::try_from(width)?;
+    Ok(compact_u64::relative_len_of_encoding(width, value))
 }
 
 // A number that was read is stored.
-fn give_number(number: DecodedU64, value: &mut u64, consumed: &mut usize) -> u8
-    ensures { Stores (λ v. v) (number_answer number) value.old value.new result consumed.new }
+fn store(number: Result<Decoded<u64>, DecodeError>, value: &mut u64) -> Result<usize, DecodeError>
+    ensures { Leaves (λ v. v) (answer_of number) value.old value.new result }
 {
-    let DecodedU64::Value(v, n) = number else {
-        *consumed = 0;
-        return refusal(number);
-    };
-    *value = v;
-    *consumed = n;
-    0
+    let number = number?;
+    *value = number.value;
+    Ok(number.consumed)
+}
+
+fn decode(
+    message: &[u8],
+    start: usize,
+    canonic: bool,
+    width: u8,
+    tag: u8,
+    value: &mut u64,
+) -> Result<usize, DecodeError>
+    ensures { Leaves (λ v. v) (read_tagged canonic width tag (drop start message.now)) value.old value.new result }
+{
+    let width = TagWidth::try_from(width)?;
+    store(
+        compact_u64::relative_decode(message, start, width, tag, canonic),
+        value,
+    )
 }
 
 // Writes the bytes after a tag of 2 to 8 bits, and gives the tag.
@@ -66,16 +63,7 @@ pub extern "C" fn jakepuro_number_encode(
 ) -> u8
     ensures { Encodes (tagged width) value buffer.old buffer.new result written.new × (tag.new ≡ tag_or (write_answer (tagged width) value (length buffer.old)) (min_tag width value) tag.old) }
 {
-    let known = width_of(width);
-    let NumberWidth::Bits(w) = known else {
-        return calls::tell_length(Encoded::Malformed, written);
-    };
-    let answer = compact_u64::relative_encode(buffer, w, value);
-    let Encoded::Length(_) = answer else {
-        return calls::tell_length(answer, written);
-    };
-    *tag = compact_u64::min_tag(w, value);
-    calls::tell_length(answer, written)
+    calls::tell(encode(buffer, width, value, tag), written)
 }
 
 // How many bytes that takes.
@@ -83,12 +71,7 @@ pub extern "C" fn jakepuro_number_encode(
 pub extern "C" fn jakepuro_number_len_of_encoding(width: u8, value: u64, length: &mut usize) -> u8
     ensures { Told (length_answer (tagged width) value) result length.new }
 {
-    let known = width_of(width);
-    let NumberWidth::Bits(w) = known else {
-        return calls::tell_length(Encoded::Malformed, length);
-    };
-    let n = compact_u64::relative_len_of_encoding(w, value);
-    calls::tell_length(Encoded::Length(n), length)
+    calls::tell(len_of_encoding(width, value), length)
 }
 
 // Reads the bytes after a tag of 2 to 8 bits.
@@ -104,13 +87,7 @@ pub extern "C" fn jakepuro_number_decode(
 ) -> u8
     ensures { Stores (λ v. v) (read_tagged canonic width tag (drop start message.now)) value.old value.new result consumed.new }
 {
-    let known = width_of(width);
-    let NumberWidth::Bits(w) = known else {
-        *consumed = 0;
-        return 5;
-    };
-    let number = compact_u64::relative_decode(message, start, w, tag, canonic);
-    give_number(number, value, consumed)
+    calls::tell(decode(message, start, canonic, width, tag, value), consumed)
 }
 
 // Writes a standalone number.
@@ -122,8 +99,7 @@ pub extern "C" fn jakepuro_standalone_encode(
 ) -> u8
     ensures { Encodes standalone value buffer.old buffer.new result written.new }
 {
-    let answer = compact_u64::encode(buffer, value);
-    calls::tell_length(answer, written)
+    calls::tell(compact_u64::encode(buffer, value), written)
 }
 
 // How many bytes that takes.
@@ -131,8 +107,8 @@ pub extern "C" fn jakepuro_standalone_encode(
 pub extern "C" fn jakepuro_standalone_len_of_encoding(value: u64, length: &mut usize) -> u8
     ensures { Told (length_answer standalone value) result length.new }
 {
-    let n = compact_u64::len_of_encoding(value);
-    calls::tell_length(Encoded::Length(n), length)
+    *length = compact_u64::len_of_encoding(value);
+    0
 }
 
 // Reads a standalone number.
@@ -146,6 +122,8 @@ pub extern "C" fn jakepuro_standalone_decode(
 ) -> u8
     ensures { Stores (λ v. v) (read_standalone canonic (drop start message.now)) value.old value.new result consumed.new }
 {
-    let number = compact_u64::decode(message, start, canonic);
-    give_number(number, value, consumed)
+    calls::tell(
+        store(compact_u64::decode(message, start, canonic), value),
+        consumed,
+    )
 }

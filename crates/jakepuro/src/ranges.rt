@@ -1,91 +1,94 @@
 // 3d ranges.
-ghost use Rattle.std.specs.Prelude.{drop};
-ghost use Rattle.codec.specs.Format.{length_answer};
+ghost use Rattle.std.specs.Prelude.{◌≡◌, drop};
+ghost use Rattle.codec.specs.Answers.{outcome_of};
+ghost use Rattle.codec.specs.Format.{length_answer, WritesInto};
 ghost use Rattle.range3d_range3d.specs.Records.{against_range, read_against_range};
 ghost use Rattle.flat.specs.RangeRecord.{range_in, range_flat};
-ghost use Rattle.calls.specs.Calls.{Encodes, Told, Stores};
+ghost use Rattle.calls.specs.Calls.{Encodes, Told, Stores, Leaves};
 
-use codec::{Decoded, Encoded};
+use codec::{DecodeError, EncodeError};
+use flat_records::range_record;
+
+fn encode(
+    buffer: &mut [u8],
+    range: &[u8; range_record::SIZE],
+    reference: &[u8; range_record::SIZE],
+) -> Result<usize, EncodeError>
+    ensures { WritesInto (against_range (range_in reference.now)) (range_in range.now) result buffer.old buffer.new }
+{
+    let reference = range_record::load(reference)?;
+    let range = range_record::load(range)?;
+    range3d_range3d_encode::relative_encode(buffer, range, reference)
+}
+
+fn len_of_encoding(
+    range: &[u8; range_record::SIZE],
+    reference: &[u8; range_record::SIZE],
+) -> Result<usize, EncodeError>
+    ensures { outcome_of result ≡ length_answer (against_range (range_in reference.now)) (range_in range.now) }
+{
+    let reference = range_record::load(reference)?;
+    let range = range_record::load(range)?;
+    range3d_range3d_encode::relative_len_of_encoding(range, reference)
+}
+
+fn decode(
+    message: &[u8],
+    start: usize,
+    reference: &[u8; range_record::SIZE],
+    range: &mut [u8; range_record::SIZE],
+) -> Result<usize, DecodeError>
+    ensures { Leaves range_flat (read_against_range (range_in reference.now) (drop start message.now)) range.old range.new result }
+{
+    let reference = range_record::load(reference)?;
+    let mut path_start = [0; path::lent::SIZE];
+    let mut path_end = [0; path::lent::SIZE];
+    let read = range3d_range3d_decode::relative_decode(
+        message,
+        start,
+        reference,
+        &mut path_start,
+        &mut path_end,
+    )?;
+    range_record::store(range, read.value, &path_start, &path_end);
+    Ok(read.consumed)
+}
 
 // Writes a 3d range against a 3d range.
 #[unsafe(no_mangle)]
-pub extern "C" fn jakepuro_range3d_range3d_encode<'a>(
+pub extern "C" fn jakepuro_range3d_range3d_encode(
     buffer: &mut [u8],
-    range: &'a [u8; flat_records::range_record::SIZE],
-    reference: &'a [u8; flat_records::range_record::SIZE],
+    range: &[u8; range_record::SIZE],
+    reference: &[u8; range_record::SIZE],
     written: &mut usize,
 ) -> u8
     ensures { Encodes (against_range (range_in reference.now)) (range_in range.now) buffer.old buffer.new result written.new }
 {
-    let marked = flat_records::range_record::is_marked(reference)
-        && flat_records::range_record::is_marked(range);
-    if !marked {
-        return calls::tell_length(Encoded::Malformed, written);
-    }
-    let answer = range3d_range3d_encode::relative_encode(
-        buffer,
-        flat_records::range_record::head(range),
-        flat_records::range_record::path_start(range),
-        flat_records::range_record::path_end(range),
-        flat_records::range_record::head(reference),
-        flat_records::range_record::path_start(reference),
-        flat_records::range_record::path_end(reference),
-    );
-    calls::tell_length(answer, written)
+    calls::tell(encode(buffer, range, reference), written)
 }
 
 // How many bytes that takes.
 #[unsafe(no_mangle)]
-pub extern "C" fn jakepuro_range3d_range3d_len_of_encoding<'a>(
-    range: &'a [u8; flat_records::range_record::SIZE],
-    reference: &'a [u8; flat_records::range_record::SIZE],
+pub extern "C" fn jakepuro_range3d_range3d_len_of_encoding(
+    range: &[u8; range_record::SIZE],
+    reference: &[u8; range_record::SIZE],
     length: &mut usize,
 ) -> u8
     ensures { Told (length_answer (against_range (range_in reference.now)) (range_in range.now)) result length.new }
 {
-    let marked = flat_records::range_record::is_marked(reference)
-        && flat_records::range_record::is_marked(range);
-    if !marked {
-        return calls::tell_length(Encoded::Malformed, length);
-    }
-    let answer = range3d_range3d_encode::relative_len_of_encoding(
-        flat_records::range_record::head(range),
-        flat_records::range_record::path_start(range),
-        flat_records::range_record::path_end(range),
-        flat_records::range_record::head(reference),
-        flat_records::range_record::path_start(reference),
-        flat_records::range_record::path_end(reference),
-    );
-    calls::tell_length(answer, length)
+    calls::tell(len_of_encoding(range, reference), length)
 }
 
 // Reads a 3d range against a 3d range.
 #[unsafe(no_mangle)]
-pub extern "C" fn jakepuro_range3d_range3d_decode<'a>(
-    message: &'a [u8],
+pub extern "C" fn jakepuro_range3d_range3d_decode(
+    message: &[u8],
     start: usize,
-    reference: &'a [u8; flat_records::range_record::SIZE],
-    range: &mut [u8; flat_records::range_record::SIZE],
+    reference: &[u8; range_record::SIZE],
+    range: &mut [u8; range_record::SIZE],
     consumed: &mut usize,
 ) -> u8
     ensures { Stores range_flat (read_against_range (range_in reference.now) (drop start message.now)) range.old range.new result consumed.new }
 {
-    let marked = flat_records::range_record::is_marked(reference);
-    if !marked {
-        return calls::tell_refusal(Decoded::Malformed, consumed);
-    }
-    let mut path_start = [0u8; path::lent::SIZE];
-    let mut path_end = [0u8; path::lent::SIZE];
-    let read = range3d_range3d_decode::relative_decode(
-        message,
-        start,
-        flat_records::range_record::head(reference),
-        flat_records::range_record::path_start(reference),
-        flat_records::range_record::path_end(reference),
-        &mut path_start,
-        &mut path_end,
-    );
-    let answer = read.answer;
-    let head = read.head;
-    calls::give_range(answer, head, &path_start, &path_end, range, consumed)
+    calls::tell(decode(message, start, reference, range), consumed)
 }

@@ -1,4 +1,4 @@
-use Rattle.codec.proofs.Prelude.{◌≡◌, refl, ◌+◌, ◌-◌, arith, drop, length-take-le}
+use Rattle.codec.proofs.Prelude.{◌+◌, ◌-◌, ◌≡◌, refl, arith, drop, length-take-le}
 use Rattle.path.specs.Flat.{path_size}
 use Rattle.flat.proofs.Parts.{from_room}
 use Rattle.flat_records.proofs.path_at.Goals as goal

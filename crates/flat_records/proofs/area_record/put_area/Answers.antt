@@ -12,5 +12,5 @@ returns c =
     let p = c.args.path.now in
     let h = c.args.head in
     let stored = path_stores p (omega (arith, c.requires)) (λ i. omega (arith, c.type_inv.path i)) ∙ take_all path_size p (omega (arith, c.requires)) in
-    let whole = puts_tail (puts_tail c.put_subspace.ensures c.put_path.ensures) c.put_times.ensures in
+    let whole = puts_tail (puts_tail c.put_optional_id.ensures c.put_path.ensures) c.put_times.ensures in
     puts_as whole (append_assoc (subspace_flat h.subspace) p (times_flat h.times) ∙ ap (λ (l : List ℕ). subspace_flat h.subspace ++ (l ++ times_flat h.times)) (sym stored))
