@@ -1,91 +1,78 @@
-// Case lines of entries against a namespace and an area: docs/CASES.md. A line is answered where MAX_ANSWER bytes are free; elsewhere nothing changes.
+// Case lines of entries against a namespace and an area: docs/CASES.md.
 
 #![tactic(auto)]
 
-ghost use Rattle.std.specs.Prelude.{length};
-ghost use Rattle.entry_area.specs.Records.{against_namespace_area};
-ghost use Rattle.case_text.specs.Limits.{max_answer};
-ghost use Rattle.case_text.specs.Texts.{ended};
-ghost use Rattle.case_text.specs.inside.Values.{value_text};
-ghost use Rattle.case_text.specs.Answers.{PutsWithin};
-ghost use Rattle.case_text.specs.Asking.{OutputInside};
-ghost use Rattle.area_text.specs.AreaText.{field_area};
-ghost use Rattle.case_entry_text.specs.Fields.{entry_field};
+ghost use Rattle.std.specs.Prelude.{◌≡◌, drop};
+ghost use Rattle.grouping.specs.Record.{area_lent};
+ghost use Rattle.entry_area.specs.Records.{read_against_namespace_area};
+ghost use Rattle.case_entry_text.specs.Fields.{entry_text};
+ghost use Rattle.case_text.specs.Texts.{read_text};
+ghost use Rattle.case_text.specs.Fields.{on_field};
+ghost use Rattle.case_text.specs.Answers.{answer_text};
 ghost use Rattle.case_entries.specs.Lines.{entry_line};
 
-use area_text::AreaField;
-use case_text::{Asked, MAX_BYTES, Output, fields, put};
+use case_text::{Answer, Asked, Bytes, fields};
+use entry::Entry;
+use grouping::Area;
 
-// Writes or measures the entry from the eighth field on.
-fn write(
-    line: &[u8],
-    out: &mut [u8],
-    at: usize,
+// Reads an entry from a message, and prints it.
+fn read<'a>(
+    message: &[u8],
+    start: usize,
+    canonic: bool,
     namespace: [u8; 32],
-    area: AreaField,
-    output: Output,
-    mut buffer: [u8; MAX_BYTES],
-) -> usize
-    requires { OutputInside (length buffer) output }
-    ensures { PutsWithin max_answer at (ended (entry_field 7 line.now (value_text (against_namespace_area namespace (field_area area)) output buffer))) out.old out.new result }
+    reference: Area<'a>,
+) -> Answer
+    ensures { answer_text result ≡ read_text entry_text (read_against_namespace_area canonic namespace (area_lent reference.entry) (drop start message.now)) }
 {
-    let value = case_entry_text::read_entry(line, 7);
-    if !value.ok {
-        return put::refuse(out, at);
+    let mut path = [0u8; path::lent::SIZE];
+    match entry_area_decode::relative_decode(
+        message, start, canonic, namespace, reference, &mut path,
+    ) {
+        Ok(read) => Answer::Read {
+            consumed: read.consumed,
+            text: case_entry_text::print_entry(Entry {
+                fields: read.value,
+                path: &path,
+            }),
+        },
+        Err(error) => Answer::NotRead(error),
     }
-    let answer = match output {
-        Output::Buffer(n) => entry_area_encode::relative_encode(
-            &mut buffer[..n],
-            value.fields,
-            &value.path.flat,
-            namespace,
-            area.head,
-            &area.path.flat,
-        ),
-        Output::Length => entry_area_encode::relative_len_of_encoding(
-            value.fields,
-            &value.path.flat,
-            namespace,
-            area.head,
-            &area.path.flat,
-        ),
-    };
-    put::output(out, at, output, answer, &buffer)
 }
 
 // Answers a line of an entry against a namespace and an area, which stand before the other fields.
-pub fn entry(line: &[u8], out: &mut [u8], at: usize) -> usize
-    ensures { PutsWithin max_answer at (ended (entry_line line.now)) out.old out.new result }
+pub fn entry(line: &[u8]) -> Option<Answer>
+    ensures { on_field result answer_text ≡ entry_line line.now }
 {
-    let first = text::ids::read_id(text::part(line, b'\t', 2));
-    if !first.ok {
-        return put::refuse(out, at);
-    }
-    let area = area_text::read_area(line, 3);
-    if !area.ok {
-        return put::refuse(out, at);
-    }
-    let namespace = first.id;
-    let mut bytes = [0u8; MAX_BYTES];
-    let asked = fields::asked(line, 7, 13, &mut bytes);
-    match asked {
-        Asked::Read(canonic, s, n) => {
-            let mut path = [0u8; path::lent::SIZE];
-            let read = entry_area_decode::relative_decode(
-                &bytes[..n],
-                s,
-                canonic,
+    let namespace = fields::id(line, 2)?;
+    let reference = area_text::read_area(line, 3)?;
+    let area = reference.area();
+    Some(match fields::asked(line, 7, 13)? {
+        Asked::Read {
+            canonic,
+            start,
+            message,
+        } => read(message.as_slice(), start, canonic, namespace, area),
+        Asked::Write(lent) => {
+            let entry = case_entry_text::read_entry(line, 7)?;
+            let len = lent.len;
+            let mut bytes = lent.bytes;
+            let outcome = entry_area_encode::relative_encode(
+                &mut bytes[..len],
+                entry.entry(),
                 namespace,
-                area.head,
-                &area.path.flat,
-                &mut path,
+                area,
             );
-            let mut text = [0u8; MAX_BYTES];
-            let k = case_entry_text::print_entry(read.fields, &path, &mut text);
-            let answer = read.answer;
-            put::value(out, at, answer, &text, k)
+            let lent = Bytes { bytes, len };
+            Answer::Written { outcome, lent }
         }
-        Asked::Value(output) => write(line, out, at, namespace, area, output, bytes),
-        Asked::Refused => put::refuse(out, at),
-    }
+        Asked::Length => {
+            let entry = case_entry_text::read_entry(line, 7)?;
+            Answer::Length(entry_area_encode::relative_len_of_encoding(
+                entry.entry(),
+                namespace,
+                area,
+            ))
+        }
+    })
 }

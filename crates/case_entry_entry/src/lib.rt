@@ -1,83 +1,70 @@
-// Case lines of entries against an entry: docs/CASES.md. A line is answered where MAX_ANSWER bytes are free; elsewhere nothing changes.
+// Case lines of entries against an entry: docs/CASES.md.
 
 #![tactic(auto)]
 
-ghost use Rattle.std.specs.Prelude.{length};
-ghost use Rattle.entry_entry.specs.Records.{against_entry};
-ghost use Rattle.case_text.specs.Limits.{max_answer};
-ghost use Rattle.case_text.specs.Texts.{ended};
-ghost use Rattle.case_text.specs.inside.Values.{value_text};
-ghost use Rattle.case_text.specs.Answers.{PutsWithin};
-ghost use Rattle.case_text.specs.Asking.{OutputInside};
-ghost use Rattle.case_entry_text.specs.Fields.{entry_field, field_entry};
+ghost use Rattle.std.specs.Prelude.{◌≡◌, drop};
+ghost use Rattle.entry.specs.Record.{entry_lent};
+ghost use Rattle.entry_entry.specs.Records.{read_against_entry};
+ghost use Rattle.case_entry_text.specs.Fields.{entry_text};
+ghost use Rattle.case_text.specs.Texts.{read_text};
+ghost use Rattle.case_text.specs.Fields.{on_field};
+ghost use Rattle.case_text.specs.Answers.{answer_text};
 ghost use Rattle.case_entry_entry.specs.Lines.{entry_entry_line};
 
-use case_entry_text::EntryField;
-use case_text::{Asked, MAX_BYTES, Output, fields, put};
+use case_text::{Answer, Asked, Bytes, fields};
+use entry::Entry;
 
-// Writes or measures the entry from the ninth field on.
-fn write(
-    line: &[u8],
-    out: &mut [u8],
-    at: usize,
-    reference: EntryField,
-    output: Output,
-    mut buffer: [u8; MAX_BYTES],
-) -> usize
-    requires { OutputInside (length buffer) output }
-    ensures { PutsWithin max_answer at (ended (entry_field 8 line.now (value_text (against_entry (field_entry reference)) output buffer))) out.old out.new result }
+// Reads an entry from a message, and prints it.
+fn read<'a>(message: &[u8], start: usize, reference: Entry<'a>) -> Answer
+    ensures { answer_text result ≡ read_text entry_text (read_against_entry (entry_lent reference.entry) (drop start message.now)) }
 {
-    let value = case_entry_text::read_entry(line, 8);
-    if !value.ok {
-        return put::refuse(out, at);
+    let mut path = [0u8; path::lent::SIZE];
+    match entry_entry_decode::relative_decode(message, start, reference, &mut path) {
+        Ok(read) => Answer::Read {
+            consumed: read.consumed,
+            text: case_entry_text::print_entry(Entry {
+                fields: read.value,
+                path: &path,
+            }),
+        },
+        Err(error) => Answer::NotRead(error),
     }
-    let answer = match output {
-        Output::Buffer(n) => entry_entry_encode::relative_encode(
-            &mut buffer[..n],
-            value.fields,
-            &value.path.flat,
-            reference.fields,
-            &reference.path.flat,
-        ),
-        Output::Length => entry_entry_encode::relative_len_of_encoding(
-            value.fields,
-            &value.path.flat,
-            reference.fields,
-            &reference.path.flat,
-        ),
-    };
-    put::output(out, at, output, answer, &buffer)
 }
 
 // Answers a line of an entry against a reference, which stands before the other fields. No strict reading is asked for.
-pub fn entry(line: &[u8], out: &mut [u8], at: usize) -> usize
-    ensures { PutsWithin max_answer at (ended (entry_entry_line line.now)) out.old out.new result }
+pub fn entry(line: &[u8]) -> Option<Answer>
+    ensures { on_field result answer_text ≡ entry_entry_line line.now }
 {
-    let reference = case_entry_text::read_entry(line, 2);
-    if !reference.ok {
-        return put::refuse(out, at);
-    }
-    let mut bytes = [0u8; MAX_BYTES];
-    let asked = fields::asked(line, 8, 14, &mut bytes);
-    match asked {
-        Asked::Read(canonic, s, n) => {
+    let reference = case_entry_text::read_entry(line, 2)?;
+    Some(match fields::asked(line, 8, 14)? {
+        Asked::Read {
+            canonic,
+            start,
+            message,
+        } => {
             if canonic {
-                return put::refuse(out, at);
+                return None;
             }
-            let mut path = [0u8; path::lent::SIZE];
-            let read = entry_entry_decode::relative_decode(
-                &bytes[..n],
-                s,
-                reference.fields,
-                &reference.path.flat,
-                &mut path,
-            );
-            let mut text = [0u8; MAX_BYTES];
-            let k = case_entry_text::print_entry(read.fields, &path, &mut text);
-            let answer = read.answer;
-            put::value(out, at, answer, &text, k)
+            read(message.as_slice(), start, reference.entry())
         }
-        Asked::Value(output) => write(line, out, at, reference, output, bytes),
-        Asked::Refused => put::refuse(out, at),
-    }
+        Asked::Write(lent) => {
+            let entry = case_entry_text::read_entry(line, 8)?;
+            let len = lent.len;
+            let mut bytes = lent.bytes;
+            let outcome = entry_entry_encode::relative_encode(
+                &mut bytes[..len],
+                entry.entry(),
+                reference.entry(),
+            );
+            let lent = Bytes { bytes, len };
+            Answer::Written { outcome, lent }
+        }
+        Asked::Length => {
+            let entry = case_entry_text::read_entry(line, 8)?;
+            Answer::Length(entry_entry_encode::relative_len_of_encoding(
+                entry.entry(),
+                reference.entry(),
+            ))
+        }
+    })
 }

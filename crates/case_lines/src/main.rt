@@ -2,10 +2,10 @@
 
 #![tactic(auto)]
 
-use line_program::Program;
+use line_program::programs::CaseLines;
 
 fn main(rt: HostRuntime) {
     let mut buf = [0u8; 65536];
     let mut out = [0u8; 65536];
-    line_program::run(rt, Program::CaseLines, &mut buf, &mut out);
+    line_program::run::<CaseLines>(rt, &mut buf, &mut out);
 }

@@ -1,33 +1,35 @@
--- The width of a tag, which was told from its field.
-use Rattle.codec.proofs.Prelude.{◌≡◌, refl, sym, List, [], ◌∷◌, Bool, true, false, ◌&&◌, ℕ, arith, length, get_or}
+-- The width that a digit names.
+use Rattle.std.proofs.Common.{◌≡◌, refl, sym, List, [], ◌∷◌, ℕ, ◌-◌, ◌≤◌, arith, length, get_or, Some, None, Result, Ok, Err}
+use Rattle.std.specs.Option.{option_map}
+use Rattle.std.specs.Result.{result_ok}
+use Rattle.std.proofs.lemmas.Bool.Decides.{nat_tests}
+use Rattle.codec.specs.declared.Malformed.{Malformed}
 use Rattle.compact_u64.specs.declared.TagWidth.{TagWidth}
-use Rattle.compact_u64.specs.Answers.{bits}
-use Rattle.text.specs.Parts.{part_at}
-use Rattle.case_text.specs.Texts.{six}
-use Rattle.case_numbers.specs.declared.WidthField.{WidthField}
-use Rattle.case_numbers.specs.declared.WidthField.TheVariants as width
-use Rattle.case_numbers.specs.Lines.{on_width}
-use Rattle.case_numbers.specs.inside.Numbers.{on_width_field}
+use Rattle.compact_u64.specs.declared.TagWidth.TheVariants as width
+use Rattle.compact_u64.specs.Answers.{bits, HasBits}
+use Rattle.case_numbers.specs.Lines.{width_of}
 
--- a field of one byte is that byte; no other names a width
-pub width_single : (f : List ℕ) → length f ≡ 1 → get_or f 0 0 ∷ [] ≡ f
-width_single [] h = absurd (omega arith)
-width_single (b ∷ []) h = refl
-width_single (b ∷ d ∷ f) h = absurd (omega arith)
+pub width_digit : (f : List ℕ) (n : ℕ) → length f ≡ 1 → n ≡ get_or f 0 0 - 48 → 2 ≤ n → n ≤ 8 → width_of f ≡ Some n
+unfolding width_of
+width_digit [] n h e l u = absurd (omega arith)
+width_digit (b ∷ []) n h e l u = grind (arith, nat_tests)
+width_digit (b ∷ a ∷ f) n h e l u = absurd (omega arith)
 
-and_false : (x : Bool) → (x && false) ≡ false
-and_false true = refl
-and_false false = refl
+pub width_none : (f : List ℕ) → (length f ≡ 1 → 50 ≤ get_or f 0 0 → get_or f 0 0 ≤ 56 → ⊥) → width_of f ≡ None
+unfolding width_of
+width_none [] other = refl
+width_none (b ∷ []) other = let k : 50 ≤ b → b ≤ 56 → ⊥ = other refl in grind (arith, nat_tests)
+width_none (b ∷ a ∷ f) other = grind (arith, nat_tests)
 
-pub width_long : (f : List ℕ) → (length f ≡ 1 → ⊥) → (k : ℕ → List ℕ) → six ≡ on_width f k
-unfolding on_width
-width_long [] h k = refl
-width_long (b ∷ []) h k = absurd (h refl)
-width_long (b ∷ d ∷ f) h k = simp and_false
+bits_few : (w : TagWidth) → (2 ≤ bits w) × (bits w ≤ 8)
+bits_few width.Two = (omega arith, omega arith)
+bits_few width.Three = (omega arith, omega arith)
+bits_few width.Four = (omega arith, omega arith)
+bits_few width.Five = (omega arith, omega arith)
+bits_few width.Six = (omega arith, omega arith)
+bits_few width.Seven = (omega arith, omega arith)
+bits_few width.Eight = (omega arith, omega arith)
 
-module _ (line : List ℕ) {s : List ℕ} {r : WidthField} (part : s ≡ part_at 9 2 line) (told : (k : ℕ → List ℕ) → on_width_field r k ≡ on_width s k) where
-  pub width_refused : r ≡ width.Refused → (k : ℕ → List ℕ) → on_width (part_at 9 2 line) k ≡ six
-  width_refused e k = rw (← part) (rw e at (sym (told k)))
-
-  pub width_is : {w : TagWidth} → r ≡ width.Width w → (k : ℕ → List ℕ) → on_width (part_at 9 2 line) k ≡ k (bits w)
-  width_is e k = rw (← part) (rw e at (sym (told k)))
+pub width_named : (f : List ℕ) (n : ℕ) (r : Result TagWidth Malformed) → length f ≡ 1 → 48 ≤ get_or f 0 0 → n ≡ get_or f 0 0 - 48 → HasBits n r → option_map bits (result_ok r) ≡ width_of f
+width_named f n (Ok w) h b e x = let few = bits_few w in rw x (sym (width_digit f n h e (omega (arith, x)) (omega (arith, x))))
+width_named f n (Err z) h b e x = sym (width_none f (λ one l u. x (omega arith, omega arith)))

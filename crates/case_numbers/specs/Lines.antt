@@ -1,56 +1,35 @@
 -- Case lines of compact numbers: docs/CASES.md.
-use Rattle.std.specs.Prelude.{List, Bool, true, false, cond, ℕ, ◌^◌, ltb, length, drop}
+use Rattle.std.specs.Prelude.{List, cond, ℕ, ◌^◌, ltb, length, drop, Option, Some, None}
 use Rattle.codec.specs.Format.{allowed, put_answer, put_buffer}
 use Rattle.compact_u64.specs.Number.{min_tag, number_bytes, read_number, read_standalone, standalone}
 use Rattle.codec.specs.Bytes.{same_bytes}
 use Rattle.text.specs.Decimal.{decimal_text}
-use Rattle.case_text.specs.declared.Op.{Op}
-use Rattle.case_text.specs.declared.Op.TheVariants as op
 use Rattle.case_text.specs.Texts.{six, ok_text, read_text, written_number_text}
-use Rattle.case_text.specs.Fields.{field, exactly, decimal_field, hex_field, message_field, op_of}
+use Rattle.case_text.specs.Fields.{field, decimal_field, on_field}
+use Rattle.case_text.specs.Asking.{Request, read, write, measure, asking}
 use Rattle.case_text.specs.Records.{record_line}
 use Rattle.text.specs.Ascii.{ascii}
 
--- ---- numbers after a tag of w bits; the tag stands before the start
-abbrev pub read_number_line : ℕ → Bool → List ℕ → List ℕ
-read_number_line w canonic line =
-    decimal_field 3 line (λ tag.
-    cond (ltb tag (2 ^ w)) (
-    message_field 4 line (λ start message.
-    read_text decimal_text (read_number canonic w tag (drop start message))))
-    six)
+-- the width of a tag
+unfoldable pub width_of : List ℕ → Option ℕ
+width_of f =
+    cond (same_bytes f (ascii "2")) (Some 2)
+    (cond (same_bytes f (ascii "3")) (Some 3)
+    (cond (same_bytes f (ascii "4")) (Some 4)
+    (cond (same_bytes f (ascii "5")) (Some 5)
+    (cond (same_bytes f (ascii "6")) (Some 6)
+    (cond (same_bytes f (ascii "7")) (Some 7)
+    (cond (same_bytes f (ascii "8")) (Some 8) None))))))
 
-abbrev pub write_number_line : ℕ → List ℕ → List ℕ
-write_number_line w line =
-    exactly 5 line (
-    decimal_field 3 line (λ v.
-    hex_field 4 line (λ lent.
-    written_number_text (put_answer allowed (number_bytes w v) (length lent)) (min_tag w v) (put_buffer allowed (number_bytes w v) lent))))
-
-abbrev pub length_number_line : ℕ → List ℕ → List ℕ
-length_number_line w line = exactly 4 line (decimal_field 3 line (λ v. ok_text (length (number_bytes w v))))
-
-abbrev pub number_line : ℕ → Op → List ℕ → List ℕ
-number_line w op.Strict line = read_number_line w true line
-number_line w op.Lenient line = read_number_line w false line
-number_line w op.Write line = write_number_line w line
-number_line w op.Length line = length_number_line w line
-number_line w op.Unknown line = six
-
--- the width in the third field
-unfoldable pub on_width : List ℕ → (ℕ → List ℕ) → List ℕ
-on_width f k =
-    cond (same_bytes f (ascii "2")) (k 2)
-    (cond (same_bytes f (ascii "3")) (k 3)
-    (cond (same_bytes f (ascii "4")) (k 4)
-    (cond (same_bytes f (ascii "5")) (k 5)
-    (cond (same_bytes f (ascii "6")) (k 6)
-    (cond (same_bytes f (ascii "7")) (k 7)
-    (cond (same_bytes f (ascii "8")) (k 8) six))))))
+-- ---- numbers after a tag of w bits: what was asked for, v being the tag of a number that is read, else the number itself
+abbrev pub number_text : ℕ → ℕ → Request → List ℕ
+number_text w v (read canonic start message) = cond (ltb v (2 ^ w)) (read_text decimal_text (read_number canonic w v (drop start message))) six
+number_text w v (write lent) = written_number_text (put_answer allowed (number_bytes w v) (length lent)) (min_tag w v) (put_buffer allowed (number_bytes w v) lent)
+number_text w v measure = ok_text (length (number_bytes w v))
 
 -- ---- the two kinds
 abbrev pub tagged_line : List ℕ → List ℕ
-tagged_line line = on_width (field 2 line) (λ w. number_line w (op_of (field 1 line)) line)
+tagged_line line = on_field (width_of (field 2 line)) (λ w. on_field (decimal_field 3 line) (λ v. on_field (asking 4 4 line) (number_text w v)))
 
 abbrev pub standalone_line : List ℕ → List ℕ
-standalone_line line = record_line decimal_field decimal_text read_standalone standalone 2 3 (op_of (field 1 line)) line
+standalone_line line = record_line decimal_field decimal_text read_standalone standalone 2 3 line

@@ -1,161 +1,107 @@
-// Case lines of compact numbers: docs/CASES.md. A line is answered where MAX_ANSWER bytes are free; elsewhere nothing changes.
+// Case lines of compact numbers: docs/CASES.md.
 
 #![tactic(auto)]
 
-ghost use Rattle.std.specs.Prelude.{◌≡◌, List, [], ◌∷◌, ℕ, ◌≤◌, ◌^◌, length};
-ghost use Rattle.compact_u64.specs.Number.{standalone};
+ghost use Rattle.std.specs.Prelude.{◌≡◌, length, option_map};
+ghost use Rattle.codec.specs.Answers.{answer_of};
+ghost use Rattle.codec.specs.Format.{allowed, put_answer, put_buffer};
 ghost use Rattle.compact_u64.specs.Answers.{bits};
-ghost use Rattle.case_text.specs.Limits.{max_answer};
-ghost use Rattle.case_text.specs.Texts.{ended};
-ghost use Rattle.case_text.specs.Fields.{decimal_field};
-ghost use Rattle.case_text.specs.inside.Values.{value_text};
-ghost use Rattle.case_text.specs.Answers.{PutsWithin};
-ghost use Rattle.case_text.specs.Asking.{OutputInside};
-ghost use Rattle.case_numbers.specs.Lines.{on_width, tagged_line, standalone_line};
-ghost use Rattle.case_numbers.specs.inside.Numbers.{number_text, on_width_field};
+ghost use Rattle.compact_u64.specs.Number.{min_tag, number_bytes};
+ghost use Rattle.text.specs.Decimal.{decimal_text};
+ghost use Rattle.case_text.specs.Texts.{read_text, written_number_text};
+ghost use Rattle.case_text.specs.Bytes.{bytes_of};
+ghost use Rattle.case_text.specs.Fields.{on_field};
+ghost use Rattle.case_text.specs.Answers.{answer_text};
+ghost use Rattle.case_numbers.specs.Lines.{width_of, tagged_line, standalone_line};
 
-use case_text::{Asked, MAX_BYTES, Output, fields, put};
-use codec::Encoded;
+use case_text::{Answer, Asked, Bytes, fields};
 use compact_u64::TagWidth;
-use decimal::Decimal;
 
 // The width of a number's tag.
-#[derive(Clone, Copy)]
-enum WidthField {
-    Width(TagWidth),
-    Refused,
-}
-
-fn width_named(digit: u8) -> WidthField
-    ensures { (k : ℕ → List ℕ) → on_width_field result k ≡ on_width (digit ∷ []) k }
+#[tactic(auto, using(crate::proofs::Widths::width_none))]
+fn width(field: &[u8]) -> Option<TagWidth>
+    ensures { option_map bits result ≡ width_of field.now }
 {
-    match digit {
-        b'2' => WidthField::Width(TagWidth::Two),
-        b'3' => WidthField::Width(TagWidth::Three),
-        b'4' => WidthField::Width(TagWidth::Four),
-        b'5' => WidthField::Width(TagWidth::Five),
-        b'6' => WidthField::Width(TagWidth::Six),
-        b'7' => WidthField::Width(TagWidth::Seven),
-        b'8' => WidthField::Width(TagWidth::Eight),
-        _ => WidthField::Refused,
+    match field {
+        [digit] => TagWidth::try_from(digit.checked_sub(b'0')?).ok(),
+        _ => None,
     }
 }
 
-fn width(field: &[u8]) -> WidthField
-    ensures { (k : ℕ → List ℕ) → on_width_field result k ≡ on_width field.now k }
+// Writes a number into a lent buffer; its tag is told too.
+fn write(lent: Bytes, width: TagWidth, value: u64) -> Answer
+    ensures { answer_text result ≡ written_number_text (put_answer allowed (number_bytes (bits width) value) (length (bytes_of lent))) (min_tag (bits width) value) (put_buffer allowed (number_bytes (bits width) value) (bytes_of lent)) }
 {
-    if field.len() != 1 {
-        return WidthField::Refused;
-    }
-    width_named(field[0])
-}
-
-// Every tag of this width is below it.
-fn tag_limit(width: TagWidth) -> u64
-    ensures { (result ≡ 2 ^ bits width) × (result ≤ 256) }
-{
-    match width {
-        TagWidth::Two => 4,
-        TagWidth::Three => 8,
-        TagWidth::Four => 16,
-        TagWidth::Five => 32,
-        TagWidth::Six => 64,
-        TagWidth::Seven => 128,
-        TagWidth::Eight => 256,
-    }
-}
-
-// Writes or measures a number after its tag.
-fn write_number(
-    out: &mut [u8],
-    at: usize,
-    width: TagWidth,
-    v: u64,
-    output: Output,
-    mut buffer: [u8; MAX_BYTES],
-) -> usize
-    requires { OutputInside (length buffer) output }
-    ensures { PutsWithin max_answer at (ended (number_text (bits width) output buffer v)) out.old out.new result }
-{
-    match output {
-        Output::Buffer(n) => {
-            let answer = compact_u64::relative_encode(&mut buffer[..n], width, v);
-            let tag = compact_u64::min_tag(width, v);
-            put::written_number(out, at, answer, tag, &buffer, n)
-        }
-        Output::Length => put::length(
-            out,
-            at,
-            Encoded::Length(compact_u64::relative_len_of_encoding(width, v)),
-        ),
+    let len = lent.len;
+    let mut bytes = lent.bytes;
+    let outcome = compact_u64::relative_encode(&mut bytes[..len], width, value);
+    let lent = Bytes { bytes, len };
+    match outcome {
+        Ok(len) => Answer::WrittenNumber {
+            len,
+            tag: compact_u64::min_tag(width, value),
+            lent,
+        },
+        Err(_) => Answer::Written { outcome, lent },
     }
 }
 
 // Answers a line of a number after its tag. The tag stands where a number to write or measure does.
-pub fn number(line: &[u8], out: &mut [u8], at: usize) -> usize
-    ensures { PutsWithin max_answer at (ended (tagged_line line.now)) out.old out.new result }
+pub fn number(line: &[u8]) -> Option<Answer>
+    ensures { on_field result answer_text ≡ tagged_line line.now }
 {
-    let field = width(text::part(line, b'\t', 2));
-    let WidthField::Width(width) = field else {
-        return put::refuse(out, at);
-    };
-    let value = decimal::read_decimal(text::part(line, b'\t', 3));
-    let Decimal::Value(v) = value else {
-        return put::refuse(out, at);
-    };
-    let mut bytes = [0u8; MAX_BYTES];
-    let asked = fields::asked(line, 4, 4, &mut bytes);
-    match asked {
-        Asked::Read(canonic, s, n) => {
-            if tag_limit(width) <= v {
-                return put::refuse(out, at);
+    let width = width(fields::part(line, 2))?;
+    let value = fields::number(line, 3)?;
+    match fields::asked(line, 4, 4)? {
+        Asked::Read {
+            canonic,
+            start,
+            message,
+        } => {
+            if width.tag_limit() <= value {
+                return None;
             }
-            put::number(
-                out,
-                at,
-                compact_u64::relative_decode(&bytes[..n], s, width, v as u8, canonic),
-            )
+            let message = message.as_slice();
+            Some(compact_u64::relative_decode(
+                message,
+                start,
+                width,
+                value as u8,
+                canonic,
+            ).map_or_else(Answer::NotRead, Answer::Number))
         }
-        Asked::Value(output) => write_number(out, at, width, v, output, bytes),
-        Asked::Refused => put::refuse(out, at),
+        Asked::Write(lent) => Some(write(lent, width, value)),
+        Asked::Length => Some(Answer::Length(Ok(compact_u64::relative_len_of_encoding(
+            width, value,
+        )))),
     }
-}
-
-// Writes or measures the number in the third field.
-fn write_standalone(
-    line: &[u8],
-    out: &mut [u8],
-    at: usize,
-    output: Output,
-    mut buffer: [u8; MAX_BYTES],
-) -> usize
-    requires { OutputInside (length buffer) output }
-    ensures { PutsWithin max_answer at (ended (decimal_field 2 line.now (value_text standalone output buffer))) out.old out.new result }
-{
-    let value = decimal::read_decimal(text::part(line, b'\t', 2));
-    let Decimal::Value(v) = value else {
-        return put::refuse(out, at);
-    };
-    let answer = match output {
-        Output::Buffer(n) => compact_u64::encode(&mut buffer[..n], v),
-        Output::Length => Encoded::Length(compact_u64::len_of_encoding(v)),
-    };
-    put::output(out, at, output, answer, &buffer)
 }
 
 // Answers a line of a number that stands alone.
-pub fn standalone(line: &[u8], out: &mut [u8], at: usize) -> usize
-    ensures { PutsWithin max_answer at (ended (standalone_line line.now)) out.old out.new result }
+#[tactic(auto, unfolding(codec::specs::Format::length_answer))]
+pub fn standalone(line: &[u8]) -> Option<Answer>
+    ensures { on_field result answer_text ≡ standalone_line line.now }
 {
-    let mut bytes = [0u8; MAX_BYTES];
-    let asked = fields::asked(line, 2, 3, &mut bytes);
-    match asked {
-        Asked::Read(canonic, s, n) => put::number(
-            out,
-            at,
-            compact_u64::decode(&bytes[..n], s, canonic),
+    Some(match fields::asked(line, 2, 3)? {
+        Asked::Read {
+            canonic,
+            start,
+            message,
+        } => compact_u64::decode(message.as_slice(), start, canonic).map_or_else(
+            Answer::NotRead,
+            Answer::Number,
         ),
-        Asked::Value(output) => write_standalone(line, out, at, output, bytes),
-        Asked::Refused => put::refuse(out, at),
-    }
+        Asked::Write(lent) => {
+            let len = lent.len;
+            let mut bytes = lent.bytes;
+            let value = fields::number(line, 2)?;
+            let outcome = compact_u64::encode(&mut bytes[..len], value);
+            let lent = Bytes { bytes, len };
+            Answer::Written { outcome, lent }
+        }
+        Asked::Length => {
+            let value = fields::number(line, 2)?;
+            Answer::Length(Ok(compact_u64::len_of_encoding(value)))
+        }
+    })
 }

@@ -1,25 +1,22 @@
-// Case lines of paths: docs/CASES.md. A line is answered where MAX_ANSWER bytes are free; elsewhere nothing changes.
+// Case lines of paths: docs/CASES.md.
 
 #![tactic(auto)]
 
-ghost use Rattle.std.specs.Prelude.{◌≡◌, [], ◌≤◌, length, take, drop};
+ghost use Rattle.std.specs.Prelude.{◌≡◌, [], ◌≤◌, drop};
 ghost use Rattle.codec.specs.Answers.{outcome_of, Gives};
 ghost use Rattle.codec.specs.Format.{length_answer, WritesInto};
 ghost use Rattle.path.specs.Record.{path_from};
 ghost use Rattle.path.specs.Flat.{path_in};
 ghost use Rattle.path_text.specs.PathText.{path_text_of};
-ghost use Rattle.case_text.specs.Limits.{max_answer};
-ghost use Rattle.case_text.specs.Texts.{ended};
-ghost use Rattle.case_text.specs.Fields.{path_field};
-ghost use Rattle.case_text.specs.inside.Values.{value_text};
-ghost use Rattle.case_text.specs.Answers.{PutsWithin};
-ghost use Rattle.case_text.specs.Asking.{OutputInside};
+ghost use Rattle.case_text.specs.Bytes.{bytes_of};
+ghost use Rattle.case_text.specs.Texts.{read_text};
+ghost use Rattle.case_text.specs.Fields.{on_field};
+ghost use Rattle.case_text.specs.Answers.{answer_text};
 ghost use Rattle.case_paths.specs.Lines.{encoding_reader, encoding_format, encoding_line, plain_line, relative_line};
 
-use case_text::{Asked, MAX_BYTES, Output, fields, put};
-use codec::{Decoded, Encoded};
+use case_text::{Answer, Asked, Bytes, MAX_BYTES, fields};
+use codec::{DecodeError, EncodeError};
 use path::Path;
-use path_text::Found;
 
 pub mod raw;
 
@@ -31,13 +28,6 @@ pub enum Encoding {
     Extends,
 }
 
-// The lengths of a path record; all zero where the field is not in its form.
-#[derive(Clone, Copy)]
-pub struct Lengths {
-    pub ok: bool,
-    pub lengths: [usize; Path::MAX_COMPONENT_COUNT],
-}
-
 fn decode(
     encoding: Encoding,
     message: &[u8],
@@ -45,7 +35,7 @@ fn decode(
     canonic: bool,
     reference: &[u8],
     out: &mut [u8; path::lent::SIZE],
-) -> Decoded
+) -> Result<usize, DecodeError>
     ensures { Gives (path_from []) result (path_in out.new) (encoding_reader encoding (path_in reference.now) canonic (drop start message.now)) }
 {
     match encoding {
@@ -59,7 +49,12 @@ fn decode(
     }
 }
 
-fn encode<'a>(encoding: Encoding, buffer: &mut [u8], path: &'a [u8], reference: &'a [u8]) -> Encoded
+fn encode(
+    encoding: Encoding,
+    buffer: &mut [u8],
+    path: &[u8],
+    reference: &[u8],
+) -> Result<usize, EncodeError>
     ensures { WritesInto (encoding_format encoding (path_in reference.now)) (path_in path.now) result buffer.old buffer.new }
 {
     match encoding {
@@ -71,7 +66,7 @@ fn encode<'a>(encoding: Encoding, buffer: &mut [u8], path: &'a [u8], reference: 
     }
 }
 
-fn len_of_encoding<'a>(encoding: Encoding, path: &'a [u8], reference: &'a [u8]) -> Encoded
+fn len_of_encoding(encoding: Encoding, path: &[u8], reference: &[u8]) -> Result<usize, EncodeError>
     ensures { outcome_of result ≡ length_answer (encoding_format encoding (path_in reference.now)) (path_in path.now) }
 {
     match encoding {
@@ -81,90 +76,72 @@ fn len_of_encoding<'a>(encoding: Encoding, path: &'a [u8], reference: &'a [u8]) 
     }
 }
 
-// Prints a path from the text's first byte on.
-fn print(path: &[u8; path::lent::SIZE], text: &mut [u8; MAX_BYTES]) -> usize
-    ensures { take result text.new ≡ path_text_of (path_in path.now) }
-{
-    path_text::put_path(text, 0, path)
-}
-
-// Writes or measures the path in the i-th field.
-fn write(
-    line: &[u8],
-    out: &mut [u8],
-    at: usize,
-    encoding: Encoding,
-    i: u8,
-    reference: Path,
-    output: Output,
-    mut buffer: [u8; MAX_BYTES],
-) -> usize
-    requires { OutputInside (length buffer) output }
-    ensures { PutsWithin max_answer at (ended (path_field i line.now (value_text (encoding_format encoding (path_in reference.flat)) output buffer))) out.old out.new result }
-{
-    let field = fields::path(line, i as usize);
-    let found = field.found;
-    let Found::Read = found else {
-        return put::refuse(out, at);
-    };
-    let path = field.path;
-    let answer = match output {
-        Output::Buffer(n) => encode(encoding, &mut buffer[..n], &path.flat, &reference.flat),
-        Output::Length => len_of_encoding(encoding, &path.flat, &reference.flat),
-    };
-    put::output(out, at, output, answer, &buffer)
-}
-
-fn answer(
-    line: &[u8],
-    out: &mut [u8],
-    at: usize,
-    encoding: Encoding,
-    i: u8,
-    reference: Path,
-) -> usize
-    requires { i ≤ 3 }
-    ensures { PutsWithin max_answer at (ended (encoding_line encoding (path_in reference.flat) i line.now)) out.old out.new result }
+// Prints a path.
+fn print(path: &[u8]) -> Bytes
+    ensures { bytes_of result ≡ path_text_of (path_in path.now) }
 {
     let mut bytes = [0u8; MAX_BYTES];
-    let asked = fields::asked(line, i, i + 1, &mut bytes);
-    match asked {
-        Asked::Read(canonic, s, n) => {
-            let mut path = [0u8; path::lent::SIZE];
-            let answer = decode(
-                encoding,
-                &bytes[..n],
-                s,
-                canonic,
-                &reference.flat,
-                &mut path,
-            );
-            let mut text = [0u8; MAX_BYTES];
-            let k = print(&path, &mut text);
-            put::value(out, at, answer, &text, k)
-        }
-        Asked::Value(output) => write(line, out, at, encoding, i, reference, output, bytes),
-        Asked::Refused => put::refuse(out, at),
+    let len = path_text::put_path(&mut bytes, 0, path);
+    Bytes { bytes, len }
+}
+
+// Reads a path from a message, and prints it.
+fn read(encoding: Encoding, message: &[u8], start: usize, canonic: bool, reference: &[u8]) -> Answer
+    ensures { answer_text result ≡ read_text path_text_of (encoding_reader encoding (path_in reference.now) canonic (drop start message.now)) }
+{
+    let mut path = [0u8; path::lent::SIZE];
+    match decode(encoding, message, start, canonic, reference, &mut path) {
+        Ok(consumed) => Answer::Read {
+            consumed,
+            text: print(&path),
+        },
+        Err(error) => Answer::NotRead(error),
     }
 }
 
-// Answers a line of a plain path.
-pub fn plain(line: &[u8], out: &mut [u8], at: usize) -> usize
-    ensures { PutsWithin max_answer at (ended (plain_line line.now)) out.old out.new result }
+// Answers a line whose path, or start and message, stand from the i-th field on.
+fn answer(line: &[u8], encoding: Encoding, i: u8, reference: Path) -> Option<Answer>
+    requires { i ≤ 3 }
+    ensures { on_field result answer_text ≡ encoding_line encoding (path_in reference.flat) i line.now }
 {
-    let none = Path::new_empty();
-    answer(line, out, at, Encoding::Plain, 2, none)
+    Some(match fields::asked(line, i, i + 1)? {
+        Asked::Read {
+            canonic,
+            start,
+            message,
+        } => read(
+            encoding,
+            message.as_slice(),
+            start,
+            canonic,
+            &reference.flat,
+        ),
+        Asked::Write(lent) => {
+            let path = fields::path(line, usize::from(i))?;
+            let len = lent.len;
+            let mut bytes = lent.bytes;
+            let outcome = encode(encoding, &mut bytes[..len], &path.flat, &reference.flat);
+            let lent = Bytes { bytes, len };
+            Answer::Written { outcome, lent }
+        }
+        Asked::Length => {
+            let path = fields::path(line, usize::from(i))?;
+            Answer::Length(len_of_encoding(encoding, &path.flat, &reference.flat))
+        }
+    })
+}
+
+// Answers a line of a plain path.
+pub fn plain(line: &[u8]) -> Option<Answer>
+    ensures { on_field result answer_text ≡ plain_line line.now }
+{
+    answer(line, Encoding::Plain, 2, Path::new_empty())
 }
 
 // Answers a line of a path against a reference, which stands before the other fields.
-pub fn relative(line: &[u8], out: &mut [u8], at: usize, encoding: Encoding) -> usize
-    ensures { PutsWithin max_answer at (ended (relative_line encoding line.now)) out.old out.new result }
+pub fn relative(line: &[u8], encoding: Encoding) -> Option<Answer>
+    ensures { on_field result answer_text ≡ relative_line encoding line.now }
 {
-    let field = fields::path(line, 2);
-    let found = field.found;
-    let Found::Read = found else {
-        return put::refuse(out, at);
-    };
-    let reference = field.path;
-    answer(line, out, at, encoding, 3, reference)
+    let reference = fields::path(line, 2)?;
+    answer(line, encoding, 3, reference)
 }

@@ -7,126 +7,94 @@ ghost use Rattle.path.specs.Record.{all_at_most};
 ghost use Rattle.path.specs.Flat.{path_size, shorts, path_in};
 ghost use Rattle.path.specs.Puts.{Puts};
 ghost use Rattle.path_codec.specs.Plain.{plain_path};
-ghost use Rattle.case_text.specs.Limits.{max_answer};
-ghost use Rattle.case_text.specs.Texts.{ended};
-ghost use Rattle.case_text.specs.Answers.{PutsWithin};
-ghost use Rattle.case_paths.specs.Raw.{path_of, raw_line};
-ghost use Rattle.case_paths.specs.inside.Raw.{lengths_of};
+ghost use Rattle.case_text.specs.Fields.{on_field};
+ghost use Rattle.case_text.specs.Answers.{answer_text};
+ghost use Rattle.case_paths.specs.Raw.{path_of, read_lengths, read_bytes, raw_line};
 
-use crate::Lengths;
-use case_text::put;
-use codec::Encoded;
-use decimal::Decimal;
+use case_text::{Answer, fields};
+use codec::EncodeError;
 use path::Path;
-use text::Hex;
 
 // As many numbers as a record has lengths, parted by commas.
-fn read_lengths(field: &[u8]) -> Lengths
-    ensures { result ≡ lengths_of field.now }
+fn read_lengths(field: &[u8]) -> Option<[usize; Path::MAX_COMPONENT_COUNT]>
+    ensures { result ≡ read_lengths field.now }
 {
-    let mut lengths = [0usize; Path::MAX_COMPONENT_COUNT];
     if text::part_count(field, b',') != Path::MAX_COMPONENT_COUNT {
-        return Lengths {
-            ok: false,
-            lengths: lengths,
-        };
+        return None;
     }
-    let mut i: usize = 0;
-    while i < Path::MAX_COMPONENT_COUNT {
-        let number = decimal::read_decimal(text::part(field, b',', i));
-        let Decimal::Value(v) = number else {
-            return Lengths {
-                ok: false,
-                lengths: [0usize; Path::MAX_COMPONENT_COUNT],
-            };
-        };
-        lengths[i] = v as usize;
-        i += 1;
+    let mut lengths = [0; Path::MAX_COMPONENT_COUNT];
+    for (i, number) in field.split(|&b| b == b',').enumerate() {
+        lengths[i] = decimal::read_decimal(number)? as usize;
     }
-    Lengths {
-        ok: true,
-        lengths: lengths,
-    }
+    Some(lengths)
 }
 
-// Whether every length is one that a record holds.
-fn all_held(lengths: &[usize]) -> bool
-    ensures { result ≡ all_at_most 65535 lengths.now }
+// A record's bytes: zeros follow those in the field.
+fn read_bytes(field: &[u8]) -> Option<[u8; Path::MAX_PATH_LENGTH]>
+    ensures { result ≡ read_bytes field.now }
 {
-    let mut i: usize = 0;
-    while i < lengths.len() {
-        if 65535 < lengths[i] {
-            return false;
-        }
-        i += 1;
-    }
-    true
+    let mut bytes = [0u8; Path::MAX_PATH_LENGTH];
+    text::read_hex(field, &mut bytes).ok()?;
+    Some(bytes)
 }
 
 // The lengths, from the first byte on.
-fn put_lengths(flat: &mut [u8], lengths: &[usize])
-    requires { (2 * max_component_count ≤ length flat.old) × (length lengths.now ≡ max_component_count) }
+fn put_lengths(flat: &mut [u8], lengths: &[usize; Path::MAX_COMPONENT_COUNT])
+    requires { 2 * max_component_count ≤ length flat.old }
     ensures { Puts (2 * max_component_count) (shorts lengths.now) flat.old flat.new }
 {
-    let mut at: usize = 0;
-    let mut i: usize = 0;
-    while i < Path::MAX_COMPONENT_COUNT {
-        compact_u64::put_big_endian(&mut flat[at..], 2, lengths[i] as u64);
-        at += 2;
-        i += 1;
+    for i in 0..Path::MAX_COMPONENT_COUNT {
+        let _ = compact_u64::put_big_endian(&mut flat[2 * i..], 2, lengths[i] as u64);
     }
 }
 
 // A record of these parts.
-fn put_raw<'a>(flat: &mut [u8], bytes: &'a [u8], lengths: &'a [usize], count: usize)
-    requires { (length flat.old ≡ path_size) × (length bytes.now ≡ max_path_length) × (length lengths.now ≡ max_component_count) × (count ≤ max_component_count) × (all_at_most 65535 lengths.now ≡ true) }
+fn put_raw(
+    flat: &mut [u8; path::lent::SIZE],
+    bytes: &[u8; Path::MAX_PATH_LENGTH],
+    lengths: &[usize; Path::MAX_COMPONENT_COUNT],
+    count: u8,
+)
+    requires { (count ≤ max_component_count) × (all_at_most 65535 lengths.now ≡ true) }
     ensures { path_in flat.new ≡ path_of bytes.now lengths.now count }
 {
-    flat[0] = count as u8;
+    flat[0] = count;
     put_lengths(&mut flat[path::lent::LENGTHS..], lengths);
-    byte_codec::put_bytes(&mut flat[path::lent::BYTES..], bytes);
+    flat[path::lent::BYTES..].copy_from_slice(bytes);
+}
+
+// Whether every length is one that a record holds.
+fn held(lengths: &[usize; Path::MAX_COMPONENT_COUNT]) -> bool
+    ensures { result ≡ all_at_most 65535 lengths.now }
+{
+    lengths.iter().all(|&n| n <= 65535)
 }
 
 // How many bytes a path of these parts takes. A count or a length that no record holds is refused as one that is too large.
 fn raw_len(
-    bytes: [u8; Path::MAX_PATH_LENGTH],
-    lengths: [usize; Path::MAX_COMPONENT_COUNT],
+    bytes: &[u8; Path::MAX_PATH_LENGTH],
+    lengths: &[usize; Path::MAX_COMPONENT_COUNT],
     count: usize,
-) -> Encoded
-    ensures { outcome_of result ≡ length_answer plain_path (path_of bytes lengths count) }
+) -> Result<usize, EncodeError>
+    ensures { outcome_of result ≡ length_answer plain_path (path_of bytes.now lengths.now count) }
 {
-    if Path::MAX_COMPONENT_COUNT < count {
-        return Encoded::Malformed;
-    }
-    let held = all_held(&lengths);
-    if !held {
-        return Encoded::Malformed;
+    if Path::MAX_COMPONENT_COUNT < count || !held(lengths) {
+        return Err(EncodeError::Malformed);
     }
     let mut flat = [0u8; path::lent::SIZE];
-    put_raw(&mut flat, &bytes, &lengths, count);
+    put_raw(&mut flat, bytes, lengths, count as u8);
     path_codec::len_of_encoding(&flat)
 }
 
 // Answers a line of raw parts.
-pub fn raw(line: &[u8], out: &mut [u8], at: usize) -> usize
-    ensures { PutsWithin max_answer at (ended (raw_line line.now)) out.old out.new result }
+pub fn raw(line: &[u8]) -> Option<Answer>
+    ensures { on_field result answer_text ≡ raw_line line.now }
 {
-    if text::part_count(line, b'\t') != 4 {
-        return put::refuse(out, at);
+    if fields::count(line) != 4 {
+        return None;
     }
-    let count = decimal::read_decimal(text::part(line, b'\t', 1));
-    let Decimal::Value(n) = count else {
-        return put::refuse(out, at);
-    };
-    let lengths = read_lengths(text::part(line, b'\t', 2));
-    if !lengths.ok {
-        return put::refuse(out, at);
-    }
-    let mut bytes = [0u8; Path::MAX_PATH_LENGTH];
-    let hex = text::read_hex(text::part(line, b'\t', 3), &mut bytes);
-    let Hex::Bytes(_) = hex else {
-        return put::refuse(out, at);
-    };
-    let ls = lengths.lengths;
-    put::length(out, at, raw_len(bytes, ls, n as usize))
+    let count = fields::number(line, 1)? as usize;
+    let lengths = read_lengths(fields::part(line, 2))?;
+    let bytes = read_bytes(fields::part(line, 3))?;
+    Some(Answer::Length(raw_len(&bytes, &lengths, count)))
 }

@@ -2,13 +2,12 @@
 use Rattle.std.specs.Prelude.{List, ℕ}
 use Rattle.range3d_range3d.specs.Records.{against_range, read_against_range}
 use Rattle.range_3d.specs.Record.{Range3d}
-use Rattle.case_text.specs.declared.Op.{Op}
-use Rattle.case_text.specs.Fields.{field, op_of}
+use Rattle.case_text.specs.Fields.{on_field}
 use Rattle.case_text.specs.Records.{lenient_line}
 use Rattle.case_range_text.specs.Fields.{range_text, range_field}
 
-abbrev pub against_line : Range3d → Op → List ℕ → List ℕ
-against_line r op line = lenient_line range_field range_text (read_against_range r) (against_range r) 8 14 op line
+abbrev pub against_line : Range3d → List ℕ → List ℕ
+against_line r line = lenient_line range_field range_text (read_against_range r) (against_range r) 8 14 line
 
 abbrev pub range_line : List ℕ → List ℕ
-range_line line = range_field 2 line (λ r. against_line r (op_of (field 1 line)) line)
+range_line line = on_field (range_field 2 line) (λ r. against_line r line)

@@ -1,90 +1,79 @@
-// Case lines of 3d ranges against a 3d range: docs/CASES.md. A line is answered where MAX_ANSWER bytes are free; elsewhere nothing changes.
+// Case lines of 3d ranges against a 3d range: docs/CASES.md.
 
 #![tactic(auto)]
 
-ghost use Rattle.std.specs.Prelude.{length};
-ghost use Rattle.range3d_range3d.specs.Records.{against_range};
-ghost use Rattle.case_text.specs.Limits.{max_answer};
-ghost use Rattle.case_text.specs.Texts.{ended};
-ghost use Rattle.case_text.specs.inside.Values.{value_text};
-ghost use Rattle.case_text.specs.Answers.{PutsWithin};
-ghost use Rattle.case_text.specs.Asking.{OutputInside};
-ghost use Rattle.case_range_text.specs.Fields.{range_field, range_said};
+ghost use Rattle.std.specs.Prelude.{◌≡◌, drop};
+ghost use Rattle.range_3d.specs.Record.{range_lent};
+ghost use Rattle.range3d_range3d.specs.Records.{read_against_range};
+ghost use Rattle.case_range_text.specs.Fields.{range_text};
+ghost use Rattle.case_text.specs.Texts.{read_text};
+ghost use Rattle.case_text.specs.Fields.{on_field};
+ghost use Rattle.case_text.specs.Answers.{answer_text};
 ghost use Rattle.case_ranges.specs.Lines.{range_line};
 
-use case_range_text::RangeField;
-use case_text::{Asked, MAX_BYTES, Output, fields, put};
+use case_text::{Answer, Asked, Bytes, fields};
+use range_3d::{PathRange, Range3d};
 
-// Writes or measures the 3d range from the ninth field on.
-fn write(
-    line: &[u8],
-    out: &mut [u8],
-    at: usize,
-    reference: RangeField,
-    output: Output,
-    mut buffer: [u8; MAX_BYTES],
-) -> usize
-    requires { OutputInside (length buffer) output }
-    ensures { PutsWithin max_answer at (ended (range_field 8 line.now (value_text (against_range (range_said reference)) output buffer))) out.old out.new result }
+// Reads a 3d range from a message, and prints it.
+fn read<'a>(message: &[u8], from: usize, reference: Range3d<'a>) -> Answer
+    ensures { answer_text result ≡ read_text range_text (read_against_range (range_lent reference.entry) (drop from message.now)) }
 {
-    let value = case_range_text::read_range(line, 8);
-    if !value.ok {
-        return put::refuse(out, at);
+    let mut start = [0u8; path::lent::SIZE];
+    let mut end = [0u8; path::lent::SIZE];
+    match range3d_range3d_decode::relative_decode(message, from, reference, &mut start, &mut end) {
+        Ok(read) => {
+            let head = read.value;
+            let paths = PathRange {
+                start: &start,
+                end: (!head.end_open).then_some(end.as_slice()),
+            };
+            Answer::Read {
+                consumed: read.consumed,
+                text: case_range_text::print_range(Range3d {
+                    subspaces: head.subspaces,
+                    paths,
+                    times: head.times,
+                }),
+            }
+        }
+        Err(error) => Answer::NotRead(error),
     }
-    let answer = match output {
-        Output::Buffer(n) => range3d_range3d_encode::relative_encode(
-            &mut buffer[..n],
-            value.head,
-            &value.start.flat,
-            &value.end.flat,
-            reference.head,
-            &reference.start.flat,
-            &reference.end.flat,
-        ),
-        Output::Length => range3d_range3d_encode::relative_len_of_encoding(
-            value.head,
-            &value.start.flat,
-            &value.end.flat,
-            reference.head,
-            &reference.start.flat,
-            &reference.end.flat,
-        ),
-    };
-    put::output(out, at, output, answer, &buffer)
 }
 
 // Answers a line of a 3d range against a reference, which stands before the other fields. No strict reading is asked for.
-pub fn range(line: &[u8], out: &mut [u8], at: usize) -> usize
-    ensures { PutsWithin max_answer at (ended (range_line line.now)) out.old out.new result }
+pub fn range(line: &[u8]) -> Option<Answer>
+    ensures { on_field result answer_text ≡ range_line line.now }
 {
-    let reference = case_range_text::read_range(line, 2);
-    if !reference.ok {
-        return put::refuse(out, at);
-    }
-    let mut bytes = [0u8; MAX_BYTES];
-    let asked = fields::asked(line, 8, 14, &mut bytes);
-    match asked {
-        Asked::Read(canonic, s, n) => {
+    let reference = case_range_text::read_range(line, 2)?;
+    Some(match fields::asked(line, 8, 14)? {
+        Asked::Read {
+            canonic,
+            start,
+            message,
+        } => {
             if canonic {
-                return put::refuse(out, at);
+                return None;
             }
-            let mut start = [0u8; path::lent::SIZE];
-            let mut end = [0u8; path::lent::SIZE];
-            let read = range3d_range3d_decode::relative_decode(
-                &bytes[..n],
-                s,
-                reference.head,
-                &reference.start.flat,
-                &reference.end.flat,
-                &mut start,
-                &mut end,
-            );
-            let mut text = [0u8; MAX_BYTES];
-            let k = case_range_text::print_range(read.head, &start, &end, &mut text);
-            let answer = read.answer;
-            put::value(out, at, answer, &text, k)
+            read(message.as_slice(), start, reference.range())
         }
-        Asked::Value(output) => write(line, out, at, reference, output, bytes),
-        Asked::Refused => put::refuse(out, at),
-    }
+        Asked::Write(lent) => {
+            let range = case_range_text::read_range(line, 8)?;
+            let len = lent.len;
+            let mut bytes = lent.bytes;
+            let outcome = range3d_range3d_encode::relative_encode(
+                &mut bytes[..len],
+                range.range(),
+                reference.range(),
+            );
+            let lent = Bytes { bytes, len };
+            Answer::Written { outcome, lent }
+        }
+        Asked::Length => {
+            let range = case_range_text::read_range(line, 8)?;
+            Answer::Length(range3d_range3d_encode::relative_len_of_encoding(
+                range.range(),
+                reference.range(),
+            ))
+        }
+    })
 }

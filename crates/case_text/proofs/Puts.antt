@@ -1,14 +1,23 @@
 -- Laws of texts put into a buffer, one after another.
-use Rattle.codec.proofs.Prelude.{◌≡◌, refl, sym, ap, ◌∙◌, List, [], ◌∷◌, ◌++◌, ℕ, ◌+◌, ◌-◌, ◌≤◌, ◌<◌, arith, le-leb, lt-leb, length, take, drop, length-append, length-drop, take_at, length-take-le}
-use Rattle.codec.specs.declared.Encoded.{Encoded}
-use Rattle.codec.specs.declared.Encoded.TheVariants as encoded
-use Rattle.codec.specs.Answers.{outcome_of}
+use Rattle.codec.proofs.Prelude.{◌≡◌, refl, sym, ap, ◌∙◌, List, [], ◌∷◌, ◌++◌, ℕ, ◌+◌, ◌-◌, ◌*◌, ◌≤◌, arith, le-leb, length, take, drop, length-append, length-drop, length-take, take_at, length-take-le}
 use Rattle.text.specs.Buffer.{over_at, put_at, place_after}
 use Rattle.text.proofs.Buffer.{over_at_then, over_at_long, put_at_fits}
-use Rattle.case_text.specs.Texts.{after_tab, written_text, written_number_text}
+use Rattle.text.specs.Hex.{hex_text}
+use Rattle.text.proofs.HexSteps.{hex_text_long}
+use Rattle.case_text.specs.Limits.{max_bytes}
+use Rattle.case_text.specs.declared.Bytes.{Bytes}
+use Rattle.case_text.specs.Bytes.{bytes_of}
+use Rattle.case_text.specs.Texts.{after_tab}
 use Rattle.case_text.specs.Answers.{PutsText, PutsWithin}
 
--- a put of the crate text, where there is room
+-- ---- how long texts are at most
+pub bytes_few : (b : Bytes) → length (bytes_of b) ≤ max_bytes
+bytes_few b = rw length-take (omega (arith, b.inside))
+
+pub hex_few : (b : Bytes) → length (hex_text (bytes_of b)) ≤ 2 * max_bytes
+hex_few b = rw hex_text_long (omega (arith, bytes_few b))
+
+-- ---- a put of the crate text, where there is room
 pub puts_fits : {at r : ℕ} (t : List ℕ) {l l' : List ℕ} → at + length t ≤ length l → (r ≡ place_after at t l) × (l' ≡ put_at at t l) → PutsText at t l l' r
 puts_fits {at} t {l} h e =
     let f = put_at_fits at t l h in
@@ -61,23 +70,9 @@ ends_inside {at} {r} {t} {l} {l'} p h kept = omega (arith, p.place, ap length p.
 
 -- ---- a text put where `room` bytes are free
 module _ {room at : ℕ} {t l : List ℕ} where
-  pub within_full : length l < at + room → PutsWithin room at t l l at
-  within_full h = record { place = rw (lt-leb _ _ h); buffer = rw (lt-leb _ _ h) }
-
   module _ {l' : List ℕ} {r : ℕ} where
     pub within_fits : PutsText at t l l' r → at + room ≤ length l → PutsWithin room at t l l' r
     within_fits p h = record { place = rw (le-leb _ _ h) p.place; buffer = rw (le-leb _ _ h) p.buffer }
 
-    pub within_same : {s : List ℕ} → s ≡ t → PutsWithin room at t l l' r → PutsWithin room at s l l' r
-    within_same e p = rw e p
-
     pub within_puts : PutsWithin room at t l l' r → at + room ≤ length l → PutsText at t l l' r
     within_puts p h = record { place = rw (le-leb _ _ h) at p.place; buffer = rw (le-leb _ _ h) at p.buffer }
-
--- a number's refused writing has no tag
-pub refused_number : (a : Encoded) (tag : ℕ) (buffer : List ℕ) → ((n : ℕ) → a ≡ encoded.Length n → ⊥)
-    → written_text (outcome_of a) buffer ≡ written_number_text (outcome_of a) tag buffer
-refused_number (encoded.Length n) tag buffer k = absurd (k n refl)
-refused_number encoded.Outside tag buffer k = refl
-refused_number encoded.NoRoom tag buffer k = refl
-refused_number encoded.Malformed tag buffer k = refl

@@ -1,10 +1,22 @@
 -- What the functions of this crate put and answer.
-use Rattle.std.specs.Prelude.{◌≡◌, List, cond, ℕ, ◌+◌, ◌≤◌, leb, length, take}
+use Rattle.std.specs.Prelude.{◌≡◌, List, ◌++◌, cond, ℕ, ◌+◌, leb, length}
+use Rattle.codec.specs.Answers.{outcome_of, decode_number}
 use Rattle.text.specs.Buffer.{over_at}
-use Rattle.case_text.specs.declared.HexField.{HexField}
-use Rattle.case_text.specs.declared.HexField.TheVariants as hex
-use Rattle.case_text.specs.Texts.{six}
-use Rattle.case_text.specs.Fields.{hex_field_in}
+use Rattle.text.specs.Decimal.{decimal_text}
+use Rattle.text.specs.Hex.{hex_text}
+use Rattle.case_text.specs.declared.Answer.{Answer}
+use Rattle.case_text.specs.declared.Answer.TheVariants as answer
+use Rattle.case_text.specs.Bytes.{bytes_of}
+use Rattle.case_text.specs.Texts.{ok_text, no_text, after_tab, length_text, written_text}
+
+-- the text of an answer
+abbrev pub answer_text : Answer → List ℕ
+answer_text (answer.Read consumed text) = ok_text consumed ++ after_tab (bytes_of text)
+answer_text (answer.Number d) = ok_text d.consumed ++ after_tab (decimal_text d.value)
+answer_text (answer.NotRead e) = no_text (decode_number e)
+answer_text (answer.Written outcome lent) = written_text (outcome_of outcome) (bytes_of lent)
+answer_text (answer.WrittenNumber n tag lent) = ok_text n ++ (after_tab (decimal_text tag) ++ after_tab (hex_text (bytes_of lent)))
+answer_text (answer.Length outcome) = length_text (outcome_of outcome)
 
 -- a text was put into the buffer l from a place on; it is now l', and r is the next place
 pub record PutsText (at : ℕ) (t l l' : List ℕ) (r : ℕ) : Type 0 where
@@ -15,17 +27,3 @@ pub record PutsText (at : ℕ) (t l l' : List ℕ) (r : ℕ) : Type 0 where
 pub record PutsWithin (room at : ℕ) (t l l' : List ℕ) (r : ℕ) : Type 0 where
   pub place : r ≡ cond (leb (at + room) (length l)) (at + length t) at
   pub buffer : l' ≡ cond (leb (at + room) (length l)) (over_at at t l) l
-
--- ---- what a field that was read into a buffer says to whatever comes after it
-abbrev pub on_hex : HexField → List ℕ → (List ℕ → List ℕ) → List ℕ
-on_hex (hex.Bytes n) buffer k = k (take n buffer)
-on_hex hex.Refused buffer k = six
-
-abbrev pub HexInside : ℕ → HexField → Type 0
-HexInside room (hex.Bytes n) = n ≤ room
-HexInside room hex.Refused = Unit {0}
-
--- the i-th field as at most `room` bytes in hex, read into a buffer
-pub record ReadsHex (room i : ℕ) (line buffer : List ℕ) (r : HexField) : Type 0 where
-  pub text : (k : List ℕ → List ℕ) → on_hex r buffer k ≡ hex_field_in room i line k
-  pub inside : HexInside (length buffer) r

@@ -1,54 +1,45 @@
 -- What a line asks for, whatever its kind: all of it but its reference and its value.
-use Rattle.std.specs.Prelude.{◌≡◌, List, Bool, true, false, ℕ, ◌+◌, ◌≤◌, length, take}
+use Rattle.std.specs.Prelude.{List, Bool, true, false, ℕ, ◌+◌, Option, Some}
 use Rattle.case_text.specs.declared.Op.{Op}
 use Rattle.case_text.specs.declared.Op.TheVariants as op
-use Rattle.case_text.specs.declared.Output.{Output}
-use Rattle.case_text.specs.declared.Output.TheVariants as output
 use Rattle.case_text.specs.declared.Asked.{Asked}
 use Rattle.case_text.specs.declared.Asked.TheVariants as asked
-use Rattle.case_text.specs.Texts.{six}
-use Rattle.case_text.specs.Fields.{exactly, hex_field_in, message_field_in}
+use Rattle.case_text.specs.Bytes.{bytes_of}
+use Rattle.case_text.specs.Fields.{field, ◌>>=◌, exactly, decimal_field, hex_field, op_of}
 
--- what comes after it: reading, strictly or not, from a start on in a message; writing into a lent buffer; measuring
-pub record Rest : Type 0 where
-  pub read : Bool → ℕ → List ℕ → List ℕ
-  pub write : List ℕ → List ℕ
-  pub measure : List ℕ
+-- reading, strictly or not, from a start on in a message; writing into a lent buffer; measuring
+pub data Request : Type 0 where
+  read : Bool → ℕ → List ℕ → Request
+  write : List ℕ → Request
+  measure : Request
 
-abbrev pub asking_read : ℕ → ℕ → Bool → List ℕ → Rest → List ℕ
-asking_read room i canonic line k = message_field_in room i line (k.read canonic)
+-- what the code holds of it
+abbrev pub request_of : Asked → Request
+request_of (asked.Read canonic start message) = read canonic start (bytes_of message)
+request_of (asked.Write lent) = write (bytes_of lent)
+request_of asked.Length = measure
 
-abbrev pub asking_write : ℕ → ℕ → List ℕ → Rest → List ℕ
-asking_write room j line k = exactly (j + 1) line (hex_field_in room j line k.write)
+-- start and message from the i-th field on
+abbrev pub request_read : ℕ → Bool → List ℕ → Option Request
+request_read i canonic line = exactly (i + 2) line do
+  start ← decimal_field i line
+  message ← hex_field (i + 1) line
+  Some (read canonic start message)
 
--- start and message from the i-th field on, or the lent buffer in the j-th, which is the one after the value
-abbrev pub asking : ℕ → ℕ → ℕ → Op → List ℕ → Rest → List ℕ
-asking room i j op.Strict line k = asking_read room i true line k
-asking room i j op.Lenient line k = asking_read room i false line k
-asking room i j op.Write line k = asking_write room j line k
-asking room i j op.Length line k = exactly j line k.measure
-asking room i j op.Unknown line k = six
+-- the lent buffer, the j-th field and the last
+abbrev pub request_write : ℕ → List ℕ → Option Request
+request_write j line = exactly (j + 1) line do
+  lent ← hex_field j line
+  Some (write lent)
 
--- what was read into a buffer says to whatever comes after it
-abbrev pub on_output : Output → List ℕ → Rest → List ℕ
-on_output (output.Buffer n) buffer k = k.write (take n buffer)
-on_output output.Length buffer k = k.measure
+-- by the operation; j is the field after the value
+abbrev pub request_by : ℕ → ℕ → Op → List ℕ → Option Request
+request_by i j op.Strict line = request_read i true line
+request_by i j op.Lenient line = request_read i false line
+request_by i j op.Write line = request_write j line
+request_by i j op.Length line = exactly j line (Some measure)
 
-abbrev pub on_asked : Asked → List ℕ → Rest → List ℕ
-on_asked (asked.Read canonic start n) buffer k = k.read canonic start (take n buffer)
-on_asked (asked.Value o) buffer k = on_output o buffer k
-on_asked asked.Refused buffer k = six
-
-abbrev pub OutputInside : ℕ → Output → Type 0
-OutputInside room (output.Buffer n) = n ≤ room
-OutputInside room output.Length = Unit {0}
-
-abbrev pub AskedInside : ℕ → Asked → Type 0
-AskedInside room (asked.Read canonic start n) = n ≤ room
-AskedInside room (asked.Value o) = OutputInside room o
-AskedInside room asked.Refused = Unit {0}
-
--- part of a line, read into a buffer
-pub record Asks (line : Rest → List ℕ) (buffer : List ℕ) (r : Asked) : Type 0 where
-  pub said : (k : Rest) → on_asked r buffer k ≡ line k
-  pub inside : AskedInside (length buffer) r
+abbrev pub asking : ℕ → ℕ → List ℕ → Option Request
+asking i j line = do
+  op ← op_of (field 1 line)
+  request_by i j op line

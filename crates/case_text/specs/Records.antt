@@ -1,53 +1,34 @@
 -- The operations on a record, whatever its reference, reader and format: strict and lenient reading, writing, written length.
-use Rattle.std.specs.Prelude.{List, Bool, true, false, ℕ, ◌+◌, length, take, drop}
-use Rattle.codec.specs.Answers.{Outcome}
+use Rattle.std.specs.Prelude.{List, Bool, true, false, ℕ, length, drop, Option}
 use Rattle.codec.specs.Format.{Format, write_answer, write_buffer, length_answer}
 use Rattle.codec.specs.Reader.{Reader}
-use Rattle.case_text.specs.declared.Op.{Op}
-use Rattle.case_text.specs.declared.Op.TheVariants as op
-use Rattle.case_text.specs.declared.Output.{Output}
-use Rattle.case_text.specs.declared.Output.TheVariants as output
 use Rattle.case_text.specs.Texts.{six, read_text, length_text, written_text}
-use Rattle.case_text.specs.Fields.{exactly, hex_field, message_field}
+use Rattle.case_text.specs.Fields.{on_field}
+use Rattle.case_text.specs.Asking.{Request, read, write, measure, asking}
 
--- start and message from the i-th field on
-abbrev pub read_line : {A : Type 0} → (A → List ℕ) → Reader A → ℕ → List ℕ → List ℕ
-read_line print reader i line =
-    message_field i line (λ start message.
-    read_text print (reader (drop start message)))
+-- the value v, where there is one, written into a lent buffer, or measured
+abbrev pub write_text : {A : Type 0} → Format A → Option A → List ℕ → List ℕ
+write_text format value lent = on_field value (λ v. written_text (write_answer format v (length lent)) (write_buffer format v lent))
 
--- a value from the i-th field on, then the lent buffer, which is the j-th field and the last
-abbrev pub write_line : {A : Type 0} → (ℕ → List ℕ → (A → List ℕ) → List ℕ) → Format A → ℕ → ℕ → List ℕ → List ℕ
-write_line parse format i j line =
-    exactly (j + 1) line (
-    parse i line (λ v.
-    hex_field j line (λ lent.
-    written_text (write_answer format v (length lent)) (write_buffer format v lent))))
+abbrev pub measure_text : {A : Type 0} → Format A → Option A → List ℕ
+measure_text format value = on_field value (λ v. length_text (length_answer format v))
 
--- a value from the i-th field on, j fields in all
-abbrev pub length_line : {A : Type 0} → (ℕ → List ℕ → (A → List ℕ) → List ℕ) → Format A → ℕ → ℕ → List ℕ → List ℕ
-length_line parse format i j line =
-    exactly j line (
-    parse i line (λ v.
-    length_text (length_answer format v)))
+-- what was asked for: `print` prints a value that is read, `value` is the one that the line has
+abbrev pub record_text : {A : Type 0} → (A → List ℕ) → (Bool → Reader A) → Format A → Option A → Request → List ℕ
+record_text print reader format value (read canonic start message) = read_text print (reader canonic (drop start message))
+record_text print reader format value (write lent) = write_text format value lent
+record_text print reader format value measure = measure_text format value
 
--- what a writer answered that was asked for this, with the bytes of the lent buffer afterwards
-abbrev pub output_text : Output → Outcome → List ℕ → List ℕ
-output_text (output.Buffer n) o buffer = written_text o (take n buffer)
-output_text output.Length o buffer = length_text o
-
--- by the operation; `parse` reads a value from a field on, `print` prints one, and j is the field after the value
-abbrev pub record_line : {A : Type 0} → (ℕ → List ℕ → (A → List ℕ) → List ℕ) → (A → List ℕ) → (Bool → Reader A) → Format A → ℕ → ℕ → Op → List ℕ → List ℕ
-record_line parse print reader format i j op.Strict line = read_line print (reader true) i line
-record_line parse print reader format i j op.Lenient line = read_line print (reader false) i line
-record_line parse print reader format i j op.Write line = write_line parse format i j line
-record_line parse print reader format i j op.Length line = length_line parse format i j line
-record_line parse print reader format i j op.Unknown line = six
+-- start and message stand from the i-th field on; `parse` reads a value from there, and j is the field after it
+abbrev pub record_line : {A : Type 0} → (ℕ → List ℕ → Option A) → (A → List ℕ) → (Bool → Reader A) → Format A → ℕ → ℕ → List ℕ → List ℕ
+record_line parse print reader format i j line = on_field (asking i j line) (record_text print reader format (parse i line))
 
 -- the same of a record that is read leniently only
-abbrev pub lenient_line : {A : Type 0} → (ℕ → List ℕ → (A → List ℕ) → List ℕ) → (A → List ℕ) → Reader A → Format A → ℕ → ℕ → Op → List ℕ → List ℕ
-lenient_line parse print reader format i j op.Lenient line = read_line print reader i line
-lenient_line parse print reader format i j op.Write line = write_line parse format i j line
-lenient_line parse print reader format i j op.Length line = length_line parse format i j line
-lenient_line parse print reader format i j op.Strict line = six
-lenient_line parse print reader format i j op.Unknown line = six
+abbrev pub lenient_text : {A : Type 0} → (A → List ℕ) → Reader A → Format A → Option A → Request → List ℕ
+lenient_text print reader format value (read true start message) = six
+lenient_text print reader format value (read false start message) = read_text print (reader (drop start message))
+lenient_text print reader format value (write lent) = write_text format value lent
+lenient_text print reader format value measure = measure_text format value
+
+abbrev pub lenient_line : {A : Type 0} → (ℕ → List ℕ → Option A) → (A → List ℕ) → Reader A → Format A → ℕ → ℕ → List ℕ → List ℕ
+lenient_line parse print reader format i j line = on_field (asking i j line) (lenient_text print reader format (parse i line))

@@ -1,101 +1,107 @@
-// The fields of a line.
-ghost use Rattle.std.specs.Prelude.{◌≡◌, length};
-ghost use Rattle.path_text.specs.PathText.{Finds, read_path_text};
-ghost use Rattle.case_text.specs.Fields.{field, op_of};
-ghost use Rattle.case_text.specs.Answers.{ReadsHex};
-ghost use Rattle.case_text.specs.Asking.{asking_read, asking_write, asking, Asks};
+// The fields of a line, parted by tabs.
+ghost use Rattle.std.specs.Prelude.{◌≡◌, length, option_map};
+ghost use Rattle.text.specs.Parts.{parts};
+ghost use Rattle.path.specs.Flat.{path_in};
+ghost use Rattle.case_text.specs.Bytes.{bytes_of};
+ghost use Rattle.case_text.specs.Fields.{field, decimal_field, id_field, hex_field, path_field, op_of};
+ghost use Rattle.case_text.specs.Asking.{request_of, request_read, request_write, asking};
 
-use crate::{Asked, HexField, Op, Output};
-use decimal::Decimal;
-use path_text::PathField;
-use text::Hex;
+use crate::{Asked, Bytes, MAX_BYTES, Op};
+use path::Path;
+
+pub fn count(line: &[u8]) -> usize
+    ensures { result ≡ length (parts 9 line.now) }
+{
+    text::part_count(line, b'\t')
+}
+
+// The i-th field of a line.
+pub fn part(line: &[u8], i: usize) -> &[u8]
+    ensures { result.now ≡ field i line.now }
+{
+    text::part(line, b'\t', i)
+}
+
+// The i-th field as a number in decimal.
+pub fn number(line: &[u8], i: usize) -> Option<u64>
+    ensures { result ≡ decimal_field i line.now }
+{
+    decimal::read_decimal(part(line, i))
+}
+
+// The i-th field as an id or a digest.
+pub fn id(line: &[u8], i: usize) -> Option<[u8; 32]>
+    ensures { result ≡ id_field i line.now }
+{
+    text::ids::read_id(part(line, i))
+}
+
+// The i-th field as a path.
+pub fn path(line: &[u8], i: usize) -> Option<Path>
+    ensures { option_map (λ p. path_in p.flat) result ≡ path_field i line.now }
+{
+    path_text::read_path(part(line, i))
+}
+
+// The i-th field as bytes in hex.
+pub fn hex(line: &[u8], i: usize) -> Option<Bytes>
+    ensures { option_map bytes_of result ≡ hex_field i line.now }
+{
+    let mut bytes = [0u8; MAX_BYTES];
+    let len = text::read_hex(part(line, i), &mut bytes).ok()?;
+    Some(Bytes { bytes, len })
+}
 
 // The operation that a field names.
-pub fn op(field: &[u8]) -> Op
+#[tactic(auto, using(text::proofs::OneByte::one_byte), unfolding(crate::specs::Fields::op_of))]
+pub fn op(field: &[u8]) -> Option<Op>
     ensures { result ≡ op_of field.now }
 {
-    if byte_codec::same_bytes(field, b"s") {
-        return Op::Strict;
+    match field {
+        b"s" => Some(Op::Strict),
+        b"l" => Some(Op::Lenient),
+        b"w" => Some(Op::Write),
+        b"n" => Some(Op::Length),
+        _ => None,
     }
-    if byte_codec::same_bytes(field, b"l") {
-        return Op::Lenient;
-    }
-    if byte_codec::same_bytes(field, b"w") {
-        return Op::Write;
-    }
-    if byte_codec::same_bytes(field, b"n") {
-        return Op::Length;
-    }
-    Op::Unknown
 }
 
-// Reads the i-th field of a line as a path.
-pub fn path(line: &[u8], i: usize) -> PathField
-    ensures { Finds result (read_path_text (field i line.now)) }
+// The i-th field as a start, and the next, which is the last, as a message.
+fn message(line: &[u8], i: u8, canonic: bool) -> Option<Asked>
+    ensures { option_map request_of result ≡ request_read i canonic line.now }
 {
-    path_text::read_path(text::part(line, b'\t', i))
-}
-
-// Reads the i-th field of a line as bytes in hex, no more than the buffer has.
-pub fn hex(line: &[u8], i: usize, buffer: &mut [u8]) -> HexField
-    ensures { ReadsHex (length buffer.old) i line.now buffer.new result }
-{
-    let read = text::read_hex(text::part(line, b'\t', i), buffer);
-    let Hex::Bytes(n) = read else {
-        return HexField::Refused;
-    };
-    HexField::Bytes(n)
-}
-
-// Reads the i-th field of a line as a start, and the next, which is the last, as a message in hex, no longer than the buffer.
-fn message(line: &[u8], i: u8, canonic: bool, buffer: &mut [u8]) -> Asked
-    ensures { Asks (asking_read (length buffer.old) i canonic line.now) buffer.new result }
-{
-    let start = i as usize;
-    if text::part_count(line, b'\t') != start + 2 {
-        return Asked::Refused;
+    let place = usize::from(i);
+    if count(line) != place + 2 {
+        return None;
     }
-    let from = decimal::read_decimal(text::part(line, b'\t', start));
-    let Decimal::Value(s) = from else {
-        return Asked::Refused;
-    };
-    let bytes = hex(line, start + 1, buffer);
-    let HexField::Bytes(n) = bytes else {
-        return Asked::Refused;
-    };
-    Asked::Read(canonic, s as usize, n)
+    let start = number(line, place)? as usize;
+    let message = hex(line, place + 1)?;
+    Some(Asked::Read {
+        canonic,
+        start,
+        message,
+    })
 }
 
-// Reads the j-th field of a line, which is the last, as a lent buffer in hex, no longer than the one here.
-fn lent(line: &[u8], j: u8, buffer: &mut [u8]) -> Asked
-    ensures { Asks (asking_write (length buffer.old) j line.now) buffer.new result }
+// The j-th field, which is the last, as a lent buffer.
+fn lent(line: &[u8], j: u8) -> Option<Asked>
+    ensures { option_map request_of result ≡ request_write j line.now }
 {
-    let place = j as usize;
-    if text::part_count(line, b'\t') != place + 1 {
-        return Asked::Refused;
+    let place = usize::from(j);
+    if count(line) != place + 1 {
+        return None;
     }
-    let bytes = hex(line, place, buffer);
-    let HexField::Bytes(n) = bytes else {
-        return Asked::Refused;
-    };
-    Asked::Value(Output::Buffer(n))
+    Some(Asked::Write(hex(line, place)?))
 }
 
 // Reads all of a line but its reference and its value: the operation; start and message from the i-th field on; or the lent buffer, which is the j-th field, the one after the value.
-pub fn asked(line: &[u8], i: u8, j: u8, buffer: &mut [u8]) -> Asked
-    ensures { Asks (asking (length buffer.old) i j (op_of (field 1 line.now)) line.now) buffer.new result }
+pub fn asked(line: &[u8], i: u8, j: u8) -> Option<Asked>
+    ensures { option_map request_of result ≡ asking i j line.now }
 {
-    let op = op(text::part(line, b'\t', 1));
-    match op {
-        Op::Strict => message(line, i, true, buffer),
-        Op::Lenient => message(line, i, false, buffer),
-        Op::Write => lent(line, j, buffer),
-        Op::Length => {
-            if text::part_count(line, b'\t') != j as usize {
-                return Asked::Refused;
-            }
-            Asked::Value(Output::Length)
-        }
-        Op::Unknown => Asked::Refused,
+    match op(part(line, 1))? {
+        Op::Strict => message(line, i, true),
+        Op::Lenient => message(line, i, false),
+        Op::Write => lent(line, j),
+        Op::Length => (count(line) == usize::from(j)).then_some(Asked::Length),
     }
 }

@@ -1,36 +1,22 @@
-// Answers put from a place on: each public function answers the next place; where fewer than MAX_ANSWER bytes are free, nothing changes.
-ghost use Rattle.std.specs.Prelude.{◌≡◌, [], ◌∷◌, ◌++◌, ◌+◌, ◌-◌, ◌*◌, ◌≤◌, length, take};
-ghost use Rattle.codec.specs.Answers.{answer_of, outcome_of};
-ghost use Rattle.compact_u64.specs.Answers.{number_answer};
+// Answers put from a place on.
+ghost use Rattle.std.specs.Prelude.{◌≡◌, ◌++◌, ◌+◌, ◌-◌, ◌*◌, ◌≤◌, length};
+ghost use Rattle.codec.specs.Answers.{outcome_of};
 ghost use Rattle.text.specs.Decimal.{decimal_text};
 ghost use Rattle.text.specs.Hex.{hex_text};
 ghost use Rattle.case_text.specs.Limits.{max_bytes, max_answer};
-ghost use Rattle.case_text.specs.Texts.{six, no_text, after_tab, ended, read_text, length_text, written_number_text};
-ghost use Rattle.case_text.specs.Records.{output_text};
-ghost use Rattle.case_text.specs.Answers.{PutsText, PutsWithin};
+ghost use Rattle.case_text.specs.Bytes.{bytes_of};
+ghost use Rattle.case_text.specs.Texts.{ok_text, no_text, after_tab, ended, length_text};
+ghost use Rattle.case_text.specs.Fields.{on_field};
+ghost use Rattle.case_text.specs.Answers.{answer_text, PutsText, PutsWithin};
 
-use crate::{MAX_ANSWER, MAX_BYTES, Output};
-use codec::{Decoded, Encoded};
-use compact_u64::DecodedU64;
+use crate::{Answer, Bytes, MAX_ANSWER};
+use codec::EncodeError;
 
-// The bytes of a buffer from a place on.
+// How many bytes of a buffer are free from a place on.
 pub fn free(out: &[u8], at: usize) -> usize
     ensures { result ≡ length out.now - at }
 {
-    if out.len() < at {
-        return 0;
-    }
-    out.len() - at
-}
-
-// The line is not in its form.
-pub fn refuse(out: &mut [u8], at: usize) -> usize
-    ensures { PutsWithin max_answer at (ended six) out.old out.new result }
-{
-    if free(out, at) < MAX_ANSWER {
-        return at;
-    }
-    text::put_bytes(out, at, b"no\t6\n")
+    out.len().saturating_sub(at)
 }
 
 // A word, then a number.
@@ -38,151 +24,96 @@ fn worded(out: &mut [u8], at: usize, word: &[u8], n: u64) -> usize
     requires { at + (length word.now + 20) ≤ length out.old }
     ensures { PutsText at (word.now ++ decimal_text n) out.old out.new result × (result ≤ at + (length word.now + 20)) }
 {
-    let p = text::put_bytes(out, at, word);
-    text::put_decimal(out, p, n)
+    let place = text::put_bytes(out, at, word);
+    text::put_decimal(out, place, n)
 }
 
-// The first n bytes of a buffer in hex; all of them where it has no more.
-fn tab_hex(out: &mut [u8], at: usize, buffer: &[u8], n: usize) -> usize
-    requires { (at + (2 * max_bytes + 1) ≤ length out.old) × (length buffer.now ≤ max_bytes) }
-    ensures { PutsText at (after_tab (hex_text (take n buffer.now))) out.old out.new result × (result ≤ at + (2 * max_bytes + 1)) }
+#[tactic(auto, unfolding(crate::specs::Texts::ok_text))]
+fn ok(out: &mut [u8], at: usize, n: usize) -> usize
+    requires { at + 23 ≤ length out.old }
+    ensures { PutsText at (ok_text n) out.old out.new result × (result ≤ at + 23) }
 {
-    let p = text::put_bytes(out, at, b"\t");
-    if buffer.len() < n {
-        return text::put_hex(out, p, buffer);
-    }
-    text::put_hex(out, p, &buffer[..n])
+    worded(out, at, b"ok\t", n as u64)
 }
 
-// The first n bytes of a text; all of them where it has no more.
-fn tab_bytes(out: &mut [u8], at: usize, bytes: &[u8], n: usize) -> usize
-    requires { (at + (max_bytes + 1) ≤ length out.old) × (length bytes.now ≤ max_bytes) }
-    ensures { PutsText at (after_tab (take n bytes.now)) out.old out.new result × (result ≤ at + (max_bytes + 1)) }
+// A refusal's number.
+#[tactic(auto, unfolding(crate::specs::Texts::no_text))]
+fn no(out: &mut [u8], at: usize, number: u8) -> usize
+    requires { at + 23 ≤ length out.old }
+    ensures { PutsText at (no_text number) out.old out.new result × (result ≤ at + 23) }
 {
-    let p = text::put_bytes(out, at, b"\t");
-    if bytes.len() < n {
-        return text::put_bytes(out, p, bytes);
-    }
-    text::put_bytes(out, p, &bytes[..n])
-}
-
-fn end(out: &mut [u8], at: usize) -> usize
-    requires { at + 1 ≤ length out.old }
-    ensures { PutsText at (10 ∷ []) out.old out.new result }
-{
-    text::put_bytes(out, at, b"\n")
-}
-
-// A refusal's number, and no more.
-fn no(out: &mut [u8], at: usize, k: u64) -> usize
-    requires { at + 24 ≤ length out.old }
-    ensures { PutsText at (ended (no_text k)) out.old out.new result }
-{
-    let p = worded(out, at, b"no\t", k);
-    end(out, p)
+    worded(out, at, b"no\t", u64::from(number))
 }
 
 // The length that a writer answered, or the number of its refusal.
-fn outcome(out: &mut [u8], at: usize, answer: Encoded) -> usize
+fn outcome(out: &mut [u8], at: usize, outcome: Result<usize, EncodeError>) -> usize
     requires { at + 23 ≤ length out.old }
-    ensures { PutsText at (length_text (outcome_of answer)) out.old out.new result × (result ≤ at + 23) }
+    ensures { PutsText at (length_text (outcome_of outcome)) out.old out.new result × (result ≤ at + 23) }
+{
+    match outcome {
+        Ok(n) => ok(out, at, n),
+        Err(error) => no(out, at, u8::from(error)),
+    }
+}
+
+// A lent buffer in hex, after a tab.
+fn tab_hex(out: &mut [u8], at: usize, lent: &Bytes) -> usize
+    requires { at + (1 + 2 * max_bytes) ≤ length out.old }
+    ensures { PutsText at (after_tab (hex_text (bytes_of lent.now))) out.old out.new result × (result ≤ at + (1 + 2 * max_bytes)) }
+{
+    let place = text::put_bytes(out, at, b"\t");
+    text::put_hex(out, place, lent.as_slice())
+}
+
+fn tab_bytes(out: &mut [u8], at: usize, text: &Bytes) -> usize
+    requires { at + (1 + max_bytes) ≤ length out.old }
+    ensures { PutsText at (after_tab (bytes_of text.now)) out.old out.new result × (result ≤ at + (1 + max_bytes)) }
+{
+    let place = text::put_bytes(out, at, b"\t");
+    text::put_bytes(out, place, text.as_slice())
+}
+
+// An answer, without the line's end.
+fn unended(out: &mut [u8], at: usize, answer: Answer) -> usize
+    requires { at + max_answer ≤ length out.old }
+    ensures { PutsText at (answer_text answer) out.old out.new result × (result + 1 ≤ at + max_answer) }
 {
     match answer {
-        Encoded::Length(n) => worded(out, at, b"ok\t", n as u64),
-        Encoded::Outside => worded(out, at, b"no\t", 3),
-        Encoded::NoRoom => worded(out, at, b"no\t", 4),
-        Encoded::Malformed => worded(out, at, b"no\t", 5),
-    }
-}
-
-// What a written length answered.
-pub fn length(out: &mut [u8], at: usize, answer: Encoded) -> usize
-    ensures { PutsWithin max_answer at (ended (length_text (outcome_of answer))) out.old out.new result }
-{
-    if free(out, at) < MAX_ANSWER {
-        return at;
-    }
-    let p = outcome(out, at, answer);
-    end(out, p)
-}
-
-// What a writer answered: the length that it was asked for, or what it wrote, with the bytes of the lent buffer afterwards.
-pub fn output(
-    out: &mut [u8],
-    at: usize,
-    output: Output,
-    answer: Encoded,
-    buffer: &[u8; MAX_BYTES],
-) -> usize
-    ensures { PutsWithin max_answer at (ended (output_text output (outcome_of answer) buffer.now)) out.old out.new result }
-{
-    let Output::Buffer(n) = output else {
-        return length(out, at, answer);
-    };
-    if free(out, at) < MAX_ANSWER {
-        return at;
-    }
-    let p = outcome(out, at, answer);
-    let q = tab_hex(out, p, buffer, n);
-    end(out, q)
-}
-
-// The same of a number written after its tag, with the tag.
-pub fn written_number(
-    out: &mut [u8],
-    at: usize,
-    answer: Encoded,
-    tag: u8,
-    buffer: &[u8; MAX_BYTES],
-    n: usize,
-) -> usize
-    ensures { PutsWithin max_answer at (ended (written_number_text (outcome_of answer) tag (take n buffer.now))) out.old out.new result }
-{
-    let Encoded::Length(k) = answer else {
-        return output(out, at, Output::Buffer(n), answer, buffer);
-    };
-    if free(out, at) < MAX_ANSWER {
-        return at;
-    }
-    let p = worded(out, at, b"ok\t", k as u64);
-    let q = worded(out, p, b"\t", tag as u64);
-    let r = tab_hex(out, q, buffer, n);
-    end(out, r)
-}
-
-// What reading a number answered.
-pub fn number(out: &mut [u8], at: usize, answer: DecodedU64) -> usize
-    ensures { PutsWithin max_answer at (ended (read_text decimal_text (number_answer answer))) out.old out.new result }
-{
-    if free(out, at) < MAX_ANSWER {
-        return at;
-    }
-    match answer {
-        DecodedU64::Value(v, n) => {
-            let p = worded(out, at, b"ok\t", n as u64);
-            let q = worded(out, p, b"\t", v);
-            end(out, q)
+        Answer::Read { consumed, text } => {
+            let place = ok(out, at, consumed);
+            tab_bytes(out, place, &text)
         }
-        DecodedU64::EndOfInput => no(out, at, 1),
-        DecodedU64::TheirFault => no(out, at, 2),
+        Answer::Number(number) => {
+            let place = ok(out, at, number.consumed);
+            worded(out, place, b"\t", number.value)
+        }
+        Answer::NotRead(error) => no(out, at, u8::from(error)),
+        Answer::Written {
+            outcome: written,
+            lent,
+        } => {
+            let place = outcome(out, at, written);
+            tab_hex(out, place, &lent)
+        }
+        Answer::WrittenNumber { len, tag, lent } => {
+            let mut place = ok(out, at, len);
+            place = worded(out, place, b"\t", u64::from(tag));
+            tab_hex(out, place, &lent)
+        }
+        Answer::Length(written) => outcome(out, at, written),
     }
 }
 
-// What reading a record answered, whose text is the first n bytes of a buffer.
-pub fn value(out: &mut [u8], at: usize, answer: Decoded, value: &[u8; MAX_BYTES], n: usize) -> usize
-    ensures { PutsWithin max_answer at (ended (read_text (λ t. t) (answer_of answer (take n value.now)))) out.old out.new result }
+// Puts the answer to a line, 6 for one that is not in its form, and answers the next place; where fewer than MAX_ANSWER bytes are free, nothing changes.
+pub fn answer(out: &mut [u8], at: usize, answer: Option<Answer>) -> usize
+    ensures { PutsWithin max_answer at (ended (on_field answer answer_text)) out.old out.new result }
 {
     if free(out, at) < MAX_ANSWER {
         return at;
     }
-    match answer {
-        Decoded::Consumed(k) => {
-            let p = worded(out, at, b"ok\t", k as u64);
-            let q = tab_bytes(out, p, value, n);
-            end(out, q)
-        }
-        Decoded::EndOfInput => no(out, at, 1),
-        Decoded::TheirFault => no(out, at, 2),
-        Decoded::Malformed => no(out, at, 5),
-    }
+    let Some(answer) = answer else {
+        return text::put_bytes(out, at, b"no\t6\n");
+    };
+    let end = unended(out, at, answer);
+    text::put_bytes(out, end, b"\n")
 }

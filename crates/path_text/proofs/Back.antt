@@ -5,7 +5,7 @@ use Rattle.codec.specs.Writings.{All}
 use Rattle.codec.specs.Bytes.{same_bytes}
 use Rattle.text.specs.Parts.{parts}
 use Rattle.text.specs.Hex.{is_hex, unhex, hex_text}
-use Rattle.text.proofs.Tests.{both}
+use Rattle.std.proofs.lemmas.Bool.{and_parts}
 use Rattle.text.proofs.HexSteps.{unhex_bytes}
 use Rattle.text.proofs.Back.{hex_back}
 use Rattle.text.proofs.Joined.{one_part, parted, other_glyph, hex_without}
@@ -73,7 +73,7 @@ alike p q t u e f = (
 -- ---- what is read is well formed
 texts_typed : (ts : List (List ℕ)) → all_hex ts ≡ true → TypedComponents (map unhex ts)
 texts_typed [] h = tt
-texts_typed (t ∷ ts) h = let b = both (is_hex t) (all_hex ts) h in (unhex_bytes t b.0, texts_typed ts b.1)
+texts_typed (t ∷ ts) h = let b = and_parts (is_hex t) (all_hex ts) h in (unhex_bytes t b.0, texts_typed ts b.1)
 
 module _ (p : HeldPath) where
   abbrev Well : Type 0

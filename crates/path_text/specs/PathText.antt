@@ -1,5 +1,6 @@
 -- A path as text: its components in hex, parted by `/` (47); `-` (45) is the path of no components.
-use Rattle.std.specs.Prelude.{◌≡◌, List, [], ◌∷◌, ◌++◌, map, Bool, true, false, cond, ℕ, ◌+◌, ◌-◌, ◌*◌}
+use Rattle.std.specs.Prelude.{List, [], ◌∷◌, ◌++◌, map, Bool, cond, ℕ, ◌+◌, ◌-◌, ◌*◌, Option, Some, None}
+use Rattle.std.specs.List.{list_all}
 use Rattle.codec.specs.Answers.{Said, said, unsaid}
 use Rattle.codec.specs.Bytes.{same_bytes}
 use Rattle.text.specs.Parts.{parts}
@@ -8,9 +9,6 @@ use Rattle.path.specs.Record.{Path, components_of, path_from, well_formed}
 use Rattle.path.specs.declared.Path.{Path as HeldPath}
 use Rattle.path.specs.Limits.{max_component_count, max_path_length, path_ok}
 use Rattle.path.specs.Flat.{path_flat}
-use Rattle.path_text.specs.declared.Found.{Found}
-use Rattle.path_text.specs.declared.Found.TheVariants as found
-use Rattle.path_text.specs.declared.PathField.{PathField}
 use Rattle.text.specs.Ascii.{ascii}
 
 -- ---- printing
@@ -44,8 +42,7 @@ abbrev pub refused_field : Said HeldPath
 refused_field = unsaid 6
 
 abbrev pub all_hex : List (List ℕ) → Bool
-all_hex [] = true
-all_hex (t ∷ ts) = cond (is_hex t) (all_hex ts) false
+all_hex ts = list_all is_hex ts
 
 -- the path of these components, where they keep the limits
 unfoldable pub field_of : List (List ℕ) → Said HeldPath
@@ -63,16 +60,7 @@ read_components_text s = read_texts [] (parts 47 s)
 unfoldable pub read_path_text : List ℕ → Said HeldPath
 read_path_text s = cond (same_bytes s (ascii "-")) (read_field (path_from [])) (read_components_text s)
 
--- the number of the code's refusal; p is the path that stands beside the answer
-abbrev pub found_answer : Found → HeldPath → Said HeldPath
-found_answer found.Read p = said p
-found_answer found.Refused p = unsaid 6
-
--- what stands beside an answer: the path, and the one of no components beside a refusal
-abbrev pub path_beside : Said HeldPath → HeldPath
-path_beside (said p) = p
-path_beside (unsaid k) = record { flat = path_flat (path_from []) }
-
-pub record Finds (r : PathField) (x : Said HeldPath) : Type 0 where
-  pub answer : found_answer r.found r.path ≡ x
-  pub path : r.path ≡ path_beside x
+-- what the code's answer stands for
+abbrev pub found_answer : Option HeldPath → Said HeldPath
+found_answer (Some p) = said p
+found_answer None = unsaid 6

@@ -1,10 +1,7 @@
-use Rattle.case_numbers.proofs.Widths.{width_long, width_single}
+use Rattle.std.proofs.Common.{arith}
+use Rattle.case_numbers.proofs.Widths.{width_named}
 use Rattle.case_numbers.proofs.width.Goals as goal
 
-pub returns-then-field-ne1 : goal.returns-then-field-ne1
-returns-then-field-ne1 c k =
-    width_long c.args.field.now c.if-field-ne1.true k
-
-pub returns : goal.returns
-returns c k =
-    rw (width_single c.args.field.now c.if-field-ne1.false) at (c.width_named.ensures k)
+pub returns-in_ok-checked_sub-in-len1 : goal.returns-in_ok-checked_sub-in-len1
+returns-in_ok-checked_sub-in-len1 c =
+    rw c.ok.ensures.value (width_named c.args.field.now _ c.try_from.result (omega arith) (omega arith) (omega arith) c.try_from.ensures)

@@ -1,18 +1,16 @@
-use Rattle.codec.proofs.Prelude.{ap, sym, ◌∙◌, arith}
-use Rattle.text.specs.Fields.{hex_answer}
-use Rattle.case_text.proofs.FieldLaws.{hex_left, hex_taken}
+use Rattle.std.proofs.Common.{◌∙◌, sym}
+use Rattle.case_text.specs.Limits.{max_bytes}
+use Rattle.text.proofs.HexAnswers.{hex_some, some_bytes_lem, bytes_are}
 use Rattle.case_text.proofs.fields.hex.Goals as goal
 
-pub returns-in_default : goal.returns-in_default
-returns-in_default c =
-    let a = c.args in
-    let read = c.read_hex-read in
-    let e = rw c.part.ensures at read.ensures.0 in
-    hex_left a.i a.line.now a.buffer.now read.result e c.in_default.not-Bytes _
+pub invariant_of-result : goal.invariant_of-result
+invariant_of-result c =
+    let here = hex_some c.read_hex.result c.part.result.now max_bytes c.in_ok-len.len (sym c.ok.ensures.value ∙ c.in_ok-len.was) c.read_hex.ensures.0 in
+    record { inside = (some_bytes_lem c.part.result.now c.in_ok-len.len max_bytes here).2 }
 
 pub returns : goal.returns
 returns c =
-    let a = c.args in
-    let part = c.part.ensures in
-    let read = c.read_hex-read.ensures in
-    hex_taken a.i a.line.now a.buffer.now c.in-Bytes.n (sym (ap hex_answer c.in-Bytes.is) ∙ rw part at read.0) _ (rw part at read.1) (omega arith)
+    let s = c.part.result.now in
+    let n = c.in_ok-len.len in
+    let here = hex_some c.read_hex.result s max_bytes n (sym c.ok.ensures.value ∙ c.in_ok-len.was) c.read_hex.ensures.0 in
+    rw (c.read_hex.ensures.1, bytes_are s n _ here, ← c.part.ensures, ← here)

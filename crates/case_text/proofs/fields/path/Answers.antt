@@ -1,4 +1,0 @@
-use Rattle.case_text.proofs.fields.path.Goals as goal
-
-pub returns : goal.returns
-returns c = rw (← c.part.ensures) search
