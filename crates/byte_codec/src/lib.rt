@@ -2,7 +2,7 @@
 
 #![tactic(auto)]
 
-ghost use Rattle.std.specs.Prelude.{◌≡◌, ◌≤◌, length, drop};
+ghost use Rattle.std.specs.Prelude.{◌≡◌, ◌≤◌, [], cond, length, drop};
 ghost use Rattle.codec.specs.Answers.{answer_of, outcome_of};
 ghost use Rattle.codec.specs.Bytes.{same_bytes};
 ghost use Rattle.codec.specs.Format.{allowed, in_room, put_answer, put_buffer};
@@ -38,30 +38,20 @@ pub fn in_room(whole: Result<usize, EncodeError>, room: usize) -> Result<usize, 
     Ok(n)
 }
 
-// How many bytes a message has from a start on.
-fn bytes_from(message: &[u8], start: usize) -> usize
-    ensures { result ≡ length (drop start message.now) }
-{
-    if message.len() < start {
-        return 0;
-    }
-    message.len() - start
-}
-
 // Reads an id or a digest, 32 bytes as they are.
 pub fn decode_id(message: &[u8], start: usize) -> Result<Decoded<[u8; 32]>, DecodeError>
     ensures { answer_of result ≡ some_bytes 32 (drop start message.now) }
 {
-    if bytes_from(message, start) < 32 {
-        return Err(DecodeError::EndOfInput);
+    match message
+        .get(start..)
+        .and_then(|rest| rest.first_chunk::<32>())
+    {
+        Some(id) => Ok(Decoded {
+            value: *id,
+            consumed: 32,
+        }),
+        None => Err(DecodeError::EndOfInput),
     }
-    let end = start + 32;
-    let mut id = [0u8; 32];
-    id.copy_from_slice(&message[start..end]);
-    Ok(Decoded {
-        value: id,
-        consumed: 32,
-    })
 }
 
 // Reads an id that is the reference's unless it is written.
@@ -80,4 +70,11 @@ pub fn decode_id_if(
         value: reference,
         consumed: 0,
     })
+}
+
+// The bytes of an id: none unless it is written.
+pub fn id_bytes_if(id: &[u8; 32], written: bool) -> &[u8]
+    ensures { (result.now ≡ cond written id.now []) × (length result.now ≤ 32) }
+{
+    if written { id } else { &[] }
 }

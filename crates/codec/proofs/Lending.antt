@@ -49,6 +49,15 @@ put_wrote allowed bs room n e = go (leb (length bs) room) refl e
 pub put_over : (bs l : List ℕ) → length bs ≤ length l → put_buffer allowed bs l ≡ over bs l
 put_over bs l h = sym (put_fits allowed bs l refl (length bs) refl h).1
 
+-- what a length after a verdict tells of both
+pub length_told : (d : Verdict) (m n : ℕ) → wrote n ≡ length_by d m → (d ≡ allowed) × (n ≡ m)
+length_told allowed m n e = (refl, cc)
+length_told (refused_value k) m n e = let z : ◌≡◌ {A = ℕ} 0 1 = cc in absurd (omega arith)
+
+pub length_stopped : (d : Verdict) (m k : ℕ) → refused_writing k ≡ length_by d m → d ≡ refused_value k
+length_stopped allowed m k e = let z : ◌≡◌ {A = ℕ} 0 1 = cc in absurd (omega arith)
+length_stopped (refused_value j) m k e = let same : j ≡ k = cc in ap refused_value same
+
 -- the exits of a written length
 module _ {A : Type 0} (f : Format A) (v : A) where
   pub length_refused_value : (k : ℕ) → f.check v ≡ refused_value k → refused_writing k ≡ length_answer f v
@@ -62,19 +71,11 @@ module _ {A : Type 0} (f : Format A) (v : A) where
   -- and what a length that was answered tells
   pub length_wrote : (n : ℕ) → length_answer f v ≡ wrote n → (f.check v ≡ allowed) × (n ≡ length (f.encode v))
   unfolding length_answer
-  length_wrote n e = go (f.check v) refl e
-    where
-      go : (d : Verdict) → f.check v ≡ d → length_by d (length (f.encode v)) ≡ wrote n → (f.check v ≡ allowed) × (n ≡ length (f.encode v))
-      go allowed p q = (p, cc)
-      go (refused_value k) p q = let z : ◌≡◌ {A = ℕ} 0 1 = cc in absurd (omega arith)
+  length_wrote n e = length_told (f.check v) (length (f.encode v)) n (sym e)
 
   pub length_refused_writing : (k : ℕ) → length_answer f v ≡ refused_writing k → f.check v ≡ refused_value k
   unfolding length_answer
-  length_refused_writing k e = go (f.check v) refl e
-    where
-      go : (d : Verdict) → f.check v ≡ d → length_by d (length (f.encode v)) ≡ refused_writing k → f.check v ≡ refused_value k
-      go allowed p q = let z : ◌≡◌ {A = ℕ} 0 1 = cc in absurd (omega arith)
-      go (refused_value j) p q = let same : j ≡ k = cc in p ∙ ap refused_value same
+  length_refused_writing k e = length_stopped (f.check v) (length (f.encode v)) k (sym e)
 
   -- a length that is held to the room is what writing answers
   pub length_in_room : (whole r : Result ℕ EncodeError) (room : ℕ) → outcome_of whole ≡ length_answer f v → outcome_of r ≡ in_room (outcome_of whole) room → outcome_of r ≡ write_answer f v room

@@ -1,4 +1,5 @@
 -- Laws of lists of bytes that are the same.
+use lib.Pointwise.{pointwise}
 use Rattle.codec.proofs.Prelude.{◌≡◌, refl, List, [], ◌∷◌, true, false, ℕ, eqb, eqb-true, eq-eqb}
 use Rattle.codec.specs.Bytes.{same_bytes}
 use Rattle.codec.proofs.Tests.{and_left, and_right, and_not}
@@ -19,3 +20,10 @@ different [] (y ∷ b) h = refl
 different (x ∷ a) [] h = refl
 different (x ∷ a) (y ∷ b) h =
     and_not (eqb x y) (same_bytes a b) (λ e. different a b (λ q. h (let g : x ≡ y = eqb-true x y e in cc)))
+
+-- as slices are compared
+pub same_pointwise : (s t : List ℕ) → pointwise eqb s t ≡ same_bytes s t
+same_pointwise [] [] = refl
+same_pointwise [] (b ∷ t) = refl
+same_pointwise (a ∷ s) [] = refl
+same_pointwise (a ∷ s) (b ∷ t) = rw (same_pointwise s t)

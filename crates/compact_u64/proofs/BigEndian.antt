@@ -12,7 +12,7 @@ AllBytes-big_endian zero v i = omega arith
 AllBytes-big_endian (suc n) v zero = mod-lt (v / 256 ^ n) (omega arith)
 AllBytes-big_endian (suc n) v (suc i) = AllBytes-big_endian n v i
 
-pow256_pos : (n : ℕ) → 0 < 256 ^ n
+pub pow256_pos : (n : ℕ) → 0 < 256 ^ n
 pow256_pos zero = omega arith
 pow256_pos (suc n) = rw pow-suc (omega (arith, pow256_pos n))
 

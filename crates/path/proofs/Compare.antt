@@ -1,9 +1,10 @@
 -- Comparing two records component by component: what is known after k components that both have.
-use Rattle.codec.proofs.Prelude.{◌≡◌, refl, sym, ap, ◌∙◌, List, Bool, true, false, cond, ◌&&◌, ℕ, suc, min, ◌+◌, ◌-◌, ◌≤◌, ◌<◌, arith, eqb, eq-eqb, ne_eqb, leb, leb-true, leb-false, length, take, drop, get_or, length-drop, drop_of_length-le, length-take-le, get_or-take, get_or-drop, take-suc}
+use lib.Pointwise.{pointwise}
+use Rattle.codec.proofs.Prelude.{not, ◌≡◌, refl, sym, ap, ◌∙◌, List, Bool, true, false, cond, ◌&&◌, ℕ, suc, min, ◌+◌, ◌-◌, ◌≤◌, ◌<◌, arith, eqb, eq-eqb, ne_eqb, leb, leb-true, leb-false, length, take, drop, get_or, length-drop, drop_of_length-le, length-take-le}
 use Rattle.path.specs.Limits.{max_path_length}
 use Rattle.path.specs.Record.{Path, components_of, sized, well_formed, length_at, start_at}
 use Rattle.codec.specs.Bytes.{same_bytes}
-use Rattle.codec.proofs.SameBytes.{same_refl, different}
+use Rattle.codec.proofs.SameBytes.{same_pointwise, different}
 use Rattle.path.specs.Prefix.{shared, is_prefix, same_path}
 use Rattle.codec.specs.Answers.{said}
 use Rattle.path.specs.Answers.{said_if}
@@ -14,23 +15,7 @@ use Rattle.path.proofs.Records.{whole_in, lent_is, lent_known}
 use Rattle.path.proofs.Verdicts.{said_known}
 use Rattle.path.proofs.Components.{Formed, parts_formed, sized_formed, well_sized, bytes_at, count_is, next_start, ends, component}
 
--- ---- parts of two lists, from at on: i elements that agree and one more; parts that differ
-pub agree_next : (x y : List ℕ) (at i : ℕ) → at ≤ i → i < length x → i < length y
-    → take (i - at) (drop at x) ≡ take (i - at) (drop at y) → get_or x i 0 ≡ get_or y i 0
-    → take (i + 1 - at) (drop at x) ≡ take (i + 1 - at) (drop at y)
-agree_next x y at i from hx hy e g =
-    let n : i + 1 - at ≡ suc (i - at) = omega arith in
-    let m : at + (i - at) ≡ i = omega arith in
-    let dx : i - at < length (drop at x) = rw length-drop (omega arith) in
-    let dy : i - at < length (drop at y) = rw length-drop (omega arith) in
-    rw (n, take-suc (drop at x) (i - at) 0 dx, take-suc (drop at y) (i - at) 0 dy, get_or-drop at x (i - at) 0, get_or-drop at y (i - at) 0, m, e, g)
-
-differ_at : (x y : List ℕ) (at i n : ℕ) → i < n → (get_or x (at + i) 0 ≡ get_or y (at + i) 0 → ⊥) → take n (drop at x) ≡ take n (drop at y) → ⊥
-differ_at x y at i n h ne e =
-    let ex : get_or (take n (drop at x)) i 0 ≡ get_or x (at + i) 0 = get_or-take n (drop at x) i 0 h ∙ get_or-drop at x i 0 in
-    let ey : get_or (take n (drop at y)) i 0 ≡ get_or y (at + i) 0 = get_or-take n (drop at y) i 0 h ∙ get_or-drop at y i 0 in
-    ne (sym ex ∙ ap (λ (l : List ℕ). get_or l i 0) e ∙ ey)
-
+-- ---- parts of two lists that differ
 differ_long : (x y : List ℕ) (at n m : ℕ) → at + n ≤ length x → at + m ≤ length y → (n ≡ m → ⊥) → take n (drop at x) ≡ take m (drop at y) → ⊥
 differ_long x y at n m hx hy ne e =
     let ex : length (take n (drop at x)) ≡ n = length-take-le n (drop at x) (rw length-drop (omega arith)) in
@@ -104,20 +89,29 @@ module _ {p q : Path} {k at : ℕ} (t : Together p q k at) where
         let fits-q : at + get_or q.lengths k 0 ≤ length q.bytes = omega (arith, right_inside, t.right.bytes) in
         stop (λ e. differ_long p.bytes q.bytes at _ _ fits-p fits-q ne (sym left_bytes ∙ e ∙ right_bytes))
 
+    -- or its bytes decide, as the code takes and compares them
     module _ (same : get_or p.lengths k 0 ≡ get_or q.lengths k 0) where
-      pub bytes_differ : (i : ℕ) → at ≤ i → i < at + get_or p.lengths k 0 → (get_or p.bytes i 0 ≡ get_or q.bytes i 0 → ⊥)
-          → shared (components_of p) (components_of q) ≡ k
-      bytes_differ i from h ne =
-          let n : at + (i - at) ≡ i = omega arith in
-          stop (λ e. differ_at p.bytes q.bytes at (i - at) (get_or p.lengths k 0) (omega arith) (rw n ne) (sym left_bytes ∙ e ∙ right_bytes ∙ rw same))
+      compared : (b : Bool) → b ≡ not (pointwise eqb (take (at + get_or p.lengths k 0 - at) (drop at p.bytes)) (take (at + get_or p.lengths k 0 - at) (drop at q.bytes)))
+          → same_bytes (bytes_at p k) (bytes_at q k) ≡ not b
+      compared b e =
+          let n : at + get_or p.lengths k 0 - at ≡ get_or p.lengths k 0 = omega arith in
+          let there : bytes_at q k ≡ take (get_or p.lengths k 0) (drop at q.bytes) = right_bytes ∙ rw same in
+          go (same_bytes (bytes_at p k) (bytes_at q k)) (rw (n, ← left_bytes, ← there, same_pointwise (bytes_at p k) (bytes_at q k)) at e)
+        where
+          go : (x : Bool) → b ≡ not x → x ≡ not b
+          go true e = rw e
+          go false e = rw e
 
-      -- it is the same
-      pub together_next : take (get_or p.lengths k 0) (drop at p.bytes) ≡ take (get_or p.lengths k 0) (drop at q.bytes)
+      pub bytes_differ : true ≡ not (pointwise eqb (take (at + get_or p.lengths k 0 - at) (drop at p.bytes)) (take (at + get_or p.lengths k 0 - at) (drop at q.bytes)))
+          → shared (components_of p) (components_of q) ≡ k
+      bytes_differ e = no_more (step ∙ rw (compared true e))
+
+      pub together_next : false ≡ not (pointwise eqb (take (at + get_or p.lengths k 0 - at) (drop at p.bytes)) (take (at + get_or p.lengths k 0 - at) (drop at q.bytes)))
           → Together p q (k + 1) (at + get_or p.lengths k 0)
       unfolding length_at
       together_next e =
-          let b : bytes_at p k ≡ bytes_at q k = left_bytes ∙ e ∙ rw same (sym right_bytes) in
-          let n : shared (drop k (components_of p)) (drop k (components_of q)) ≡ suc (shared (drop (k + 1) (components_of p)) (drop (k + 1) (components_of q))) = step ∙ rw (b, same_refl (bytes_at q k)) in
+          let b : same_bytes (bytes_at p k) (bytes_at q k) ≡ true = compared false e in
+          let n : shared (drop k (components_of p)) (drop k (components_of q)) ≡ suc (shared (drop (k + 1) (components_of p)) (drop (k + 1) (components_of q))) = step ∙ rw b in
           record {
             left = t.left;
             right = t.right;

@@ -1,5 +1,7 @@
 -- Laws of lists of lengths, and of bytes cut by them.
-use Rattle.codec.proofs.Prelude.{◌≡◌, refl, sym, ap, ◌∙◌, List, [], ◌∷◌, ◌++◌, map, append_assoc, true, ◌&&◌, ℕ, zero, suc, ◌+◌, ◌-◌, ◌≤◌, ◌<◌, sub-zero, zero-sub, add-one, arith, leb, leb-true, length, take, drop, get_or, replicate, length-append, length-drop, drop_of_length-le, take-append-drop, take-append_seam, drop-append_seam, length-take-le, take-add, drop-cons, drop-drop}
+use Rattle.codec.proofs.Prelude.{◌≡◌, refl, sym, ap, ◌∙◌, List, [], ◌∷◌, ◌++◌, map, append_assoc, Bool, true, false, eqb, ne_eqb, ◌&&◌, ℕ, zero, suc, ◌+◌, ◌-◌, ◌≤◌, ◌<◌, sub-zero, zero-sub, add-one, arith, leb, leb-true, lt-leb, length, take, drop, get_or, replicate, length-append, length-drop, drop_of_length-le, take-append-drop, take-append_seam, drop-append_seam, length-take-le, take-add, drop-cons, drop-drop}
+use Rattle.std.specs.Int.Bits.{bit_or}
+use Rattle.std.proofs.lemmas.Nat.{le_or_l, le_or_r}
 use Rattle.path.specs.Limits.{total_of}
 use Rattle.path.specs.Record.{sum_of, joined, cut_up, all_at_most}
 use Rattle.codec.proofs.Tests.{and_left, and_right}
@@ -94,3 +96,26 @@ drop-take (suc k) (suc n) [] = none (suc n - suc k)
     none zero = refl
     none (suc m) = refl
 drop-take (suc k) (suc n) (x ∷ l) = let e : suc n - suc k ≡ n - k = omega arith in rw e (drop-take k n l)
+
+-- ---- bytes joined by `or`: zero as long as all of them are
+zero_or : (a x : ℕ) → eqb (bit_or a x) 0 ≡ (eqb a 0 && leb x 0)
+zero_or zero zero = refl
+zero_or zero (suc x) = ne_eqb (bit_or 0 (suc x)) 0 (λ e. omega (arith, le_or_r 0 (suc x), e)) ∙ sym (lt-leb (suc x) 0 (omega arith))
+zero_or (suc a) x =
+    let some : eqb (suc a) 0 ≡ false = ne_eqb (suc a) 0 (λ e. omega (arith, e)) in
+    rw some (ne_eqb (bit_or (suc a) x) 0 (λ e. omega (arith, le_or_l (suc a) x, e)))
+
+at_most_snoc : (n : ℕ) (ys : List ℕ) (x : ℕ) → all_at_most n (ys ++ (x ∷ [])) ≡ (all_at_most n ys && leb x n)
+at_most_snoc n [] x = go (leb x n)
+  where
+    go : (b : Bool) → (b && true) ≡ b
+    go true = refl
+    go false = refl
+at_most_snoc n (y ∷ ys) x = rw (at_most_snoc n ys x) (go (leb y n))
+  where
+    go : (b : Bool) → (b && (all_at_most n ys && leb x n)) ≡ ((b && all_at_most n ys) && leb x n)
+    go true = refl
+    go false = refl
+
+pub zeros_next : (ys : List ℕ) (a x : ℕ) → eqb a 0 ≡ all_at_most 0 ys → eqb (bit_or a x) 0 ≡ all_at_most 0 (ys ++ (x ∷ []))
+zeros_next ys a x e = zero_or a x ∙ rw (e, at_most_snoc 0 ys x)

@@ -1,5 +1,5 @@
 -- Numbers, and paths, as flat bytes: there and back.
-use Rattle.codec.proofs.Prelude.{◌≡◌, refl, sym, ap, ◌∙◌, List, [], ◌∷◌, ◌++◌, append_assoc, append-nil, true, ℕ, zero, suc, ◌-◌, ◌*◌, ◌%◌, ◌^◌, ◌≤◌, ◌<◌, mod-eq_of_lt, arith, leb, length, take, drop, length-append, length-take, take-append-drop, take_at, drop_at, take-add, take-take, length-take-le, le-leb, leb-true}
+use Rattle.codec.proofs.Prelude.{◌≡◌, refl, sym, ap, ◌∙◌, List, [], ◌∷◌, ◌++◌, append_assoc, get_or, append-nil, true, ℕ, zero, suc, ◌-◌, ◌*◌, ◌%◌, ◌^◌, ◌≤◌, ◌<◌, mod-eq_of_lt, arith, leb, length, take, drop, length-append, take-append-drop, take_at, drop_at, take-add, take-take, length-take-le, le-leb, leb-true}
 use Rattle.codec.specs.Answers.{AllBytes}
 use Rattle.codec.proofs.Bytes.{AllBytes-drop, AllBytes-take}
 use Rattle.codec.proofs.Tests.{and_left, and_right}
@@ -9,7 +9,9 @@ use Rattle.path.specs.Limits.{max_component_length, max_component_count, max_pat
 use Rattle.path.specs.Record.{Path, all_at_most, used, well_formed, TypedPath}
 use Rattle.path.proofs.Lists.{drop-take}
 use Rattle.path.proofs.Record.{well_formed_lem}
-use Rattle.path.specs.Flat.{path_size, shorts, shorts_in, path_flat, path_in}
+use Rattle.std.specs.Array.{IsFirstChunk}
+use Rattle.path.proofs.Records.{lent_is}
+use Rattle.path.specs.Flat.{lent, path_size, shorts, shorts_in, path_flat, path_in}
 
 -- ---- numbers of n bytes
 pub number_loads : (n v : ℕ) (r : List ℕ) → v < 256 ^ n → value_of (take n (big_endian n v ++ r)) ≡ v
@@ -96,7 +98,7 @@ shorts_taken (suc n) zero (x ∷ y ∷ s) h l = absurd (omega arith)
 shorts_taken (suc n) (suc zero) (x ∷ y ∷ s) h l = absurd (omega arith)
 shorts_taken (suc n) (suc (suc m)) (x ∷ y ∷ s) h l = ap (λ (t : List ℕ). value_of (x ∷ y ∷ []) ∷ t) (shorts_taken n m s (omega arith) (omega arith))
 
-path_taken : (s : List ℕ) → path_size ≤ length s → path_in (take path_size s) ≡ path_in s
+pub path_taken : (s : List ℕ) → path_size ≤ length s → path_in (take path_size s) ≡ path_in s
 unfolding path_in
 path_taken [] h = absurd (omega arith)
 path_taken (x ∷ s) h =
@@ -104,6 +106,14 @@ path_taken (x ∷ s) h =
     let lengths : shorts_in max_component_count (take (path_size - 1) s) ≡ shorts_in max_component_count s = shorts_taken max_component_count (path_size - 1) s (omega arith) (omega arith) in
     λ i. record { bytes = bytes i; lengths = lengths i; count = x }
 
--- a part of other bytes that is a record
-pub path_within_lem : (p s : List ℕ) → (p ≡ take path_size s) × (length p ≡ path_size) → path_in p ≡ path_in s
-path_within_lem p s e = ap path_in e.0 ∙ path_taken s (omega (arith, length-take path_size s, ap length e.0, e.1))
+-- a record at the start of lent bytes
+module _ {s y : List ℕ} (first : IsFirstChunk s y path_size) where
+  pub first_in : path_in y ≡ path_in s
+  first_in = ap path_in first.same ∙ path_taken s first.enough
+
+  pub first_lent : {A : Type 0} (none : A) (part : Path → A) → part (path_in y) ≡ lent none part s
+  first_lent none part = ap part first_in ∙ sym (lent_is s first.enough none part)
+
+  pub count_told : get_or y 0 0 ≡ lent 0 (λ p. p.count) s
+  unfolding path_in
+  count_told = first_lent 0 (λ p. p.count)

@@ -1,5 +1,5 @@
 -- Laws of a lent record: its parts where its bytes stand.
-use Rattle.codec.proofs.Prelude.{◌≡◌, refl, sym, ap, ◌∙◌, List, [], ◌∷◌, true, false, Bool, ◌&&◌, ℕ, zero, suc, ◌+◌, ◌*◌, ◌≤◌, ◌<◌, ◌-◌, sub-zero, zero-sub, zero-add, add-one, arith, leb, eqb, lt-leb, le-leb, eq-eqb, ne_eqb, length, take, drop, get_or, length-drop, drop-cons, drop-drop, length-take-le, take_all, get_or-take, List·getD-eq-default}
+use Rattle.codec.proofs.Prelude.{◌≡◌, refl, sym, ap, ◌∙◌, List, [], ◌∷◌, true, false, Bool, ◌&&◌, ℕ, zero, suc, ◌+◌, ◌*◌, ◌≤◌, ◌<◌, ◌-◌, sub-zero, zero-sub, zero-add, add-one, arith, leb, leb-true, leb-false, min, eqb, lt-leb, le-leb, eq-eqb, ne_eqb, length, take, drop, get_or, length-drop, drop-cons, drop-drop, length-take-le, take_all, get_or-take, List·getD-eq-default}
 use lib.ListN.{length-take}
 use Rattle.compact_u64.specs.BigEndian.{value_of}
 use Rattle.path.specs.Record.{Path, sum_of, components_of, start_at, all_at_most, length_at, sized, well_formed}
@@ -83,6 +83,16 @@ span_capped s from to h =
     let a : length (drop from ls) ≤ to - from = rw length-drop (omega (arith, slots s)) in
     let b : length (drop from ls) ≤ max_component_count - from = rw length-drop (omega (arith, slots s)) in
     take_all (to - from) (drop from ls) a ∙ sym (take_all (max_component_count - from) (drop from ls) b)
+
+pub span_min : (s : List ℕ) (from to m : ℕ) → m ≡ min to max_component_count → take (m - from) (drop from (path_in s).lengths) ≡ take (to - from) (drop from (path_in s).lengths)
+span_min s from to m e = go (leb to max_component_count) refl
+  where
+    go : (b : Bool) → leb to max_component_count ≡ b → take (m - from) (drop from (path_in s).lengths) ≡ take (to - from) (drop from (path_in s).lengths)
+    go true h = let k : m ≡ to = omega (arith, e, leb-true to max_component_count h) in rw k
+    go false h =
+        let over = leb-false to max_component_count h in
+        let k : m ≡ max_component_count = omega (arith, e, over) in
+        rw k (sym (span_capped s from to over))
 
 -- ---- the first n lengths, tested from the i-th on
 module _ (s : List ℕ) (n : ℕ) (few : n ≤ max_component_count) where

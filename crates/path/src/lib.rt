@@ -57,17 +57,11 @@ impl Path {
     }
 }
 
-// Whether every byte is zero, with no way out of the loop, so that many bytes are tested at a time.
+// Whether every byte is zero, with no way out before the last, so that many bytes are tested at a time.
 pub fn all_zero(s: &[u8]) -> bool
     ensures { result ≡ all_at_most 0 s.now }
 {
-    let mut clear = true;
-    for &byte in s {
-        if 0 < byte {
-            clear = false;
-        }
-    }
-    clear
+    s.iter().fold(0, |bits, byte| bits | byte) == 0
 }
 
 // Where the i-th component stands among the bytes of all.

@@ -2,6 +2,7 @@
 use lib.Pointwise.{pointwise}
 use Rattle.codec.proofs.Prelude.{◌≡◌, refl, sym, ap, ◌∙◌, List, [], ◌∷◌, ◌++◌, Bool, true, false, cond, not, ℕ, suc, ◌+◌, ◌-◌, ◌≤◌, ◌<◌, arith, eqb, le-leb, eq-eqb, ne_eqb, length, take, drop, take-append-drop, take_at, length-append}
 use Rattle.codec.specs.Bytes.{same_bytes}
+use Rattle.codec.proofs.SameBytes.{same_pointwise}
 use Rattle.codec.specs.Reads.{Yields}
 use Rattle.codec.proofs.Yields.{yields_as, guard_yields, mapped_yields}
 use Rattle.path.specs.Record.{Path, components_of, path_from, sized, length_at, start_at}
@@ -68,12 +69,6 @@ module _ {p q : Path} {k : ℕ} (a : Alike p q k) where
         let here : take (at + n - at) (drop at p.bytes) ≡ bytes_at p k = rw e (part_bytes p left k hp at start) in
         let there : take (at + n - at) (drop at q.bytes) ≡ bytes_at q k = rw f (part_bytes q right k hq at (start ∙ ap total_of a.same)) in
         rw (here, there) (decides (pointwise eqb (bytes_at p k) (bytes_at q k)) (sym (same_pointwise (bytes_at p k) (bytes_at q k))))
-      where
-        same_pointwise : (s t : List ℕ) → pointwise eqb s t ≡ same_bytes s t
-        same_pointwise [] [] = refl
-        same_pointwise [] (b ∷ t) = refl
-        same_pointwise (a ∷ s) [] = refl
-        same_pointwise (a ∷ s) (b ∷ t) = rw (same_pointwise s t)
 
 -- a path read after the first components of another
 pub on_alike : (canonic : Bool) (p : Path) (k : ℕ) → Leads p k → (total count : ℕ) → Yields (read_after canonic p k total count) (λ q. Alike p q k)

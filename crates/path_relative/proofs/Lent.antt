@@ -1,12 +1,15 @@
 -- What comparing a lent path with its reference tells the writers, and what a test of the whole records leaves of one of their sizes.
-use Rattle.codec.proofs.Prelude.{◌≡◌, sym, ap, ◌∙◌, true, false, ◌&&◌, ℕ, ◌≤◌, arith, eqb-true, le-leb, length, drop}
-use Rattle.codec.specs.Format.{allowed, refused_value}
+use Rattle.codec.proofs.Prelude.{◌≡◌, sym, ap, ◌∙◌, true, ◌&&◌, ℕ, ◌≤◌, arith, eqb-true, le-leb, length, drop}
+use Rattle.std.specs.Prelude.{List, Result}
+use Rattle.codec.specs.declared.EncodeError.{EncodeError}
+use Rattle.codec.specs.Format.{allowed, refused_value, length_by, length_answer, WritesInto}
+use Rattle.codec.proofs.Lending.{length_told, length_stopped, length_refused_value, same_length, same_writing, writes_into}
 use Rattle.path.specs.Record.{Path, components_of, sized, well_formed}
 use Rattle.path.specs.Prefix.{shared, is_prefix}
-use Rattle.codec.specs.Answers.{said, unsaid}
+use Rattle.codec.specs.Answers.{Outcome, wrote, refused_writing, encode_number, said, unsaid}
 use Rattle.path.specs.Answers.{said_if}
 use Rattle.codec.proofs.Tests.{and_left, and_right}
-use Rattle.path.proofs.Components.{Formed, sized_formed, well_sized, count_is, rest_count, rest_small}
+use Rattle.path.proofs.Components.{sized_formed, well_sized, count_is, rest_count, rest_small}
 use Rattle.path.proofs.Prefix.{shares}
 use Rattle.path.proofs.Verdicts.{said_known, unsaid_known}
 use Rattle.codec.proofs.Lawful.{verdict_allowed}
@@ -43,39 +46,41 @@ module _ (r p : Path) where
     pub shared_against : ((shared_by sized k).check p ≡ (against_path r).check p) × ((shared_by sized k).encode p ≡ (against_path r).encode p)
     shared_against = (rest_allowed ∙ rw both, rw is)
 
-  -- ---- a prefix
-  pub extends_malformed : unsaid 5 ≡ said_if (sized r && sized p) (is_prefix (components_of r) (components_of p)) → (extends_by sized r).check p ≡ refused_value 5
-  extends_malformed e = rw (unsaid_known (sized r && sized p) (is_prefix (components_of r) (components_of p)) 5 e).0
+  -- ---- a prefix, by the count that its test told
+  module _ (n : ℕ) (told : wrote n ≡ length_by ((extends_by sized r).check p) r.count) where
+    prefixed : ((extends_by sized r).check p ≡ allowed) × (n ≡ r.count)
+    prefixed = length_told ((extends_by sized r).check p) r.count n told
 
-  pub extends_outside : said false ≡ said_if (sized r && sized p) (is_prefix (components_of r) (components_of p)) → (extends_by sized r).check p ≡ refused_value 3
-  extends_outside e = let x = said_known (sized r && sized p) (is_prefix (components_of r) (components_of p)) false e in rw (x.0, x.1)
-
-  -- a path that the reference is a prefix of is written as the suffix after it
-  module _ (e : said true ≡ said_if (sized r && sized p) (is_prefix (components_of r) (components_of p))) where
-    prefixed : ((sized r && sized p) ≡ true) × (is_prefix (components_of r) (components_of p) ≡ true)
-    prefixed = said_known (sized r && sized p) (is_prefix (components_of r) (components_of p)) true e
-
-    pub reference_formed : Formed r
-    reference_formed = sized_formed (and_left (sized r) (sized p) prefixed.0)
+    tests : ((sized r && sized p) ≡ true) × (is_prefix (components_of r) (components_of p) ≡ true)
+    tests = verdict_allowed (sized r && sized p) (is_prefix (components_of r) (components_of p)) prefixed.0
 
     long : length (components_of r) ≡ r.count
-    long = count_is r reference_formed
+    long = count_is r (sized_formed (and_left (sized r) (sized p) tests.0))
 
     all-shared : shared (components_of r) (components_of p) ≡ length (components_of r)
     unfolding is_prefix
-    all-shared = eqb-true (shared (components_of r) (components_of p)) (length (components_of r)) prefixed.1
+    all-shared = eqb-true (shared (components_of r) (components_of p)) (length (components_of r)) tests.1
 
     within : r.count ≤ p.count
-    within =
-        let fits = and_right (sized r) (sized p) prefixed.0 in
-        omega (arith, long, all-shared, (shares (components_of r) (components_of p)).in_p, count_is p (sized_formed fits))
+    within = omega (arith, long, all-shared, (shares (components_of r) (components_of p)).in_p, count_is p (sized_formed (and_right (sized r) (sized p) tests.0)))
 
-    pub extends_suffix : (n : ℕ) → n ≡ r.count → ((suffix_by sized n).check p ≡ (extends_by sized r).check p) × ((suffix_by sized n).encode p ≡ (extends_by sized r).encode p)
-    extends_suffix n count =
-        let fits = and_right (sized r) (sized p) prefixed.0 in
-        let left : (suffix_by sized r.count).check p ≡ allowed = rw (fits, le-leb r.count p.count within) in
-        let right : (extends_by sized r).check p ≡ allowed = rw (prefixed.0, prefixed.1) in
-        rw count (left ∙ sym right, ap (λ (k : ℕ). suffix_bytes (drop k (components_of p))) (sym long))
+    -- a path that the reference is a prefix of is written as the suffix after it
+    extends_suffix : ((suffix_by sized n).check p ≡ (extends_by sized r).check p) × ((suffix_by sized n).encode p ≡ (extends_by sized r).encode p)
+    extends_suffix =
+        let left : (suffix_by sized r.count).check p ≡ allowed = rw (and_right (sized r) (sized p) tests.0, le-leb r.count p.count within) in
+        rw prefixed.1 (left ∙ sym prefixed.0, ap (λ (k : ℕ). suffix_bytes (drop k (components_of p))) (sym long))
+
+    pub extends_length : {o : Outcome} → o ≡ length_answer (suffix_by sized n) p → o ≡ length_answer (extends_by sized r) p
+    extends_length e = e ∙ same_length (suffix_by sized n) p (extends_by sized r) extends_suffix.0 extends_suffix.1
+
+    pub extends_written : {e : Result ℕ EncodeError} {l left : List ℕ} → WritesInto (suffix_by sized n) p e l left → WritesInto (extends_by sized r) p e l left
+    extends_written {l = l} put =
+        let w = same_writing (suffix_by sized n) p (extends_by sized r) extends_suffix.0 extends_suffix.1 l in
+        writes_into (put.answer ∙ w.0, put.buffer ∙ w.1)
+
+  -- a refusal that the test of the prefix told
+  pub extends_refused : (e : EncodeError) → refused_writing (encode_number e) ≡ length_by ((extends_by sized r).check p) r.count → refused_writing (encode_number e) ≡ length_answer (extends_by sized r) p
+  extends_refused e told = length_refused_value (extends_by sized r) p (encode_number e) (length_stopped ((extends_by sized r).check p) r.count (encode_number e) told)
 
   pub extends_short : (extends_by sized r).check p ≡ allowed → length ((extends_by sized r).encode p) ≤ max_suffix_length
   extends_short ok =

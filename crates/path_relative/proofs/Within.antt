@@ -1,9 +1,8 @@
 -- Reading within a path: a reference of which all components are told to be shared is a prefix; and what the definitions answer at each exit of the code.
-use Rattle.codec.proofs.Prelude.{◌≡◌, refl, sym, ◌∙◌, List, Bool, true, false, cond, ◌&&◌, ℕ, ◌+◌, arith, eqb, eqb-true, ne_eqb, length, take_all}
+use Rattle.codec.proofs.Prelude.{◌≡◌, refl, sym, ◌∙◌, List, Bool, true, false, cond, ◌&&◌, ℕ, arith, eqb, eqb-true, ne_eqb, length, take_all}
 use Rattle.codec.specs.Answers.{Answer, accepted, refused}
-use Rattle.codec.specs.Reader.{bind, shift, named, passed, checked, mapped, on_formed}
-use Rattle.codec.specs.Reads.{Bounded, Yields}
-use Rattle.codec.proofs.Bounded.{checked_bounded}
+use Rattle.codec.specs.Reader.{bind, named, passed, checked, mapped, on_formed}
+use Rattle.codec.specs.Reads.{Yields}
 use Rattle.codec.proofs.Readers.{bind_inv, passed_inv}
 use Rattle.path.specs.Record.{Path, components_of, path_from, sized}
 use Rattle.path.specs.inside.Sizes.{Leads}
@@ -13,10 +12,10 @@ use Rattle.path.proofs.Components.{sized_formed, count_is}
 use Rattle.path.proofs.Prefix.{takes_prefix}
 use Rattle.path_suffix_decode.specs.After.{read_after}
 use Rattle.path_relative.specs.Against.{read_against}
-use Rattle.path_relative.specs.Records.{read_against_by}
-use Rattle.path_relative.specs.inside.Reading.{ToldShared, read_tested_by, read_tested, read_joined, prefix_if}
+use Rattle.path_relative.specs.Records.{read_against_by, read_within_by}
+use Rattle.path_relative.specs.inside.Reading.{ToldShared, read_joined}
 use Rattle.path_relative.proofs.Alike.{on_alike}
-use Rattle.path_relative.proofs.Exits.{joined_on, joined_bounded}
+use Rattle.path_relative.proofs.Exits.{joined_on}
 
 -- ---- whether a reference is a prefix of the path that was read against it
 module _ {canonic : Bool} {r p : Path} {k : ℕ} (t : ToldShared canonic r p k) where
@@ -49,46 +48,21 @@ module _ (canonic : Bool) (r : Path) (k total count : ℕ) where
         };
   }
 
-  module _ (s : List ℕ) where
-    pub tested_on : (within : Bool) → read_tested within canonic r k total count s ≡ bind (read_joined canonic r k total count s) (λ p n. passed (prefix_if within (components_of r) (components_of p)) (accepted p n))
-    unfolding read_tested
-    tested_on within = refl
-
-  pub tested_bounded : (within : Bool) → Bounded (read_tested within canonic r k total count)
-  unfolding read_tested
-  tested_bounded within = checked_bounded (λ p. prefix_if within (components_of r) (components_of p)) _ (joined_bounded canonic r k total count)
-
 -- ---- the whole, by what reading against the reference answers
-module _ (formed : Path → Bool) (within canonic : Bool) (r : Path) (s : List ℕ) where
-  by_against : read_tested_by formed within canonic r s ≡ bind (read_against_by formed canonic r s) (λ p n. passed (prefix_if within (components_of r) (components_of p)) (accepted p n))
-  by_against = whole (formed r)
-    where
-      judged : (t : Bool) (cs : List (List ℕ)) (n : ℕ) → named path_from (passed t (accepted cs n)) ≡ passed t (accepted (path_from cs) n)
-      judged true cs n = refl
-      judged false cs n = refl
+pub within_on : (formed : Path → Bool) (canonic : Bool) (r : Path) (s : List ℕ)
+    → read_within_by formed canonic r s ≡ bind (read_against_by formed canonic r s) (λ p n. passed (is_prefix (components_of r) (components_of p)) (accepted p n))
+within_on formed canonic r s = whole (formed r)
+  where
+    judged : (t : Bool) (cs : List (List ℕ)) (n : ℕ) → named path_from (passed t (accepted cs n)) ≡ passed t (accepted (path_from cs) n)
+    judged true cs n = refl
+    judged false cs n = refl
 
-      go : (x : Answer (List (List ℕ))) → named path_from (bind x (λ cs n. passed (prefix_if within (components_of r) cs) (accepted cs n)))
-          ≡ bind (named path_from x) (λ p n. passed (prefix_if within (components_of r) (components_of p)) (accepted p n))
-      go (accepted cs n) = rw (components_of_lem cs) (judged (prefix_if within (components_of r) cs) cs n)
-      go (refused k) = refl
+    go : (x : Answer (List (List ℕ))) → named path_from (bind x (λ cs n. passed (is_prefix (components_of r) cs) (accepted cs n)))
+        ≡ bind (named path_from x) (λ p n. passed (is_prefix (components_of r) (components_of p)) (accepted p n))
+    go (accepted cs n) = rw (components_of_lem cs) (judged (is_prefix (components_of r) cs) cs n)
+    go (refused k) = refl
 
-      whole : (b : Bool) → on_formed b (mapped path_from (checked (prefix_if within (components_of r)) (read_against canonic (components_of r)))) s
-          ≡ bind (on_formed b (mapped path_from (read_against canonic (components_of r))) s) (λ p n. passed (prefix_if within (components_of r) (components_of p)) (accepted p n))
-      whole true = go (read_against canonic (components_of r) s)
-      whole false = refl
-
-  pub by_refused : (k : ℕ) → read_against_by formed canonic r s ≡ refused k → read_tested_by formed within canonic r s ≡ refused k
-  by_refused k e = by_against ∙ rw e
-
-  pub by_joined : (a b k total count : ℕ) (l : List ℕ) → read_against_by formed canonic r s ≡ shift a (shift b (read_joined canonic r k total count l))
-      → read_tested_by formed within canonic r s ≡ shift a (shift b (read_tested within canonic r k total count l))
-  by_joined a b k total count l e = by_against ∙ rw (e, tested_on canonic r k total count l within) (go (read_joined canonic r k total count l))
-    where
-      judged : (t : Bool) (p : Path) (n : ℕ) → passed t (accepted p (a + (b + n))) ≡ shift a (shift b (passed t (accepted p n)))
-      judged true p n = refl
-      judged false p n = refl
-
-      go : (x : Answer Path) → bind (shift a (shift b x)) (λ p n. passed (prefix_if within (components_of r) (components_of p)) (accepted p n))
-          ≡ shift a (shift b (bind x (λ p n. passed (prefix_if within (components_of r) (components_of p)) (accepted p n))))
-      go (accepted p n) = judged (prefix_if within (components_of r) (components_of p)) p n
-      go (refused k) = refl
+    whole : (b : Bool) → on_formed b (mapped path_from (checked (is_prefix (components_of r)) (read_against canonic (components_of r)))) s
+        ≡ bind (on_formed b (mapped path_from (read_against canonic (components_of r))) s) (λ p n. passed (is_prefix (components_of r) (components_of p)) (accepted p n))
+    whole true = go (read_against canonic (components_of r) s)
+    whole false = refl

@@ -1,4 +1,4 @@
--- What the definitions answer at each step of reading against a path, within it, and as its extension, as the code takes the rest of the message.
+-- What the definitions answer at each step of reading against a path and as its extension, as the code takes the rest of the message.
 use Rattle.codec.proofs.Prelude.{◌≡◌, refl, sym, ◌∙◌, ◌⊎◌, inl, inr, List, [], Bool, true, false, ℕ, ◌+◌, ◌-◌, ◌≤◌, ◌<◌, add_assoc, arith, leb, leb-true, leb-false, le-leb, length, take, drop, length-drop}
 use Rattle.std.specs.Prelude.{Ok, Err}
 use Rattle.codec.specs.declared.DecodeError.{DecodeError}
@@ -6,6 +6,7 @@ use Rattle.codec.specs.declared.DecodeError.TheVariants as decoding
 use Rattle.codec.specs.Answers.{accepted, refused, decode_number, AllBytes, Gives}
 use Rattle.codec.specs.Reader.{shift, checked}
 use Rattle.codec.proofs.Answers.{gives_refused, later_accepted, later_refused}
+use Rattle.codec.proofs.Bytes.{AllBytes-drop}
 use Rattle.codec.proofs.Lending.{to_end}
 use Rattle.compact_u64.specs.Number.{read_standalone}
 use Rattle.compact_u64.proofs.Exits.{standalone_inside}
@@ -20,49 +21,52 @@ use Rattle.path_suffix_decode.specs.After.{read_after}
 use Rattle.path_suffix_decode.proofs.Exits.{sizes_inside}
 use Rattle.path_suffix_decode.proofs.Within.{after_bounded}
 use Rattle.path_codec.specs.Plain.{read_path}
-use Rattle.path_relative.specs.Records.{read_extends_by}
-use Rattle.path_relative.specs.inside.Reading.{read_tested_by, read_tested}
-use Rattle.path_relative.proofs.Exits.{against_malformed, against_first, against_sizes, against_above, against_joined, extends_unformed, extends_sizes, extends_long, extends_many, extends_more}
-use Rattle.path_relative.proofs.Within.{tested_bounded, by_refused, by_joined}
+use Rattle.path_relative.specs.Records.{read_against_by, read_extends_by}
+use Rattle.path_relative.specs.inside.Reading.{ToldShared, read_joined}
+use Rattle.path_relative.proofs.Exits.{against_malformed, against_first, against_sizes, against_above, against_joined, joined_bounded, extends_unformed, extends_sizes, extends_long, extends_many, extends_more}
+use Rattle.path_relative.proofs.Within.{joined_told}
 
--- ---- against a path, or within it
-module _ (within canonic : Bool) (r : Path) (s : List ℕ) (i : ℕ) where
-  pub by_unsized : sized r ≡ false → Gives (path_from []) (Err decoding.Malformed) (path_from []) (read_tested_by sized within canonic r (drop i s))
-  by_unsized e = gives_refused decoding.Malformed (sym (by_refused sized within canonic r (drop i s) 5 (against_malformed sized canonic r (drop i s) e)))
+-- ---- against a path
+module _ (canonic : Bool) (r : Path) (s : List ℕ) (i : ℕ) where
+  pub by_unsized : sized r ≡ false → Gives (path_from []) (Err decoding.Malformed) (path_from []) (read_against_by sized canonic r (drop i s))
+  by_unsized e = gives_refused decoding.Malformed (sym (against_malformed sized canonic r (drop i s) e))
 
   module _ (fits : sized r ≡ true) where
-    pub by_number : (e : DecodeError) → refused (decode_number e) ≡ read_standalone canonic (drop i s) → Gives (path_from []) (Err e) (path_from []) (read_tested_by sized within canonic r (drop i s))
-    by_number e h = gives_refused e (sym (by_refused sized within canonic r (drop i s) (decode_number e) (against_first sized canonic r fits s i (decode_number e) (sym h))))
+    pub by_number : (e : DecodeError) → refused (decode_number e) ≡ read_standalone canonic (drop i s) → Gives (path_from []) (Err e) (path_from []) (read_against_by sized canonic r (drop i s))
+    by_number e h = gives_refused e (sym (against_first sized canonic r fits s i (decode_number e) (sym h)))
 
     module _ (k a : ℕ) (number : accepted k a ≡ read_standalone canonic (drop i s)) where
       pub by_first : i + a ≤ length s
       by_first = standalone_inside canonic s i k a (sym number)
 
-      pub by_sizes : (e : DecodeError) → refused (decode_number e) ≡ read_sizes canonic (drop (i + a) s) → Gives (path_from []) (Err e) (path_from []) (read_tested_by sized within canonic r (drop i s))
-      by_sizes e h = gives_refused e (sym (by_refused sized within canonic r (drop i s) (decode_number e) (against_sizes sized canonic r fits s i k a (sym number) (decode_number e) (sym h))))
+      pub by_sizes : (e : DecodeError) → refused (decode_number e) ≡ read_sizes canonic (drop (i + a) s) → Gives (path_from []) (Err e) (path_from []) (read_against_by sized canonic r (drop i s))
+      by_sizes e h = gives_refused e (sym (against_sizes sized canonic r fits s i k a (sym number) (decode_number e) (sym h)))
 
       module _ (h : Sizes) (b : ℕ) (sizes : accepted h b ≡ read_sizes canonic (drop (i + a) s)) where
         pub by_rest : i + a + b ≤ length s
         by_rest = sizes_inside canonic s (i + a) h b (sym sizes)
 
-        pub by_above : r.count < k → Gives (path_from []) (Err decoding.TheirFault) (path_from []) (read_tested_by sized within canonic r (drop i s))
+        pub by_above : r.count < k → Gives (path_from []) (Err decoding.TheirFault) (path_from []) (read_against_by sized canonic r (drop i s))
         by_above above =
-            gives_refused decoding.TheirFault (sym (by_refused sized within canonic r (drop i s) 2
-            (against_above sized canonic r fits s i k a (sym number) h.total h.count b (sym sizes) (omega (arith, count_is r (sized_formed fits), above)))))
+            gives_refused decoding.TheirFault (sym (against_above sized canonic r fits s i k a (sym number) h.total h.count b (sym sizes) (omega (arith, count_is r (sized_formed fits), above))))
 
-        is : read_tested_by sized within canonic r (drop i s) ≡ shift a (shift b (read_tested within canonic r k h.total h.count (drop (i + a + b) s)))
-        is = by_joined sized within canonic r (drop i s) a b k h.total h.count (drop (i + a + b) s) (against_joined sized canonic r fits s i k a (sym number) h.total h.count b (sym sizes))
+        is : read_against_by sized canonic r (drop i s) ≡ shift a (shift b (read_joined canonic r k h.total h.count (drop (i + a + b) s)))
+        is = against_joined sized canonic r fits s i k a (sym number) h.total h.count b (sym sizes)
 
         module _ {out : Path} where
-          pub by_stopped : (e : DecodeError) → Gives (path_from []) (Err e) out (read_tested within canonic r k h.total h.count (take (length s - (i + a + b)) (drop (i + a + b) s))) → Gives (path_from []) (Err e) out (read_tested_by sized within canonic r (drop i s))
+          pub by_stopped : (e : DecodeError) → Gives (path_from []) (Err e) out (read_joined canonic r k h.total h.count (take (length s - (i + a + b)) (drop (i + a + b) s))) → Gives (path_from []) (Err e) out (read_against_by sized canonic r (drop i s))
           by_stopped e g = rw is (later_refused a e (later_refused b e (rw to_end at g)))
 
-          module _ (n : ℕ) (g : Gives (path_from []) (Ok n) out (read_tested within canonic r k h.total h.count (take (length s - (i + a + b)) (drop (i + a + b) s)))) where
+          module _ (n : ℕ) (g : Gives (path_from []) (Ok n) out (read_joined canonic r k h.total h.count (take (length s - (i + a + b)) (drop (i + a + b) s)))) where
             pub by_inside : i + a + b + n ≤ length s
-            by_inside = omega (arith, by_rest, (tested_bounded canonic r k h.total h.count within).bound (drop (i + a + b) s) out n (sym (rw to_end at g.answer)), length-drop (i + a + b) s)
+            by_inside = omega (arith, by_rest, (joined_bounded canonic r k h.total h.count).bound (drop (i + a + b) s) out n (sym (rw to_end at g.answer)), length-drop (i + a + b) s)
 
-            pub by_read : Gives (path_from []) (Ok (a + b + n)) out (read_tested_by sized within canonic r (drop i s))
-            by_read = rw (is, add_assoc) (later_accepted a (b + n) (later_accepted b n (rw to_end at g)))
+            pub by_read : Gives (path_from []) (Ok (a + b + n)) out (read_against_by sized canonic r (drop i s))
+            by_read = rw (is, add_assoc a b n) (later_accepted a (b + n) (later_accepted b n (rw to_end at g)))
+
+            pub by_told : k ≤ r.count → AllBytes s → ToldShared canonic r out k
+            by_told there small =
+                (joined_told canonic r k h.total h.count (record { fits = fits; there = there })).holds (drop (i + a + b) s) out n (AllBytes-drop (i + a + b) s small) (sym (rw to_end at g.answer))
 
 -- ---- as an extension: the counts at hand are those of the whole path
 pub record Sized (r : Path) (n used : ℕ) : Type 0 where

@@ -1,5 +1,5 @@
 // Reading into a lent record against a path and as its extension, both lent as their records; the reference's sizes are tested: for the records above.
-ghost use Rattle.std.specs.Prelude.{◌≡◌, [], false, eqb, drop};
+ghost use Rattle.std.specs.Prelude.{◌≡◌, [], false, eqb, drop, IfOk};
 ghost use Rattle.codec.specs.Answers.{Gives};
 ghost use Rattle.codec.specs.Reader.{checked};
 ghost use Rattle.path.specs.Record.{components_of, path_from, sized};
@@ -8,9 +8,9 @@ ghost use Rattle.path.specs.Flat.{path_in};
 ghost use Rattle.path.specs.Prefix.{shared, is_prefix};
 ghost use Rattle.path_codec.specs.Plain.{read_path};
 ghost use Rattle.path_relative.specs.Records.{read_against_by, read_within_by, read_extends_by};
-ghost use Rattle.path_relative.specs.inside.Reading.{Alike, ToldShared, read_tested_by, read_tested, read_joined};
+ghost use Rattle.path_relative.specs.inside.Reading.{Alike, ToldShared, consumed_of, read_joined};
 
-use codec::DecodeError;
+use codec::{DecodeError, Decoded};
 use path::Path;
 use path_suffix::Sizes;
 
@@ -66,37 +66,16 @@ fn reaches(reference: &[u8], path: &[u8], canonic: bool, k: usize) -> bool
     !canonic && path::lent::is_prefix_of(reference, path).unwrap()
 }
 
-// Reads as `decode_joined` does; where asked, only a path `within` the reference, which is a prefix of it then.
-fn decode_tested(
-    message: &[u8],
-    within: bool,
-    canonic: bool,
-    k: usize,
-    sizes: Sizes,
-    reference: &[u8],
-    out: &mut [u8; path::lent::SIZE],
-) -> Result<usize, DecodeError>
-    requires { Leads (path_in reference.now) k }
-    ensures { Gives (path_from []) result (path_in out.new) (read_tested within canonic (path_in reference.now) k sizes.total sizes.count message.now) }
-{
-    let n = decode_joined(message, canonic, k, sizes, reference, out)?;
-    if within && !reaches(reference, out, canonic, k) {
-        path::lent::clear(out);
-        return Err(DecodeError::TheirFault);
-    }
-    Ok(n)
-}
-
-// Reads a path against a reference, or within it.
-fn decode_by(
+// Reads a path against a reference, and answers how many components the message tells to be shared.
+fn decode_shared(
     message: &[u8],
     start: usize,
-    within: bool,
     canonic: bool,
     reference: &[u8],
     out: &mut [u8; path::lent::SIZE],
-) -> Result<usize, DecodeError>
-    ensures { Gives (path_from []) result (path_in out.new) (read_tested_by sized within canonic (path_in reference.now) (drop start message.now)) }
+) -> Result<Decoded<usize>, DecodeError>
+    ensures read { Gives (path_from []) (consumed_of result) (path_in out.new) (read_against_by sized canonic (path_in reference.now) (drop start message.now)) }
+    ensures told { IfOk result (λ d. ToldShared canonic (path_in reference.now) (path_in out.new) d.value) }
 {
     path::lent::clear(out);
     if !path::lent::sized(reference) {
@@ -110,8 +89,11 @@ fn decode_by(
     }
     let rest = &message[first + sizes.consumed..];
     let k = shared.value as usize;
-    let n = decode_tested(rest, within, canonic, k, sizes.value, reference, out)?;
-    Ok(shared.consumed + sizes.consumed + n)
+    let n = decode_joined(rest, canonic, k, sizes.value, reference, out)?;
+    Ok(Decoded {
+        value: k,
+        consumed: shared.consumed + sizes.consumed + n,
+    })
 }
 
 // Reads a path against a reference.
@@ -124,7 +106,8 @@ pub fn relative_decode(
 ) -> Result<usize, DecodeError>
     ensures { Gives (path_from []) result (path_in out.new) (read_against_by sized canonic (path_in reference.now) (drop start message.now)) }
 {
-    decode_by(message, start, false, canonic, reference, out)
+    let shared = decode_shared(message, start, canonic, reference, out)?;
+    Ok(shared.consumed)
 }
 
 // Reads a path against a reference that is a prefix of it.
@@ -137,7 +120,12 @@ pub fn decode_path_within(
 ) -> Result<usize, DecodeError>
     ensures { Gives (path_from []) result (path_in out.new) (read_within_by sized canonic (path_in reference.now) (drop start message.now)) }
 {
-    decode_by(message, start, true, canonic, reference, out)
+    let shared = decode_shared(message, start, canonic, reference, out)?;
+    if !reaches(reference, out, canonic, shared.value) {
+        path::lent::clear(out);
+        return Err(DecodeError::TheirFault);
+    }
+    Ok(shared.consumed)
 }
 
 // A suffix that does not fit after its prefix: refused as a plain path is, else since the whole passes the limits.

@@ -10,6 +10,7 @@ ghost use Rattle.path_relative.specs.Records.{against_path, extends_path};
 
 use codec::EncodeError;
 
+pub mod shared_path;
 pub mod sized;
 
 // How many bytes a path against a reference takes.

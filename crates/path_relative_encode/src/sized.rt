@@ -1,7 +1,7 @@
 // Writing paths that are lent as their records, whose sizes are tested: for the records above.
 ghost use Rattle.std.specs.Prelude.{◌≡◌};
 ghost use Rattle.codec.specs.Answers.{outcome_of};
-ghost use Rattle.codec.specs.Format.{length_answer, WritesInto};
+ghost use Rattle.codec.specs.Format.{length_by, length_answer, WritesInto};
 ghost use Rattle.path.specs.Record.{sized};
 ghost use Rattle.path.specs.Flat.{path_in};
 ghost use Rattle.path_relative.specs.Records.{shared_by, extends_by};
@@ -31,15 +31,24 @@ pub fn encode_shared(buffer: &mut [u8], path: &[u8], k: usize) -> Result<usize, 
     Ok(n + suffix)
 }
 
-// How many bytes a path as an extension takes.
-pub fn path_extends_path_encoding_len(path: &[u8], extends: &[u8]) -> Result<usize, EncodeError>
-    ensures { outcome_of result ≡ length_answer (extends_by sized (path_in extends.now)) (path_in path.now) }
+// How many components a path has that is a prefix of another.
+fn prefix_count(path: &[u8], extends: &[u8]) -> Result<usize, EncodeError>
+    ensures { outcome_of result ≡ length_by ((extends_by sized (path_in extends.now)).check (path_in path.now)) (path_in extends.now).count }
 {
     let prefixed = path::lent::is_prefix_of(extends, path)?;
     if !prefixed {
         return Err(EncodeError::Outside);
     }
-    sized::suffix_len(path, path::lent::count(extends))
+    Ok(path::lent::count(extends))
+}
+
+// How many bytes a path as an extension takes.
+#[tactic(auto, using(path_relative::proofs::Lent::extends_refused, path_relative::proofs::Lent::extends_length))]
+pub fn path_extends_path_encoding_len(path: &[u8], extends: &[u8]) -> Result<usize, EncodeError>
+    ensures { outcome_of result ≡ length_answer (extends_by sized (path_in extends.now)) (path_in path.now) }
+{
+    let k = prefix_count(path, extends)?;
+    sized::suffix_len(path, k)
 }
 
 // Writes a path as an extension.
@@ -50,9 +59,6 @@ pub fn encode_path_extends_path(
 ) -> Result<usize, EncodeError>
     ensures { WritesInto (extends_by sized (path_in extends.now)) (path_in path.now) result buffer.old buffer.new }
 {
-    let prefixed = path::lent::is_prefix_of(extends, path)?;
-    if !prefixed {
-        return Err(EncodeError::Outside);
-    }
-    sized::encode_suffix(buffer, path, path::lent::count(extends))
+    let k = prefix_count(path, extends)?;
+    sized::encode_suffix(buffer, path, k)
 }

@@ -1,9 +1,8 @@
 -- The components of a record from the i-th on, as they are written.
-use Rattle.codec.proofs.Prelude.{◌≡◌, sym, ap, ◌∙◌, List, [], ◌++◌, leb, leb-true, ℕ, suc, ◌+◌, ◌-◌, ◌≤◌, ◌<◌, arith, put_mid, length, take, drop, length-append, length-drop, drop_of_length-le}
+use Rattle.codec.proofs.Prelude.{◌≡◌, sym, ap, ◌∙◌, List, [], ◌++◌, le-leb, ℕ, suc, ◌+◌, ◌-◌, ◌≤◌, ◌<◌, arith, put_mid, length, take, drop, length-append, length-drop, drop_of_length-le}
 use Rattle.codec.specs.Answers.{wrote}
 use Rattle.codec.specs.Format.{over, length_answer}
-use Rattle.codec.proofs.Lawful.{verdict_allowed}
-use Rattle.codec.proofs.Lending.{length_wrote, to_end, put_end, put_end_long, over_turn}
+use Rattle.codec.proofs.Lending.{length_allowed, to_end, put_end, put_end_long, over_turn}
 use Rattle.compact_u64.specs.Number.{standalone_bytes}
 use Rattle.path.specs.Record.{Path, sum_of, components_of, sized, length_at, start_at}
 use Rattle.path.specs.inside.Sizes.{Leads}
@@ -61,16 +60,9 @@ suffix_sizes s f k n t en et =
     let left : n - k ≡ length (drop k (components_of (path_in s))) = rw count (sym (rest_count (path_in s) f k)) in
     rw (total, left)
 
--- a suffix whose length was told
-pub record Told (p : Path) (k n : ℕ) : Type 0 where
-  pub leads : Leads p k
-  pub long : n ≡ length (suffix_bytes (drop k (components_of p)))
-
-pub suffix_told : (p : Path) (k n : ℕ) → wrote n ≡ length_answer (suffix_by sized k) p → Told p k n
-suffix_told p k n e =
-    let w = length_wrote (suffix_by sized k) p n (sym e) in
-    let t = verdict_allowed (sized p) (leb k p.count) w.0 in
-    record { leads = record { fits = t.0; there = leb-true k p.count t.1 }; long = w.1 }
+-- the length of a suffix that may be written
+pub suffix_told : {p : Path} {k n : ℕ} → Leads p k → n ≡ length (suffix_bytes (drop k (components_of p))) → wrote n ≡ length_answer (suffix_by sized k) p
+suffix_told {p} {k} {n} leads e = length_allowed (suffix_by sized k) p n (rw (leads.fits, le-leb k p.count leads.there)) e
 
 -- ---- components written one by one: those from the k-th on and before the i-th stand before `at`, and writing the others there writes all
 pub record Turn (p : Path) (k n : ℕ) (before after : List ℕ) (from at i : ℕ) : Type 0 where

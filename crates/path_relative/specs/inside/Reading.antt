@@ -1,18 +1,18 @@
 -- What the reader's private functions are stated by.
-use Rattle.std.specs.Prelude.{List, ◌++◌, Bool, true, cond, ℕ, eqb, take, ◌≡◌}
-use Rattle.codec.specs.Reader.{Reader, guard, checked, mapped, on_formed}
+use Rattle.std.specs.Prelude.{◌++◌, Bool, true, cond, ℕ, eqb, take, ◌≡◌, Result, Ok, Err}
+use Rattle.codec.specs.declared.Decoded.{Decoded}
+use Rattle.codec.specs.declared.DecodeError.{DecodeError}
+use Rattle.codec.specs.Reader.{Reader, guard, checked, mapped}
 use Rattle.path.specs.Record.{Path, components_of, path_from}
 use Rattle.path.specs.inside.Sizes.{Leads}
-use Rattle.path.specs.Prefix.{shared, is_prefix}
+use Rattle.path.specs.Prefix.{shared}
 use Rattle.path_suffix.specs.Suffix.{read_components}
-use Rattle.path_relative.specs.Against.{join_ok, read_against}
+use Rattle.path_relative.specs.Against.{join_ok}
 
--- one reader for both, against a path and within it
-abbrev pub prefix_if : Bool → List (List ℕ) → List (List ℕ) → Bool
-prefix_if within r p = cond within (is_prefix r p) true
-
-abbrev pub read_tested_by : (Path → Bool) → Bool → Bool → Path → Reader Path
-read_tested_by formed within canonic r = on_formed (formed r) (mapped path_from (checked (prefix_if within (components_of r)) (read_against canonic (components_of r))))
+-- the bytes taken of a reading that answers the shared count beside the path
+abbrev pub consumed_of : Result (Decoded ℕ) DecodeError → Result ℕ DecodeError
+consumed_of (Ok d) = Ok d.consumed
+consumed_of (Err e) = Err e
 
 -- what follows the shared count k and the sizes
 unfoldable pub read_joined : Bool → Path → ℕ → ℕ → ℕ → Reader Path
@@ -21,9 +21,6 @@ read_joined canonic r k total count =
     guard (join_ok (components_of r) k total count) (
     mapped (λ cs. path_from (take k (components_of r) ++ cs)) (
     read_components canonic count 0 total)))
-
-unfoldable pub read_tested : Bool → Bool → Path → ℕ → ℕ → ℕ → Reader Path
-read_tested within canonic r k total count = checked (λ p. prefix_if within (components_of r) (components_of p)) (read_joined canonic r k total count)
 
 -- records whose sizes are within the limits and whose first k components are the same
 pub record Alike (p q : Path) (k : ℕ) : Type 0 where

@@ -1,65 +1,65 @@
-use Rattle.codec.proofs.Prelude.{◌-◌, ◌≡◌, sym, ◌∙◌, ap, arith, length}
+use Rattle.codec.proofs.Prelude.{◌≡◌, sym, ◌∙◌, ap, arith, length}
 use Rattle.path.specs.Record.{length_at}
-use Rattle.path.proofs.Compare.{agree_next, together_next, ends_here, left_inside, lengths_differ, bytes_differ}
+use Rattle.path.specs.Flat.{path_in}
+use Rattle.path.proofs.Components.{sized_formed}
+use Rattle.path.proofs.Compare.{together, together_next, ends_here, left_inside, lengths_differ, bytes_differ}
 use Rattle.path.proofs.lent.shared_components.Goals as goal
 
-pub overflow_add-end : goal.overflow_add-end
-unfolding length_at
-overflow_add-end c =
-    let w = c.components.invariant in
-    omega (arith, left_inside w.same (omega arith) (omega arith))
+pub loop-k-init : goal.loop-k-init
+unfolding path_in
+loop-k-init c = record { ends = c.from-both.ensures ∙ c.min.ensures; same = together (sized_formed c.requires.0) (sized_formed c.requires.1) }
 
-pub bounds-bytes-i : goal.bounds-bytes-i
-unfolding length_at
-bounds-bytes-i c =
-    let w = c.components.invariant in
-    omega (arith, left_inside w.same (omega arith) (omega arith), ap length w.here, w.same.left.bytes)
+pub length_in-len-requires : goal.length_in-len-requires
+length_in-len-requires c = let w = c.loop-k.invariant in omega (arith, w.ends, w.same.left.well.count)
 
-pub bounds-other_bytes-i : goal.bounds-other_bytes-i
-unfolding length_at
-bounds-other_bytes-i c =
-    let w = c.components.invariant in
-    omega (arith, left_inside w.same (omega arith) (omega arith), ap length w.there, w.same.right.bytes)
-
-pub loop-i-preserved : goal.loop-i-preserved
-unfolding length_at
-loop-i-preserved c =
-    let w = c.components.invariant in
-    let inside = left_inside w.same (omega arith) (omega arith) in
-    agree_next _ _ c.components.at c.loop-i.i (omega arith) (omega (arith, ap length w.here, w.same.left.bytes)) (omega (arith, ap length w.there, w.same.right.bytes))
-    c.loop-i.invariant c.if-bytes-i.false
-
-pub components-preserved : goal.components-preserved
-unfolding length_at
-components-preserved c =
-    let w = c.components.invariant in
-    let len = c.length_in-len.ensures.0 in
-    let same = sym len ∙ c.if-len-length_in.false ∙ c.length_in.ensures.0 in
-    let all : c.loop-i.i - c.components.at ≡ c.length_in-len.result = omega arith in
-    let bytes = rw (all, w.here, w.there, len) at c.loop-i.invariant in
-    record {
-      here = w.here;
-      there = w.there;
-      ends = w.ends;
-      count = omega arith;
-      same = rw len (together_next w.same (omega arith) (omega arith) same bytes);
-    }
-
-pub returns-after-components : goal.returns-after-components
-returns-after-components c =
-    let w = c.components.invariant in
-    w.count ∙ sym (ends_here w.same (omega arith))
+pub length_in-requires : goal.length_in-requires
+length_in-requires c = let w = c.loop-k.invariant in omega (arith, w.ends, w.same.right.well.count)
 
 pub returns-then-len-length_in : goal.returns-then-len-length_in
 unfolding length_at
 returns-then-len-length_in c =
-    let w = c.components.invariant in
-    w.count ∙ sym (lengths_differ w.same (omega arith) (omega arith) (λ e. c.if-len-length_in.true (c.length_in-len.ensures.0 ∙ e ∙ sym c.length_in.ensures.0)))
+    let w = c.loop-k.invariant in
+    sym (lengths_differ w.same (omega (arith, w.ends)) (omega (arith, w.ends)) (λ e. c.if-len-length_in.true (c.length_in-len.ensures.0 ∙ e ∙ sym c.length_in.ensures.0)))
 
-pub returns-then-bytes-i : goal.returns-then-bytes-i
+pub overflow_add-end : goal.overflow_add-end
 unfolding length_at
-returns-then-bytes-i c =
-    let w = c.components.invariant in
+overflow_add-end c =
+    let w = c.loop-k.invariant in
+    omega (arith, left_inside w.same (omega (arith, w.ends)) (omega (arith, w.ends)), c.length_in-len.ensures.0)
+
+pub slice_bounds-ne-end : goal.slice_bounds-ne-end
+unfolding length_at
+slice_bounds-ne-end c =
+    let w = c.loop-k.invariant in
+    omega (arith, left_inside w.same (omega (arith, w.ends)) (omega (arith, w.ends)), c.length_in-len.ensures.0, ap length c.bytes_in-bytes.ensures, w.same.left.bytes)
+
+pub slice_bounds-ne-end-in-loop-k : goal.slice_bounds-ne-end-in-loop-k
+unfolding length_at
+slice_bounds-ne-end-in-loop-k c =
+    let w = c.loop-k.invariant in
+    omega (arith, left_inside w.same (omega (arith, w.ends)) (omega (arith, w.ends)), c.length_in-len.ensures.0, ap length c.bytes_in-other_bytes.ensures, w.same.right.bytes)
+
+pub returns-then-ne : goal.returns-then-ne
+unfolding length_at
+returns-then-ne c =
+    let w = c.loop-k.invariant in
     let len = c.length_in-len.ensures.0 in
     let same = sym len ∙ c.if-len-length_in.false ∙ c.length_in.ensures.0 in
-    w.count ∙ sym (bytes_differ w.same (omega arith) (omega arith) same c.loop-i.i (omega arith) (omega arith) (rw (w.here, w.there) at c.if-bytes-i.true))
+    sym (bytes_differ w.same (omega (arith, w.ends)) (omega (arith, w.ends)) same (rw (c.bytes_in-bytes.ensures, c.bytes_in-other_bytes.ensures, len) at c.if-ne.ensures))
+
+pub loop-k-preserved : goal.loop-k-preserved
+unfolding length_at
+loop-k-preserved c =
+    let w = c.loop-k.invariant in
+    let len = c.length_in-len.ensures.0 in
+    let same = sym len ∙ c.if-len-length_in.false ∙ c.length_in.ensures.0 in
+    record {
+      ends = w.ends;
+      same = rw len (together_next w.same (omega (arith, w.ends)) (omega (arith, w.ends)) same (rw (c.bytes_in-bytes.ensures, c.bytes_in-other_bytes.ensures, len) at c.if-ne.ensures));
+    }
+
+pub returns : goal.returns
+returns c =
+    let w = c.loop-k.invariant in
+    let e : c.loop-k.k ≡ c.from-both.result = omega (arith, c.loop-k-test.false, c.loop-k.auto.k-end) in
+    sym (ends_here w.same (omega (arith, w.ends, e)) ∙ e)

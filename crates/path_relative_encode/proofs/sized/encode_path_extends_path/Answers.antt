@@ -1,36 +1,15 @@
-use Rattle.codec.proofs.Prelude.{◌≡◌, ◌∙◌}
-use Rattle.std.proofs.Common.{Err, rules}
-use Rattle.codec.specs.declared.EncodeError.TheVariants as encoding
-use Rattle.codec.proofs.Lending.{put_refused_value, same_writing, writes_into}
-use Rattle.path.specs.Record.{Path, sized}
+use Rattle.std.proofs.Common.{◌≡◌, Err, rules}
+use Rattle.codec.proofs.Lending.{told_refused}
+use Rattle.path.specs.Record.{sized}
 use Rattle.path.specs.Flat.{path_in}
-use Rattle.path.proofs.Records.{lent_known}
-use Rattle.path_suffix.specs.Suffix.{suffix_by}
 use Rattle.path_relative.specs.Records.{extends_by}
-use Rattle.path_relative.proofs.Lent.{extends_malformed, extends_outside, extends_suffix, reference_formed}
+use Rattle.path_relative.proofs.Lent.{extends_refused, extends_written}
 use Rattle.path_relative_encode.proofs.sized.encode_path_extends_path.Goals as goal
 
-pub returns-in_err-prefixed : goal.returns-in_err-prefixed
-returns-in_err-prefixed c =
-    let path : Path = path_in c.args.path.now in
-    let reference : Path = path_in c.args.extends.now in
-    let e : c.from_residual.result ≡ Err encoding.Malformed = search rules in
-    rw e (writes_into (put_refused_value ((extends_by sized reference).check path) _ c.args.buffer.now 5 (extends_malformed reference path c.in_err-prefixed.ensures)))
-
-pub returns-then-not-prefixed : goal.returns-then-not-prefixed
-returns-then-not-prefixed c =
-    let path : Path = path_in c.args.path.now in
-    let reference : Path = path_in c.args.extends.now in
-    writes_into (put_refused_value ((extends_by sized reference).check path) _ c.args.buffer.now 3
-    (extends_outside reference path (rw c.if-not-prefixed.true at c.in_ok-prefixed.ensures)))
+pub returns-in_err-k : goal.returns-in_err-k
+returns-in_err-k c =
+    let e : c.from_residual.result ≡ Err c.in_err-k.field-0.0 = search rules in
+    rw e (told_refused (extends_by sized (path_in c.args.extends.now)) _ _ _ (extends_refused _ _ _ c.in_err-k.ensures))
 
 pub returns : goal.returns
-returns c =
-    let path : Path = path_in c.args.path.now in
-    let reference : Path = path_in c.args.extends.now in
-    let prefixed = rw c.if-not-prefixed.false at c.in_ok-prefixed.ensures in
-    let count = c.count.ensures ∙ lent_known _ (reference_formed reference path prefixed) 0 (λ p. p.count) in
-    let same = extends_suffix reference path prefixed _ count in
-    let w = same_writing (suffix_by sized c.count.result) path (extends_by sized reference) same.0 same.1 c.args.buffer.now in
-    let put = c.encode_suffix.ensures in
-    writes_into (put.answer ∙ w.0, put.buffer ∙ w.1)
+returns c = extends_written _ _ _ c.in_ok-k.ensures c.encode_suffix.ensures

@@ -3,7 +3,7 @@ use Rattle.codec.proofs.Prelude.{◌≡◌, ◌+◌, length, drop}
 use Rattle.path.specs.Record.{components_of}
 use Rattle.path.specs.Flat.{path_in}
 use Rattle.path_suffix.specs.Suffix.{component_bytes}
-use Rattle.path_suffix_encode.proofs.sized.components_len.Given as goal
+use Rattle.path_suffix_encode.proofs.sized.Suffix.components_len.Given as goal
 
 abbrev pub invariant-loop-i : goal.invariant-loop-i
 invariant-loop-i l = l.t + length (component_bytes (drop l.i (components_of (path_in l.path)))) ≡ length (component_bytes (drop l.k (components_of (path_in l.path))))
