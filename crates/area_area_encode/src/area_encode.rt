@@ -14,23 +14,13 @@ fn id_written(subspace: AreaSubspace, reference: AreaSubspace) -> bool
     reference.is_none() && subspace.is_some()
 }
 
-pub(crate) fn subspace_len(subspace: AreaSubspace, reference: AreaSubspace) -> usize
-    ensures { (result ≡ length (subspace_bytes reference subspace)) × (result ≤ 32) }
+// The bytes of a subspace, whose id is written where the reference has any.
+fn subspace_bytes(subspace: &AreaSubspace, reference: AreaSubspace) -> &[u8]
+    ensures { (result.now ≡ subspace_bytes reference subspace.now) × (length result.now ≤ 32) }
 {
-    if id_written(subspace, reference) {
-        32
-    } else {
-        0
-    }
-}
-
-fn put_subspace(buffer: &mut [u8], subspace: AreaSubspace, reference: AreaSubspace) -> usize
-    requires { length (subspace_bytes reference subspace) ≤ length buffer.old }
-    ensures { (result ≡ length (subspace_bytes reference subspace)) × (buffer.new ≡ over (subspace_bytes reference subspace) buffer.old) }
-{
-    match (reference, subspace) {
-        (None, Some(id)) => byte_codec::put_bytes(buffer, &id).unwrap(),
-        _ => 0,
+    match subspace {
+        Some(id) => byte_codec::id_bytes_if(id, reference.is_none()),
+        None => &[],
     }
 }
 
@@ -41,12 +31,10 @@ fn put_start(buffer: &mut [u8], area: AreaHead, reference: AreaHead) -> usize
 {
     let written = id_written(area.subspace, reference.subspace);
     buffer[0] = area_times::header_byte(written, area.times, reference.times);
-    HEADER_LENGTH
-        + put_subspace(
-            &mut buffer[HEADER_LENGTH..],
-            area.subspace,
-            reference.subspace,
-        )
+    let id = subspace_bytes(&area.subspace, reference.subspace);
+    let end = HEADER_LENGTH + id.len();
+    buffer[HEADER_LENGTH..end].copy_from_slice(id);
+    end
 }
 
 // How many bytes the header, the id and the times take.
@@ -54,7 +42,7 @@ pub(crate) fn head_len(area: AreaHead, reference: AreaHead) -> usize
     ensures { (result ≡ length (head_bytes reference area)) × (result ≤ header_length + 48) }
 {
     HEADER_LENGTH
-        + subspace_len(area.subspace, reference.subspace)
+        + subspace_bytes(&area.subspace, reference.subspace).len()
         + area_times::relative_len_of_encoding(area.times, reference.times)
 }
 

@@ -3,9 +3,6 @@ use Rattle.codec.proofs.Prelude.{◌≡◌, List, length, Val, Is}
 use denote.Struct.Declared as struct
 use Rattle.entry.specs.declared.EntryFields.{EntryFields}
 
--- ids of an entry's fields
+-- the digest of an entry's fields
 pub digest_long : (f : EntryFields) {vs : List Val} → Is (struct.row Rattle.entry.specs.contracts.EntryFields.the_type) f vs → length f.payload_digest ≡ 32
 digest_long f g = g.1.1.1.1.1.1.0.1.0.1
-
-pub subspace_long : (f : EntryFields) {vs : List Val} → Is (struct.row Rattle.entry.specs.contracts.EntryFields.the_type) f vs → length f.subspace_id ≡ 32
-subspace_long f g = g.1.1.1.0.1.0.1

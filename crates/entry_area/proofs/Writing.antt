@@ -1,12 +1,11 @@
 -- What the writers' definitions say at each step of the code.
-use Rattle.codec.proofs.Prelude.{◌≡◌, refl, sym, ◌∙◌, List, Bool, true, false, ◌&&◌, ℕ, eqb-true, length}
+use Rattle.codec.proofs.Prelude.{◌≡◌, sym, ◌∙◌, List, Bool, true, false, ◌&&◌, ℕ, eqb-true, length}
 use Rattle.codec.specs.Format.{Format, allowed, refused_value}
 use Rattle.path.specs.Record.{Path, components_of, sized, well_formed}
 use Rattle.path.specs.Flat.{path_in, lent}
 use Rattle.path.specs.Prefix.{shared, is_prefix}
 use Rattle.codec.specs.Answers.{Said, said, unsaid}
 use Rattle.codec.proofs.Tests.{and_left}
-use Rattle.codec.proofs.Lawful.{verdict_allowed}
 use Rattle.path.proofs.Verdicts.{said_known, unsaid_known}
 use Rattle.path.proofs.Components.{Formed, parts_formed, count_is}
 use Rattle.path.proofs.Records.{lent_known}
@@ -44,11 +43,6 @@ module _ (n : List ℕ) (h : AreaHead) (f : EntryFields) (s : List ℕ) (p : Pat
   unfolding says_entry_inside
   outside e = let x = said_known both lies false e in rw (x.0, x.1)
 
-  -- what may be written lies inside
-  pub allowed_inside : against.check (entry_with f p) ≡ allowed → said true ≡ inside
-  unfolding says_entry_inside
-  allowed_inside e = let x = verdict_allowed both lies e in rw (x.0, x.1) refl
-
   module _ (e : said true ≡ inside) where
     known : (both ≡ true) × (lies ≡ true)
     unfolding says_entry_inside
@@ -74,6 +68,6 @@ module _ (n : List ℕ) (h : AreaHead) (f : EntryFields) (s : List ℕ) (p : Pat
       pub shared_allowed : (shared_by sized k).check p ≡ allowed
       shared_allowed = rest_allowed (path_in s) p k (rw (paths, all-shared))
 
-      pub entry_bytes_lem : against.encode (entry_with f p) ≡ known_bytes h f p k
+      pub entry_bytes_lem : against.encode (entry_with f p) ≡ known_bytes h f ((shared_by sized k).encode p)
       unfolding entry_bytes
       entry_bytes_lem = rw all-shared

@@ -1,97 +1,129 @@
-// Writing the parts of an entry; their lengths.
-ghost use Rattle.std.specs.Prelude.{◌≡◌, List, ℕ, ◌+◌, ◌≤◌, length};
-ghost use Rattle.codec.specs.Answers.{wrote, outcome_of};
-ghost use Rattle.codec.specs.Format.{allowed, over, put_answer, put_buffer};
-ghost use Rattle.path.specs.Record.{sized};
-ghost use Rattle.path.specs.Flat.{path_in};
-ghost use Rattle.path_relative.specs.Records.{shared_by};
-ghost use Rattle.entry_area_end.specs.Header.{header_length};
+// An entry against a namespace and an area, and how it is written.
+ghost use Rattle.std.specs.Prelude.{◌≡◌, ◌≤◌, length, IfOk, IfErr};
+ghost use Rattle.codec.specs.Answers.{encode_number, outcome_of};
+ghost use Rattle.codec.specs.Format.{allowed, refused_value, over, put_answer, put_buffer};
+ghost use Rattle.path_relative_encode.specs.Shared.{shared_bytes};
+ghost use Rattle.grouping.specs.Record.{area_lent};
+ghost use Rattle.entry.specs.Record.{entry_lent};
 ghost use Rattle.entry_area.specs.Entry.{id_bytes, start_of};
+ghost use Rattle.entry_area.specs.Records.{against_namespace_area};
 ghost use Rattle.entry_area.specs.inside.Writing.{end_in, tail_bytes, known_bytes};
 
 use codec::EncodeError;
 use entry::{Entry, EntryFields};
 use entry_area_end::End;
 use entry_area_end::entry_header::HEADER_LENGTH;
-use grouping::{AreaHead, AreaSubspace, TimeRange};
+use grouping::{Area, AreaHead, AreaSubspace};
+use path_relative_encode::shared_path::SharedPath;
 
-// What stands after the path.
-fn end_of(fields: EntryFields) -> End
-    ensures { result ≡ end_in fields }
+// The bytes of an id, which is written where the area has any subspace.
+fn id_bytes(id: &[u8; 32], subspace: AreaSubspace) -> &[u8]
+    ensures { (result.now ≡ id_bytes subspace id.now) × (length result.now ≤ 32) }
 {
-    let payload_digest = fields.payload_digest;
-    End {
-        timestamp: fields.timestamp,
-        payload_length: fields.payload_length,
-        payload_digest,
+    byte_codec::id_bytes_if(id, subspace.is_none())
+}
+
+// An entry beside what an area has beside its path, all of whose components the entry's shares.
+#[derive(Clone, Copy)]
+pub(crate) struct Difference<'a> {
+    fields: EntryFields,
+    path: SharedPath<'a>,
+    reference: AreaHead,
+}
+
+impl<'a> Difference<'a> {
+    // Both records are tested here, and whether the entry lies inside.
+    pub(crate) fn within(
+        entry: Entry<'a>,
+        namespace: [u8; 32],
+        reference: Area<'a>,
+    ) -> Result<Difference<'a>, EncodeError>
+        ensures ok { IfOk result (λ d. ((against_namespace_area namespace (area_lent reference.entry)).check (entry_lent entry.entry) ≡ allowed) × (known_bytes d.reference d.fields (shared_bytes d.path) ≡ (against_namespace_area namespace (area_lent reference.entry)).encode (entry_lent entry.entry))) }
+        ensures err { IfErr result (λ error. (against_namespace_area namespace (area_lent reference.entry)).check (entry_lent entry.entry) ≡ refused_value (encode_number error)) }
+    {
+        let inside = entry.lies_inside(namespace, reference)?;
+        if !inside {
+            return Err(EncodeError::Outside);
+        }
+        let path = SharedPath {
+            path: entry.path,
+            shared: path::lent::count(reference.path),
+        };
+        Ok(Difference {
+            fields: entry.fields,
+            path,
+            reference: reference.head,
+        })
     }
-}
 
-// How many bytes the header and the id of an entry take.
-fn start_len(subspace: AreaSubspace) -> usize
-    ensures { ((id : List ℕ) → length id ≡ 32 → result ≡ header_length + length (id_bytes subspace id)) × (result ≤ header_length + 32) }
-{
-    if subspace.is_none() {
-        HEADER_LENGTH + 32
-    } else {
-        HEADER_LENGTH
+    // What stands after the path.
+    fn end(self) -> End
+        ensures { result ≡ end_in self.entry.fields }
+    {
+        let payload_digest = self.fields.payload_digest;
+        End {
+            timestamp: self.fields.timestamp,
+            payload_length: self.fields.payload_length,
+            payload_digest,
+        }
     }
-}
 
-// How many bytes an entry takes whose path shares `k` components with the area's.
-pub(crate) fn entry_len<'a>(entry: Entry<'a>, reference: AreaHead, k: usize) -> usize
-    requires { (shared_by sized k).check (path_in entry.path.now) ≡ allowed }
-    ensures { result ≡ length (known_bytes reference entry.entry.fields (path_in entry.entry.path.now) k) }
-{
-    let shared = path_relative_encode::sized::shared_len(entry.path, k).unwrap();
-    let end = entry_area_end::relative_len_of_encoding(end_of(entry.fields), reference.times);
-    start_len(reference.subspace) + shared + end
-}
-
-// The id, which is written where the area has any subspace.
-fn put_id(buffer: &mut [u8], id: [u8; 32], subspace: AreaSubspace) -> usize
-    requires { length (id_bytes subspace id) ≤ length buffer.old }
-    ensures { (result ≡ length (id_bytes subspace id)) × (buffer.new ≡ over (id_bytes subspace id) buffer.old) }
-{
-    match subspace {
-        None => byte_codec::put_bytes(buffer, &id).unwrap(),
-        Some(_) => 0,
+    // How many bytes the entry takes.
+    pub(crate) fn len(self) -> usize
+        ensures { result ≡ length (known_bytes self.entry.reference self.entry.fields (shared_bytes self.entry.path)) }
+    {
+        let id = id_bytes(&self.fields.subspace_id, self.reference.subspace).len();
+        let end = entry_area_end::relative_len_of_encoding(self.end(), self.reference.times);
+        HEADER_LENGTH + id + self.path.len() + end
     }
-}
 
-// The header and the id.
-fn put_start(buffer: &mut [u8], fields: EntryFields, reference: AreaHead) -> usize
-    requires { length (start_of reference.times reference.subspace fields.subspace_id (end_in fields)) ≤ length buffer.old }
-    ensures { (result ≡ length (start_of reference.times reference.subspace fields.subspace_id (end_in fields))) × (buffer.new ≡ over (start_of reference.times reference.subspace fields.subspace_id (end_in fields)) buffer.old) }
-{
-    buffer[0] = entry_area_end::header_byte(
-        reference.subspace.is_none(),
-        reference.times,
-        fields.timestamp,
-        fields.payload_length,
-    );
-    HEADER_LENGTH
-        + put_id(
-            &mut buffer[HEADER_LENGTH..],
-            fields.subspace_id,
-            reference.subspace,
-        )
-}
+    // The header and the id.
+    fn put_start(self, buffer: &mut [u8]) -> usize
+        requires { length (start_of self.reference.times self.reference.subspace self.fields.subspace_id (end_in self.fields)) ≤ length buffer.old }
+        ensures { (result ≡ length (start_of self.entry.reference.times self.entry.reference.subspace self.entry.fields.subspace_id (end_in self.entry.fields))) × (buffer.new ≡ over (start_of self.entry.reference.times self.entry.reference.subspace self.entry.fields.subspace_id (end_in self.entry.fields)) buffer.old) }
+    {
+        let subspace = self.reference.subspace;
+        buffer[0] = entry_area_end::header_byte(
+            subspace.is_none(),
+            self.end(),
+            self.reference.times,
+        );
+        let id = id_bytes(&self.fields.subspace_id, subspace);
+        let end = HEADER_LENGTH + id.len();
+        buffer[HEADER_LENGTH..end].copy_from_slice(id);
+        end
+    }
 
-// The path, `k` components of which are shared, and what stands after it.
-fn put_rest<'a>(buffer: &mut [u8], entry: Entry<'a>, times: TimeRange, k: usize)
-    requires { ((shared_by sized k).check (path_in entry.path.now) ≡ allowed) × (length (tail_bytes times (end_in entry.fields) (path_in entry.path.now) k) ≤ length buffer.old) }
-    ensures { buffer.new ≡ over (tail_bytes times (end_in entry.entry.fields) (path_in entry.entry.path.now) k) buffer.old }
-{
-    let n = path_relative_encode::sized::encode_shared(buffer, entry.path, k).unwrap();
-    entry_area_end::relative_encode(&mut buffer[n..], end_of(entry.fields), times).unwrap();
-}
+    // What stands after the id.
+    fn put_rest(self, buffer: &mut [u8])
+        requires { length (tail_bytes self.reference.times self.fields (shared_bytes self.path)) ≤ length buffer.old }
+        ensures { buffer.new ≡ over (tail_bytes self.entry.reference.times self.entry.fields (shared_bytes self.entry.path)) buffer.old }
+    {
+        let n = self.path.encode(buffer).unwrap();
+        entry_area_end::relative_encode(
+            &mut buffer[n..],
+            self.end(),
+            self.reference.times,
+        ).unwrap();
+    }
 
-// Writes such an entry where there is room for it.
-pub(crate) fn put_entry<'a>(buffer: &mut [u8], entry: Entry<'a>, reference: AreaHead, k: usize)
-    requires { ((shared_by sized k).check (path_in entry.path.now) ≡ allowed) × (length (known_bytes reference entry.fields (path_in entry.path.now) k) ≤ length buffer.old) }
-    ensures { buffer.new ≡ over (known_bytes reference entry.entry.fields (path_in entry.entry.path.now) k) buffer.old }
-{
-    let n = put_start(buffer, entry.fields, reference);
-    put_rest(&mut buffer[n..], entry, reference.times, k);
+    fn put(self, buffer: &mut [u8])
+        requires { length (known_bytes self.reference self.fields (shared_bytes self.path)) ≤ length buffer.old }
+        ensures { buffer.new ≡ over (known_bytes self.entry.reference self.entry.fields (shared_bytes self.entry.path)) buffer.old }
+    {
+        let n = self.put_start(buffer);
+        self.put_rest(&mut buffer[n..]);
+    }
+
+    // Writes the entry.
+    pub(crate) fn encode(self, buffer: &mut [u8]) -> Result<usize, EncodeError>
+        ensures { (outcome_of result ≡ put_answer allowed (known_bytes self.entry.reference self.entry.fields (shared_bytes self.entry.path)) (length buffer.old)) × (buffer.new ≡ put_buffer allowed (known_bytes self.entry.reference self.entry.fields (shared_bytes self.entry.path)) buffer.old) }
+    {
+        let whole = self.len();
+        if buffer.len() < whole {
+            return Err(EncodeError::NoRoom);
+        }
+        self.put(buffer);
+        Ok(whole)
+    }
 }

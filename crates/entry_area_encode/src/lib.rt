@@ -11,11 +11,13 @@ ghost use Rattle.entry_area.specs.Records.{against_namespace_area};
 
 use codec::EncodeError;
 use entry::Entry;
+use entry_encode::Difference;
 use grouping::Area;
 
 mod entry_encode;
 
 // How many bytes an entry against a namespace and an area takes.
+#[tactic(auto, using(codec::proofs::Lending::length_allowed))]
 pub fn relative_len_of_encoding<'a>(
     entry: Entry<'a>,
     namespace: [u8; 32],
@@ -23,12 +25,8 @@ pub fn relative_len_of_encoding<'a>(
 ) -> Result<usize, EncodeError>
     ensures { outcome_of result ≡ length_answer (against_namespace_area namespace (area_lent reference.entry)) (entry_lent entry.entry) }
 {
-    let inside = entry.lies_inside(namespace, reference)?;
-    if !inside {
-        return Err(EncodeError::Outside);
-    }
-    let k = path::lent::count(reference.path);
-    Ok(entry_encode::entry_len(entry, reference.head, k))
+    let told = Difference::within(entry, namespace, reference)?;
+    Ok(told.len())
 }
 
 // Writes an entry against a namespace and an area.
@@ -40,11 +38,5 @@ pub fn relative_encode<'a>(
 ) -> Result<usize, EncodeError>
     ensures { WritesInto (against_namespace_area namespace (area_lent reference.entry)) (entry_lent entry.entry) result buffer.old buffer.new }
 {
-    let whole = relative_len_of_encoding(entry, namespace, reference)?;
-    let k = path::lent::count(reference.path);
-    if buffer.len() < whole {
-        return Err(EncodeError::NoRoom);
-    }
-    entry_encode::put_entry(buffer, entry, reference.head, k);
-    Ok(whole)
+    Difference::within(entry, namespace, reference)?.encode(buffer)
 }

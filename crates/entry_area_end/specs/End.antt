@@ -1,5 +1,5 @@
 -- docs/FORMAT.md, "Entries": the fields after the path, on plain values.
-use Rattle.std.specs.Prelude.{List, ◌++◌, Bool, ℕ, replicate}
+use Rattle.std.specs.Prelude.{List, ◌++◌, Bool, ℕ}
 use Rattle.codec.specs.Reader.{Reader, some_bytes, and_then, mapped}
 use Rattle.compact_u64.specs.Number.{min_tag, number_bytes, read_number}
 use Rattle.grouping.specs.declared.TimeRange.{TimeRange}
@@ -24,9 +24,6 @@ end_of r e = number_bytes time_tag_width (difference_of r e.timestamp).differenc
 -- ---- reading
 abbrev pub end_from : ℕ → ℕ → List ℕ → End
 end_from time size digest = record { timestamp = time; payload_length = size; payload_digest = digest }
-
-abbrev pub no_end : End
-no_end = end_from 0 0 (replicate 32 0)
 
 unfoldable pub read_after_path : Bool → TimeRange → EntryAreaHeader → Reader End
 read_after_path canonic r h =

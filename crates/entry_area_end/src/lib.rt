@@ -3,9 +3,9 @@
 
 #![tactic(auto)]
 
-ghost use Rattle.std.specs.Prelude.{◌≡◌, ◌≤◌, length};
+ghost use Rattle.std.specs.Prelude.{◌≡◌, ◌≤◌, length, Ok};
 ghost use Rattle.codec.specs.Answers.{answer_of, outcome_of};
-ghost use Rattle.codec.specs.Format.{allowed, put_answer, put_buffer};
+ghost use Rattle.codec.specs.Format.{allowed, over, put_answer, put_buffer};
 ghost use Rattle.entry_area_end.specs.Header.{pack_header};
 ghost use Rattle.entry_area_end.specs.End.{header_of, end_of, read_after_path};
 
@@ -34,25 +34,25 @@ pub struct End {
 }
 
 #[tactic(auto, unfolding(crate::specs::End::header_of))]
-fn header_of(id_written: bool, times: TimeRange, time: u64, size: u64) -> EntryAreaHeader
-    ensures { result ≡ header_of id_written times time size }
+fn header_of(id_written: bool, end: End, times: TimeRange) -> EntryAreaHeader
+    ensures { result ≡ header_of id_written times end.timestamp end.payload_length }
 {
-    let told = time_relative::difference(times, time);
+    let told = time_relative::difference(times, end.timestamp);
     EntryAreaHeader {
         id_written,
         time_added: told.added,
         time_tag: compact_u64::min_tag(TIME_TAG_WIDTH, told.difference),
-        length_tag: compact_u64::min_tag(LENGTH_TAG_WIDTH, size),
+        length_tag: compact_u64::min_tag(LENGTH_TAG_WIDTH, end.payload_length),
         spare: 0,
     }
 }
 
-// The header byte of an entry with this time and payload length, against an area's times; whether its id is written is told elsewhere.
+// The header byte of an entry with these fields, against an area's times; whether its id is written is told elsewhere.
 #[tactic(auto, using(crate::proofs::HeaderLayout::header_fits))]
-pub fn header_byte(id_written: bool, times: TimeRange, time: u64, size: u64) -> u8
-    ensures { result ≡ pack_header (header_of id_written times time size) }
+pub fn header_byte(id_written: bool, end: End, times: TimeRange) -> u8
+    ensures { result ≡ pack_header (header_of id_written times end.timestamp end.payload_length) }
 {
-    entry_header::pack(header_of(id_written, times, time, size))
+    entry_header::pack(header_of(id_written, end, times))
 }
 
 // Reads the fields after the path, by the header.
@@ -106,7 +106,8 @@ pub fn relative_len_of_encoding(end: End, times: TimeRange) -> usize
 
 // Writes the fields after the path.
 pub fn relative_encode(buffer: &mut [u8], end: End, times: TimeRange) -> Result<usize, EncodeError>
-    ensures { (outcome_of result ≡ put_answer allowed (end_of times end) (length buffer.old)) × (buffer.new ≡ put_buffer allowed (end_of times end) buffer.old) }
+    ensures fits { length (end_of times end) ≤ length buffer.old → (result ≡ Ok (length (end_of times end))) × (buffer.new ≡ over (end_of times end) buffer.old) }
+    ensures writes { (outcome_of result ≡ put_answer allowed (end_of times end) (length buffer.old)) × (buffer.new ≡ put_buffer allowed (end_of times end) buffer.old) }
 {
     let whole = relative_len_of_encoding(end, times);
     if buffer.len() < whole {

@@ -1,122 +1,161 @@
-// Writing the parts of an entry; their lengths.
-ghost use Rattle.std.specs.Prelude.{◌≡◌, ◌++◌, ◌+◌, ◌≤◌, length};
-ghost use Rattle.codec.specs.Format.{allowed, over};
-ghost use Rattle.path.specs.Record.{sized};
-ghost use Rattle.path.specs.Flat.{path_in};
-ghost use Rattle.path_relative.specs.Records.{shared_by};
+// An entry against a reference, and how it is written.
+ghost use Rattle.std.specs.Prelude.{◌≡◌, ◌++◌, ◌+◌, ◌≤◌, length, IfOk, IfErr};
+ghost use Rattle.codec.specs.Answers.{encode_number, outcome_of};
+ghost use Rattle.codec.specs.Format.{allowed, refused_value, over, put_answer, put_buffer};
+ghost use Rattle.path_relative_encode.specs.Shared.{shared_bytes};
+ghost use Rattle.entry.specs.Record.{entry_lent};
 ghost use Rattle.entry_numbers.specs.Header.{pack_header};
-ghost use Rattle.entry_numbers.specs.Numbers.{numbers_bytes};
+ghost use Rattle.entry_numbers.specs.Numbers.{numbers_from};
 ghost use Rattle.entry_entry.specs.Entry.{id_bytes};
+ghost use Rattle.entry_entry.specs.Records.{against_entry};
 ghost use Rattle.entry_entry.specs.inside.Writing.{header_with, ids_with, rest_with, parts_with, known_bytes};
 
+use codec::EncodeError;
 use entry::{Entry, EntryFields};
+use entry_numbers::Numbers;
 use entry_numbers::entry_header::HEADER_LENGTH;
+use path_relative_encode::shared_path::SharedPath;
 
-#[tactic(auto, unfolding(entry_entry::specs::Entry::id_written))]
-fn header_byte(fields: EntryFields, reference: EntryFields) -> u8
-    ensures { result ≡ pack_header (header_with reference fields) }
-{
-    entry_numbers::header_byte(
-        fields.namespace_id != reference.namespace_id,
-        fields.subspace_id != reference.subspace_id,
-        fields.timestamp,
-        fields.payload_length,
-        reference.timestamp,
-    )
-}
-
-// How many bytes an id takes, which is not written where it is the reference's.
+// The bytes of an id, which is not written where it is the reference's.
 #[tactic(auto, unfolding(entry_entry::specs::Entry::id_bytes, entry_entry::specs::Entry::id_written))]
-fn id_len(id: [u8; 32], reference: [u8; 32]) -> usize
-    ensures { (result ≡ length (id_bytes reference id)) × (result ≤ 32) }
+fn id_bytes(id: &[u8; 32], reference: [u8; 32]) -> &[u8]
+    ensures { (result.now ≡ id_bytes reference id.now) × (length result.now ≤ 32) }
 {
-    if id == reference { 0 } else { 32 }
+    byte_codec::id_bytes_if(id, *id != reference)
 }
 
-// How many bytes the ids take.
-fn ids_len(fields: EntryFields, reference: EntryFields) -> usize
-    ensures { (result ≡ length (ids_with reference fields)) × (result ≤ 64) }
-{
-    id_len(fields.namespace_id, reference.namespace_id)
-        + id_len(fields.subspace_id, reference.subspace_id)
+// An entry beside what its reference has beside its path, of which the entry's shares components.
+#[derive(Clone, Copy)]
+pub(crate) struct Difference<'a> {
+    fields: EntryFields,
+    path: SharedPath<'a>,
+    reference: EntryFields,
 }
 
-// How many bytes an entry takes, `k` components of whose path are shared.
-pub(crate) fn entry_len<'a>(entry: Entry<'a>, reference: EntryFields, k: usize) -> usize
-    requires { (shared_by sized k).check (path_in entry.path.now) ≡ allowed }
-    ensures { result ≡ length (known_bytes reference entry.entry.fields ((shared_by sized k).encode (path_in entry.entry.path.now))) }
-{
-    let fields = entry.fields;
-    let ids = ids_len(fields, reference);
-    let numbers = entry_numbers::relative_len_of_encoding(
-        fields.timestamp,
-        fields.payload_length,
-        reference.timestamp,
-    );
-    let path = path_relative_encode::sized::shared_len(entry.path, k).unwrap();
-    HEADER_LENGTH + ids + numbers + path + 32
-}
-
-#[tactic(auto, unfolding(entry_entry::specs::Entry::id_bytes, entry_entry::specs::Entry::id_written))]
-fn put_id(buffer: &mut [u8], id: [u8; 32], reference: [u8; 32]) -> usize
-    requires { length (id_bytes reference id) ≤ length buffer.old }
-    ensures { (result ≡ length (id_bytes reference id)) × (buffer.new ≡ over (id_bytes reference id) buffer.old) }
-{
-    if id == reference {
-        0
-    } else {
-        byte_codec::put_bytes(buffer, &id).unwrap()
+impl<'a> Difference<'a> {
+    // Both records are tested here.
+    pub(crate) fn between(
+        entry: Entry<'a>,
+        reference: Entry<'a>,
+    ) -> Result<Difference<'a>, EncodeError>
+        ensures ok { IfOk result (λ d. ((against_entry (entry_lent reference.entry)).check (entry_lent entry.entry) ≡ allowed) × (known_bytes d.reference d.fields (shared_bytes d.path) ≡ (against_entry (entry_lent reference.entry)).encode (entry_lent entry.entry))) }
+        ensures err { IfErr result (λ error. (against_entry (entry_lent reference.entry)).check (entry_lent entry.entry) ≡ refused_value (encode_number error)) }
+    {
+        let shared = path::longest_common_prefix(reference.path, entry.path)?;
+        let path = SharedPath {
+            path: entry.path,
+            shared,
+        };
+        Ok(Difference {
+            fields: entry.fields,
+            path,
+            reference: reference.fields,
+        })
     }
-}
 
-// The ids.
-fn put_ids(buffer: &mut [u8], fields: EntryFields, reference: EntryFields) -> usize
-    requires { length (ids_with reference fields) ≤ length buffer.old }
-    ensures { (result ≡ length (ids_with reference fields)) × (buffer.new ≡ over (ids_with reference fields) buffer.old) }
-{
-    let n = put_id(buffer, fields.namespace_id, reference.namespace_id);
-    n + put_id(&mut buffer[n..], fields.subspace_id, reference.subspace_id)
-}
+    // The time and the payload length.
+    fn numbers(self) -> Numbers
+        ensures { result ≡ numbers_from self.entry.fields.timestamp self.entry.fields.payload_length }
+    {
+        Numbers {
+            timestamp: self.fields.timestamp,
+            payload_length: self.fields.payload_length,
+        }
+    }
 
-// The path, `k` components of which are shared, and the digest.
-fn put_end(buffer: &mut [u8], digest: [u8; 32], path: &[u8], k: usize)
-    requires { ((shared_by sized k).check (path_in path.now) ≡ allowed) × (length ((shared_by sized k).encode (path_in path.now) ++ digest) ≤ length buffer.old) }
-    ensures { buffer.new ≡ over ((shared_by sized k).encode (path_in path.now) ++ digest) buffer.old }
-{
-    let n = path_relative_encode::sized::encode_shared(buffer, path, k).unwrap();
-    byte_codec::put_bytes(&mut buffer[n..], &digest).unwrap();
-}
+    #[tactic(auto, unfolding(entry_entry::specs::Entry::id_written))]
+    fn header_byte(self) -> u8
+        ensures { result ≡ pack_header (header_with self.entry.reference self.entry.fields) }
+    {
+        entry_numbers::header_byte(
+            self.fields.namespace_id != self.reference.namespace_id,
+            self.fields.subspace_id != self.reference.subspace_id,
+            self.numbers(),
+            self.reference.timestamp,
+        )
+    }
 
-// What follows the ids.
-fn put_rest<'a>(buffer: &mut [u8], entry: Entry<'a>, reference: EntryFields, k: usize)
-    requires { ((shared_by sized k).check (path_in entry.path.now) ≡ allowed) × (length (rest_with reference entry.fields ((shared_by sized k).encode (path_in entry.path.now))) ≤ length buffer.old) }
-    ensures { buffer.new ≡ over (rest_with reference entry.entry.fields ((shared_by sized k).encode (path_in entry.entry.path.now))) buffer.old }
-{
-    let fields = entry.fields;
-    let n = entry_numbers::relative_encode(
-        buffer,
-        fields.timestamp,
-        fields.payload_length,
-        reference.timestamp,
-    )
-    .unwrap();
-    put_end(&mut buffer[n..], fields.payload_digest, entry.path, k);
-}
+    // How many bytes the ids take.
+    fn ids_len(self) -> usize
+        ensures { (result ≡ length (ids_with self.entry.reference self.entry.fields)) × (result ≤ 64) }
+    {
+        id_bytes(&self.fields.namespace_id, self.reference.namespace_id).len()
+            + id_bytes(&self.fields.subspace_id, self.reference.subspace_id).len()
+    }
 
-// What follows the header.
-fn put_parts<'a>(buffer: &mut [u8], entry: Entry<'a>, reference: EntryFields, k: usize)
-    requires { ((shared_by sized k).check (path_in entry.path.now) ≡ allowed) × (length (parts_with reference entry.fields ((shared_by sized k).encode (path_in entry.path.now))) ≤ length buffer.old) }
-    ensures { buffer.new ≡ over (parts_with reference entry.entry.fields ((shared_by sized k).encode (path_in entry.entry.path.now))) buffer.old }
-{
-    let n = put_ids(buffer, entry.fields, reference);
-    put_rest(&mut buffer[n..], entry, reference, k);
-}
+    // How many bytes the entry takes.
+    pub(crate) fn len(self) -> usize
+        ensures { result ≡ length (known_bytes self.entry.reference self.entry.fields (shared_bytes self.entry.path)) }
+    {
+        let numbers = entry_numbers::relative_len_of_encoding(
+            self.numbers(),
+            self.reference.timestamp,
+        );
+        HEADER_LENGTH + self.ids_len() + numbers + self.path.len() + 32
+    }
 
-// Writes an entry, `k` components of whose path are shared.
-pub(crate) fn put_entry<'a>(buffer: &mut [u8], entry: Entry<'a>, reference: EntryFields, k: usize)
-    requires { ((shared_by sized k).check (path_in entry.path.now) ≡ allowed) × (length (known_bytes reference entry.fields ((shared_by sized k).encode (path_in entry.path.now))) ≤ length buffer.old) }
-    ensures { buffer.new ≡ over (known_bytes reference entry.entry.fields ((shared_by sized k).encode (path_in entry.entry.path.now))) buffer.old }
-{
-    buffer[0] = header_byte(entry.fields, reference);
-    put_parts(&mut buffer[HEADER_LENGTH..], entry, reference, k);
+    // The ids.
+    fn put_ids(self, buffer: &mut [u8]) -> usize
+        requires { length (ids_with self.reference self.fields) ≤ length buffer.old }
+        ensures { (result ≡ length (ids_with self.entry.reference self.entry.fields)) × (buffer.new ≡ over (ids_with self.entry.reference self.entry.fields) buffer.old) }
+    {
+        let namespace = id_bytes(&self.fields.namespace_id, self.reference.namespace_id);
+        let subspace = id_bytes(&self.fields.subspace_id, self.reference.subspace_id);
+        let n = namespace.len();
+        let whole = n + subspace.len();
+        buffer[..n].copy_from_slice(namespace);
+        buffer[n..whole].copy_from_slice(subspace);
+        whole
+    }
+
+    // The path and the digest.
+    fn put_end(self, buffer: &mut [u8])
+        requires { length (shared_bytes self.path ++ self.fields.payload_digest) ≤ length buffer.old }
+        ensures { buffer.new ≡ over (shared_bytes self.entry.path ++ self.entry.fields.payload_digest) buffer.old }
+    {
+        let n = self.path.encode(buffer).unwrap();
+        buffer[n..n + 32].copy_from_slice(&self.fields.payload_digest);
+    }
+
+    // What follows the ids.
+    fn put_rest(self, buffer: &mut [u8])
+        requires { length (rest_with self.reference self.fields (shared_bytes self.path)) ≤ length buffer.old }
+        ensures { buffer.new ≡ over (rest_with self.entry.reference self.entry.fields (shared_bytes self.entry.path)) buffer.old }
+    {
+        let n = entry_numbers::relative_encode(
+            buffer,
+            self.numbers(),
+            self.reference.timestamp,
+        ).unwrap();
+        self.put_end(&mut buffer[n..]);
+    }
+
+    // What follows the header.
+    fn put_parts(self, buffer: &mut [u8])
+        requires { length (parts_with self.reference self.fields (shared_bytes self.path)) ≤ length buffer.old }
+        ensures { buffer.new ≡ over (parts_with self.entry.reference self.entry.fields (shared_bytes self.entry.path)) buffer.old }
+    {
+        let n = self.put_ids(buffer);
+        self.put_rest(&mut buffer[n..]);
+    }
+
+    fn put(self, buffer: &mut [u8])
+        requires { length (known_bytes self.reference self.fields (shared_bytes self.path)) ≤ length buffer.old }
+        ensures { buffer.new ≡ over (known_bytes self.entry.reference self.entry.fields (shared_bytes self.entry.path)) buffer.old }
+    {
+        buffer[0] = self.header_byte();
+        self.put_parts(&mut buffer[HEADER_LENGTH..]);
+    }
+
+    // Writes the entry.
+    pub(crate) fn encode(self, buffer: &mut [u8]) -> Result<usize, EncodeError>
+        ensures { (outcome_of result ≡ put_answer allowed (known_bytes self.entry.reference self.entry.fields (shared_bytes self.entry.path)) (length buffer.old)) × (buffer.new ≡ put_buffer allowed (known_bytes self.entry.reference self.entry.fields (shared_bytes self.entry.path)) buffer.old) }
+    {
+        let whole = self.len();
+        if buffer.len() < whole {
+            return Err(EncodeError::NoRoom);
+        }
+        self.put(buffer);
+        Ok(whole)
+    }
 }

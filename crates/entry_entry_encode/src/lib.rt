@@ -10,18 +10,20 @@ ghost use Rattle.entry_entry.specs.Records.{against_entry};
 
 use codec::EncodeError;
 use entry::Entry;
+use entry_encode::Difference;
 
 mod entry_encode;
 
 // How many bytes an entry against a reference takes.
+#[tactic(auto, using(codec::proofs::Lending::length_allowed))]
 pub fn relative_len_of_encoding<'a>(
     entry: Entry<'a>,
     reference: Entry<'a>,
 ) -> Result<usize, EncodeError>
     ensures { outcome_of result ≡ length_answer (against_entry (entry_lent reference.entry)) (entry_lent entry.entry) }
 {
-    let k = path::longest_common_prefix(reference.path, entry.path)?;
-    Ok(entry_encode::entry_len(entry, reference.fields, k))
+    let told = Difference::between(entry, reference)?;
+    Ok(told.len())
 }
 
 // Writes an entry against a reference.
@@ -32,11 +34,5 @@ pub fn relative_encode<'a>(
 ) -> Result<usize, EncodeError>
     ensures { WritesInto (against_entry (entry_lent reference.entry)) (entry_lent entry.entry) result buffer.old buffer.new }
 {
-    let k = path::longest_common_prefix(reference.path, entry.path)?;
-    let whole = entry_encode::entry_len(entry, reference.fields, k);
-    if buffer.len() < whole {
-        return Err(EncodeError::NoRoom);
-    }
-    entry_encode::put_entry(buffer, entry, reference.fields, k);
-    Ok(whole)
+    Difference::between(entry, reference)?.encode(buffer)
 }

@@ -3,9 +3,9 @@
 
 #![tactic(auto)]
 
-ghost use Rattle.std.specs.Prelude.{◌≡◌, ◌≤◌, length};
+ghost use Rattle.std.specs.Prelude.{◌≡◌, ◌≤◌, length, Ok};
 ghost use Rattle.codec.specs.Answers.{answer_of, outcome_of};
-ghost use Rattle.codec.specs.Format.{allowed, put_answer, put_buffer};
+ghost use Rattle.codec.specs.Format.{allowed, over, put_answer, put_buffer};
 ghost use Rattle.entry_numbers.specs.Header.{pack_header};
 ghost use Rattle.entry_numbers.specs.Numbers.{header_of, numbers_bytes, read_numbers};
 
@@ -36,33 +36,31 @@ pub struct Numbers {
 fn header_of(
     namespace_written: bool,
     subspace_written: bool,
-    time: u64,
-    size: u64,
+    numbers: Numbers,
     reference: u64,
 ) -> EntryHeader
-    ensures { result ≡ header_of namespace_written subspace_written reference time size }
+    ensures { result ≡ header_of namespace_written subspace_written reference numbers.timestamp numbers.payload_length }
 {
     EntryHeader {
         namespace_written,
         subspace_written,
-        time_added: reference < time,
-        time_tag: compact_u64::min_tag(TIME_TAG_WIDTH, time.abs_diff(reference)),
-        length_tag: compact_u64::min_tag(LENGTH_TAG_WIDTH, size),
+        time_added: reference < numbers.timestamp,
+        time_tag: compact_u64::min_tag(TIME_TAG_WIDTH, numbers.timestamp.abs_diff(reference)),
+        length_tag: compact_u64::min_tag(LENGTH_TAG_WIDTH, numbers.payload_length),
     }
 }
 
-// The header byte of an entry with this time and payload length, against a reference's time; whether its ids are written is told elsewhere.
+// The header byte of an entry with these numbers, against a reference's time; whether its ids are written is told elsewhere.
 #[tactic(auto, using(crate::proofs::HeaderLayout::header_fits))]
 pub fn header_byte(
     namespace_written: bool,
     subspace_written: bool,
-    time: u64,
-    size: u64,
+    numbers: Numbers,
     reference: u64,
 ) -> u8
-    ensures { result ≡ pack_header (header_of namespace_written subspace_written reference time size) }
+    ensures { result ≡ pack_header (header_of namespace_written subspace_written reference numbers.timestamp numbers.payload_length) }
 {
-    entry_header::pack(header_of(namespace_written, subspace_written, time, size, reference))
+    entry_header::pack(header_of(namespace_written, subspace_written, numbers, reference))
 }
 
 // Reads the time against a reference's and the payload length, by the header.
@@ -97,22 +95,24 @@ pub fn relative_decode(
 }
 
 // How many bytes the time's difference and the payload length take.
-pub fn relative_len_of_encoding(time: u64, size: u64, reference: u64) -> usize
-    ensures { (result ≡ length (numbers_bytes reference time size)) × (result ≤ 16) }
+pub fn relative_len_of_encoding(numbers: Numbers, reference: u64) -> usize
+    ensures { (result ≡ length (numbers_bytes reference numbers.timestamp numbers.payload_length)) × (result ≤ 16) }
 {
-    let difference = time.abs_diff(reference);
+    let difference = numbers.timestamp.abs_diff(reference);
+    let size = numbers.payload_length;
     compact_u64::relative_len_of_pair(TIME_TAG_WIDTH, difference, LENGTH_TAG_WIDTH, size)
 }
 
 // Writes the time's difference and the payload length.
 pub fn relative_encode(
     buffer: &mut [u8],
-    time: u64,
-    size: u64,
+    numbers: Numbers,
     reference: u64,
 ) -> Result<usize, EncodeError>
-    ensures { (outcome_of result ≡ put_answer allowed (numbers_bytes reference time size) (length buffer.old)) × (buffer.new ≡ put_buffer allowed (numbers_bytes reference time size) buffer.old) }
+    ensures fits { length (numbers_bytes reference numbers.timestamp numbers.payload_length) ≤ length buffer.old → (result ≡ Ok (length (numbers_bytes reference numbers.timestamp numbers.payload_length))) × (buffer.new ≡ over (numbers_bytes reference numbers.timestamp numbers.payload_length) buffer.old) }
+    ensures writes { (outcome_of result ≡ put_answer allowed (numbers_bytes reference numbers.timestamp numbers.payload_length) (length buffer.old)) × (buffer.new ≡ put_buffer allowed (numbers_bytes reference numbers.timestamp numbers.payload_length) buffer.old) }
 {
-    let difference = time.abs_diff(reference);
+    let difference = numbers.timestamp.abs_diff(reference);
+    let size = numbers.payload_length;
     compact_u64::relative_encode_pair(buffer, TIME_TAG_WIDTH, difference, LENGTH_TAG_WIDTH, size)
 }

@@ -1,5 +1,5 @@
 -- Areas as flat bytes: there and back.
-use Rattle.codec.proofs.Prelude.{◌∙◌, ◌≡◌, refl, List, ◌++◌, Bool, true, false, ◌&&◌, ℕ, arith, length, take, drop, length-append, length-drop, take_at, drop_at}
+use Rattle.codec.proofs.Prelude.{◌≡◌, refl, List, ◌++◌, Bool, true, false, ◌&&◌, ℕ, arith, length, take, drop, length-append, length-drop, take_at, drop_at}
 use Rattle.codec.specs.Answers.{AllBytes}
 use Rattle.codec.proofs.Bytes.{AllBytes-drop}
 use Rattle.codec.proofs.Tests.{and_left, and_right}
@@ -11,7 +11,7 @@ use Rattle.path.specs.Flat.{path_size, path_flat, path_in}
 use Rattle.flat.specs.PathRecord.{path_if}
 use Rattle.flat.specs.Times.{times_flat, times_marked, times_in}
 use Rattle.flat.specs.AreaRecord.{area_size, area_times_start, subspace_flat, area_flat, area_marked, area_in}
-use Rattle.path.proofs.Loads.{path_within_lem, path_long, path_loads, path_stores}
+use Rattle.path.proofs.Loads.{path_long, path_loads, path_stores}
 use Rattle.flat.specs.Optional.{option_marked, option_in}
 use Rattle.flat.proofs.Optional.{option_long, option_marked_lem, option_loads, option_stores}
 use Rattle.flat.proofs.PathLaws.{unmarked, either_unmarked}
@@ -62,9 +62,9 @@ area_stores s long b w = go (option_marked 32 s && times_marked (drop area_times
     go false e f = absurd (unmarked (drop 33 s) f)
 
 -- the path of an area that is marked
-pub area_path : (s p : List ℕ) → (p ≡ take path_size (drop 33 s)) × (length p ≡ path_size) → area_marked s ≡ true → path_in p ≡ path_if (area_marked s) (drop 33 s)
+pub area_path : (s : List ℕ) → area_marked s ≡ true → path_in (drop 33 s) ≡ path_if (area_marked s) (drop 33 s)
 unfolding path_in
-area_path s p e m = path_within_lem p (drop 33 s) e ∙ rw m
+area_path s m = rw m
 
 -- an area whose marks are none is not well formed
 pub area_unmarked : (s : List ℕ) → area_marked s ≡ false → well_formed_area (area_in s) ≡ false

@@ -1,6 +1,6 @@
 -- Parts that may be missing, as flat bytes: there and back.
-use Rattle.codec.proofs.Prelude.{◌≡◌, refl, sym, ap, List, [], ◌∷◌, ◌++◌, Bool, true, false, cond, ◌&&◌, ℕ, suc, ◌-◌, ◌≤◌, arith, eqb, get_or, length, take, drop, replicate, length-replicate, length-take-le, take_at, eqb-true, true≢false, get_or-drop, drop-drop, add-zero, ◌+◌}
-use Rattle.std.specs.Prelude.{Option, Some, None}
+use Rattle.codec.proofs.Prelude.{◌≡◌, refl, sym, ap, List, [], ◌∷◌, ◌++◌, Bool, true, false, cond, ◌&&◌, ℕ, suc, ◌-◌, ◌≤◌, arith, eqb, get_or, length, take, drop, replicate, length-replicate, length-take-le, take_at, eqb-true, true≢false}
+use Rattle.std.specs.Prelude.{Option, Some, None, option_map}
 use Rattle.path.specs.Record.{all_at_most}
 use Rattle.path.proofs.Lists.{all_zeros, zero_rest}
 use Rattle.flat.specs.Optional.{option_flat, option_marked, option_in}
@@ -34,12 +34,11 @@ module _ {A : Type 0} (size : ℕ) (flat : A → List ℕ) (load : List ℕ → 
           rw (eqb-true x 1 q) (ap (λ (l : List ℕ). 1 ∷ l) z)
       go false false p q n = absurd (true≢false (sym n))
 
--- where the mark and the part stand
-pub option_marked_at : (l : List ℕ) (at size : ℕ)
-    → option_marked size (drop at l) ≡ cond (eqb (get_or l at 0) 0) true (eqb (get_or l at 0) 1 && all_at_most 0 (take size (drop (at + 1) l)))
-unfolding option_marked
-option_marked_at l at size = rw (get_or-drop, add-zero, drop-drop 1 at l)
-
-pub option_in_at : {A : Type 0} (load : List ℕ → A) (l : List ℕ) (at : ℕ)
-    → option_in load (drop at l) ≡ cond (eqb (get_or l at 0) 1) None (Some (load (drop (at + 1) l)))
-option_in_at load l at = rw (get_or-drop, add-zero, drop-drop 1 at l)
+-- a part is what its bytes load as
+pub option_mapped : {A B : Type 0} (f : A → B) (load : List ℕ → A) (whole : List ℕ → B) (l : List ℕ) → f (load (drop 1 l)) ≡ whole (drop 1 l)
+    → option_map f (option_in load l) ≡ option_in whole l
+option_mapped f load whole l e = go (eqb (get_or l 0 0) 1)
+  where
+    go : (b : Bool) → option_map f (cond b None (Some (load (drop 1 l)))) ≡ cond b None (Some (whole (drop 1 l)))
+    go true = refl
+    go false = ap Some e

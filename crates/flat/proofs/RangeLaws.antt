@@ -10,7 +10,7 @@ use Rattle.flat.specs.Optional.{option_flat, option_marked, option_in}
 use Rattle.flat.specs.PathRecord.{path_if}
 use Rattle.flat.specs.Times.{times_flat, times_marked, times_in}
 use Rattle.flat.specs.RangeRecord.{range_size, range_path_open, range_path_end, range_times_start, subspaces_flat, range_flat, range_marked, subspaces_in, range_in}
-use Rattle.path.proofs.Loads.{path_within_lem, path_long, path_loads, path_stores}
+use Rattle.path.proofs.Loads.{path_long, path_loads, path_stores}
 use Rattle.flat.proofs.Optional.{option_long, option_marked_lem, option_loads, option_stores}
 use Rattle.flat.proofs.PathLaws.{unmarked, either_unmarked}
 use Rattle.flat.proofs.TimesLaws.{times_marked_lem, times_loads, times_stores, times_long, three}
@@ -130,9 +130,9 @@ range_stores s long b w = go (range_marked s) refl (and_left (well_formed (range
     go false e f = absurd (unmarked (drop 65 s) f)
 
 -- the first path of a 3d range that is marked
-pub range_path : (s p : List ℕ) → (p ≡ take path_size (drop 65 s)) × (length p ≡ path_size) → range_marked s ≡ true → path_in p ≡ path_if (range_marked s) (drop 65 s)
+pub range_path : (s : List ℕ) → range_marked s ≡ true → path_in (drop 65 s) ≡ path_if (range_marked s) (drop 65 s)
 unfolding path_in
-range_path s p e m = path_within_lem p (drop 65 s) e ∙ rw m
+range_path s m = rw m
 
 range_marks : (s : List ℕ) → range_marked s ≡ false → well_formed_range3d (range_in s) ≡ true → ⊥
 unfolding range_in

@@ -1,5 +1,5 @@
 -- Times as flat bytes, there and back; the parts of a whole.
-use Rattle.codec.proofs.Prelude.{◌≡◌, refl, sym, ap, ◌∙◌, List, [], ◌∷◌, ◌++◌, Bool, true, false, cond, ◌&&◌, ℕ, ◌+◌, ◌≤◌, arith, eqb, length, take, drop, get_or, get_or-drop, length-drop, take-append-drop, take_all, drop_at, drop-drop, drop-cons, eqb-true, ne_eqb}
+use Rattle.codec.proofs.Prelude.{◌≡◌, refl, sym, ap, ◌∙◌, List, [], ◌∷◌, ◌++◌, Bool, true, false, cond, ◌&&◌, ℕ, zero, suc, ◌+◌, ◌*◌, ◌^◌, ◌≤◌, arith, eqb, length, take, drop, get_or, get_or-drop, length-drop, take-append-drop, take_all, drop_at, drop-drop, drop-cons, eqb-true, ne_eqb, lt-leb, ◌<◌}
 use Rattle.codec.specs.Answers.{AllBytes}
 use Rattle.codec.specs.Header.{bit}
 use Rattle.codec.proofs.Bytes.{AllBytes-drop}
@@ -9,6 +9,9 @@ use Rattle.grouping.specs.declared.RangeEnd.TheVariants.{Closed, Open}
 use Rattle.grouping.specs.declared.TimeRange.{TimeRange}
 use Rattle.grouping.specs.Range.{TypedRange, is_open, end_value, top}
 use Rattle.flat.specs.Times.{times_size, end_time, times_flat, times_marked, times_in}
+use Rattle.path.specs.Record.{all_at_most}
+use Rattle.flat.specs.Optional.{option_marked}
+use Rattle.compact_u64.proofs.BigEndian.{pow256_pos}
 use Rattle.path.proofs.Loads.{number_loads, number_stores}
 
 -- ---- times
@@ -82,15 +85,16 @@ drop_two a b c n m ea eb = sym (drop-drop m n (a ++ (b ++ c))) ∙ rw (drop_at a
 pub three : (s : List ℕ) (n m : ℕ) → take n s ++ (take m (drop n s) ++ drop (n + m) s) ≡ s
 three s n m = rw (← (drop-drop m n s), take-append-drop m (drop n s), take-append-drop n s)
 
--- ---- where the parts of times stand
-module _ (l : List ℕ) (at : ℕ) where
-  pub times_marked_at : times_marked (drop at l) ≡ cond (eqb (get_or l (at + 8) 0) 0) true (eqb (get_or l (at + 8) 0) 1 && eqb (value_of (take 8 (drop (at + 9) l))) 0)
-  unfolding times_marked
-  times_marked_at = rw (get_or-drop at l 8 0, drop-drop 9 at l)
+-- ---- the mark and the end are a part that may be missing
+-- bytes make zero just where each is
+zero_bytes : (s : List ℕ) → eqb (value_of s) 0 ≡ all_at_most 0 s
+zero_bytes [] = refl
+zero_bytes (zero ∷ s) = let e : 0 * 256 ^ length s + value_of s ≡ value_of s = omega arith in rw e (zero_bytes s)
+zero_bytes (suc b ∷ s) = rw (lt-leb (suc b) 0 (omega arith)) (ne_eqb (suc b * 256 ^ length s + value_of s) 0 (λ z. omega (arith, z, some b (length s))))
+  where
+    some : (b n : ℕ) → 0 < suc b * 256 ^ n
+    some b n = let e : suc b * 256 ^ n ≡ b * 256 ^ n + 256 ^ n = omega arith in omega (arith, e, pow256_pos n)
 
-  pub times_in_at : times_in (drop at l) ≡ record {
-    start = value_of (take 8 (drop at l));
-    end = cond (eqb (get_or l (at + 8) 0) 1) Open (Closed (value_of (take 8 (drop (at + 9) l))));
-  }
-  unfolding times_in
-  times_in_at = rw (get_or-drop at l 8 0, drop-drop 9 at l)
+pub times_marked_option : (s : List ℕ) → times_marked s ≡ option_marked 8 (drop 8 s)
+unfolding times_marked option_marked
+times_marked_option s = rw (get_or-drop 8 s 0 0, drop-drop 1 8 s, zero_bytes (take 8 (drop 9 s)))

@@ -1,41 +1,29 @@
 // An area: the mark of any subspace, the id, the path, the times.
-ghost use Rattle.std.specs.Prelude.{◌≡◌, ◌↔◌, ◌≤◌, false, length, IfOk, IsErr};
-ghost use Rattle.path.specs.Flat.{path_size, path_in};
-ghost use Rattle.path.specs.Puts.{Puts};
+ghost use Rattle.std.specs.Prelude.{◌≡◌, ◌↔◌, false, IfOk, IsErr};
+ghost use Rattle.path.specs.Flat.{path_in};
 ghost use Rattle.grouping.specs.Record.{area_with, area_lent};
-ghost use Rattle.flat.specs.AreaRecord.{area_size, area_marked, area_in, area_flat};
+ghost use Rattle.flat.specs.AreaRecord.{area_marked, area_in, area_flat};
 
 use codec::Malformed;
 use grouping::{Area, AreaHead};
 
 // Where an area's parts start, and how many bytes it has.
-const SUBSPACE: usize = 0;
-
 const PATH: usize = 33;
 
 const TIMES: usize = PATH + path::lent::SIZE;
 
 pub const SIZE: usize = TIMES + crate::times::SIZE;
 
-// Writes an area from the first byte on.
-fn put_area(flat: &mut [u8], head: AreaHead, path: &[u8])
-    requires { (area_size ≤ length flat.old) × (length path.now ≡ path_size) }
-    ensures { Puts area_size (area_flat (area_with head (path_in path.now))) flat.old flat.new }
-{
-    crate::put_optional_id(flat, head.subspace);
-    crate::put_path(&mut flat[PATH..], path);
-    crate::times::put_times(&mut flat[TIMES..], head.times);
-}
-
 // Whether the marks are 0 or 1, and zeros stand beside those of any subspace and of an open end.
 #[tactic(auto, unfolding(flat::specs::AreaRecord::area_marked))]
 fn is_marked(flat: &[u8; SIZE]) -> bool
     ensures { result ≡ area_marked flat.now }
 {
-    crate::is_option(flat, SUBSPACE, 32) && crate::times::marked(flat, TIMES)
+    crate::is_marked(flat, 32) && crate::times::is_marked(crate::part(crate::after(flat, TIMES)))
 }
 
 // The area that bytes are, its path lent; bytes whose marks are none are no area's.
+#[tactic(auto, using(flat::proofs::AreaLaws::area_path), unfolding(flat::specs::AreaRecord::area_in))]
 pub fn load<'a>(flat: &'a [u8; SIZE]) -> Result<Area<'a>, Malformed>
     ensures ok { IfOk result (λ area. area_lent area ≡ area_in flat.now) }
     ensures err { IsErr result ↔ (area_marked flat.now ≡ false) }
@@ -45,15 +33,17 @@ pub fn load<'a>(flat: &'a [u8; SIZE]) -> Result<Area<'a>, Malformed>
     }
     Ok(Area {
         head: AreaHead {
-            subspace: crate::optional_id_at(flat, SUBSPACE),
-            times: crate::times::times_in(flat, TIMES),
+            subspace: crate::optional(flat).copied(),
+            times: crate::times::times_in(crate::part(crate::after(flat, TIMES))),
         },
-        path: crate::path_at(flat, PATH),
+        path: crate::path(crate::after(flat, PATH)),
     })
 }
 
 pub fn store(flat: &mut [u8; SIZE], head: AreaHead, path: &[u8; path::lent::SIZE])
     ensures { flat.new ≡ area_flat (area_with head (path_in path.now)) }
 {
-    put_area(flat, head, path);
+    crate::put_optional(flat, head.subspace.as_ref());
+    crate::put(&mut flat[PATH..], path);
+    crate::times::put_times(&mut flat[TIMES..], head.times);
 }

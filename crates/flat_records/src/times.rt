@@ -1,5 +1,5 @@
 // A range of times: its start, the mark of an open end, its end, which is zero beside the mark.
-ghost use Rattle.std.specs.Prelude.{◌≡◌, ◌+◌, ◌≤◌, length, drop};
+ghost use Rattle.std.specs.Prelude.{◌≡◌, ◌≤◌, length};
 ghost use Rattle.flat.specs.Times.{times_size, end_time, times_marked, times_in, times_flat};
 ghost use Rattle.path.specs.Puts.{Puts};
 
@@ -12,27 +12,24 @@ const END: usize = 9;
 
 pub(crate) const SIZE: usize = END + 8;
 
-// Whether the bytes from a place on are a range's: the mark is 0 or 1, and the end beside 1 is zero.
-#[tactic(auto, using(flat::proofs::TimesLaws::times_marked_at))]
-pub(crate) fn marked(flat: &[u8], at: usize) -> bool
-    requires { at + times_size ≤ length flat.now }
-    ensures { result ≡ times_marked (drop at flat.now) }
+// Whether the bytes are a range's: the mark is 0 or 1, and the end beside 1 is zero.
+#[tactic(auto, using(flat::proofs::TimesLaws::times_marked_option))]
+pub(crate) fn is_marked(flat: &[u8; SIZE]) -> bool
+    ensures { result ≡ times_marked flat.now }
 {
-    let mark = flat[at + MARK];
-    mark == 0 || (mark == 1 && crate::number_at(flat, at + END) == 0)
+    crate::is_marked(crate::after(flat, MARK), 8)
 }
 
-#[tactic(auto, using(flat::proofs::TimesLaws::times_in_at))]
-pub(crate) fn times_in(flat: &[u8], at: usize) -> TimeRange
-    requires { at + times_size ≤ length flat.now }
-    ensures { result ≡ times_in (drop at flat.now) }
+#[tactic(auto, unfolding(flat::specs::Times::times_in))]
+pub(crate) fn times_in(flat: &[u8; SIZE]) -> TimeRange
+    ensures { result ≡ times_in flat.now }
 {
     TimeRange {
-        start: crate::number_at(flat, at),
-        end: if flat[at + MARK] == 1 {
+        start: crate::number(flat),
+        end: if flat[MARK] == 1 {
             RangeEnd::Open
         } else {
-            RangeEnd::Closed(crate::number_at(flat, at + END))
+            RangeEnd::Closed(crate::number(crate::after(flat, END)))
         },
     }
 }

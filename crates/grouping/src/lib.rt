@@ -12,8 +12,8 @@ use compact_u64::TagWidth;
 
 mod range;
 
-// Where a range of times ends: before a time, or nowhere.
-#[derive(Clone, Copy)]
+// Where a range of times ends: before a time, or nowhere, which lies above every time.
+#[derive(Clone, Copy, PartialEq, Eq, PartialOrd, Ord)]
 pub enum RangeEnd {
     Closed(u64),
     Open,

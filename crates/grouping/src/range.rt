@@ -1,6 +1,6 @@
 // Ranges of times.
 ghost use Rattle.std.specs.Prelude.{◌≡◌};
-ghost use Rattle.grouping.specs.Range.{end_value, is_open, end_at_most, end_after, includes_time, includes_range, bounds};
+ghost use Rattle.grouping.specs.Range.{end_value, is_open, end_after, includes_time, includes_range, bounds};
 
 use crate::{RangeEnd, TimeRange};
 
@@ -25,21 +25,7 @@ impl RangeEnd {
     pub fn gt_val(self, time: u64) -> bool
         ensures { result ≡ end_after self time }
     {
-        match self {
-            RangeEnd::Closed(end) => time < end,
-            RangeEnd::Open => true,
-        }
-    }
-
-    // Whether an end is not after another.
-    pub fn at_most(self, other: RangeEnd) -> bool
-        ensures { result ≡ end_at_most self other }
-    {
-        match (self, other) {
-            (_, RangeEnd::Open) => true,
-            (RangeEnd::Closed(end), RangeEnd::Closed(limit)) => end <= limit,
-            (RangeEnd::Open, RangeEnd::Closed(_)) => false,
-        }
+        RangeEnd::Closed(time) < self
     }
 }
 
@@ -55,7 +41,7 @@ impl TimeRange {
     pub fn includes_range(self, other: TimeRange) -> bool
         ensures { result ≡ includes_range self other }
     {
-        self.start <= other.start && other.end.at_most(self.end)
+        self.start <= other.start && other.end <= self.end
     }
 
     // Whether a time lies between start and end, both counted in.

@@ -1,6 +1,6 @@
 -- What the writers' definitions say at each step of the code.
 use Rattle.codec.proofs.Prelude.{◌≡◌, refl, sym, ap, ◌∙◌, List, ◌++◌, append_assoc, append-nil, true, false, ◌&&◌, ℕ, ◌+◌, ◌*◌, ◌-◌, ◌≤◌, arith, put_mid, length, take, drop, length-append, length-drop}
-use Rattle.std.specs.Prelude.{Option, Some, None, Result, Ok}
+use Rattle.std.specs.Prelude.{Option, Some, None, IsSome, Result, Ok}
 use Rattle.codec.specs.declared.EncodeError.{EncodeError}
 use Rattle.range_paths.specs.declared.NearPath.{NearPath}
 use Rattle.codec.specs.Format.{Format, allowed, refused_value, over, put_buffer, WritesInto}
@@ -20,7 +20,7 @@ use Rattle.range_subspaces.specs.Subspaces.{subspaces_bytes}
 use Rattle.range_paths.specs.declared.MeasuredPaths.{MeasuredPaths}
 use Rattle.range_paths.specs.Paths.{end_from_start, sides_of}
 use Rattle.range_paths.specs.Records.{near_of, measure_of, measure_in}
-use Rattle.range_paths.specs.inside.Writing.{end_after, both_bytes, Shares}
+use Rattle.range_paths.specs.inside.Writing.{end_after, both_bytes, EndShares, Shares}
 use Rattle.range_paths.proofs.Writing.{told_is, told_shares, told_bytes, told_long, told_short}
 use Rattle.range_times.specs.Times.{times_bytes}
 use Rattle.range_header.specs.Header.{header_length}
@@ -131,6 +131,10 @@ module _ {A : Type 0} {f : Format A} {v : A} {r : Result ℕ EncodeError} {l lef
   room_over = rw a at w.buffer ∙ put_over (f.encode v) l room
 
 -- ---- both paths
+pub end_measured : (p : Path) (n : Option NearPath) → EndShares (Some p) n → IsSome n
+end_measured p None h = absurd h
+end_measured p (Some n) h = refl
+
 module _ (v : Range Path) (m : MeasuredPaths) (l : List ℕ) (x : Shares v m × (length (both_bytes v m) ≤ length l)) where
   abbrev first : List ℕ
   first = (shared_by sized m.start.shared).encode v.start

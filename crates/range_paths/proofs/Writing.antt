@@ -87,7 +87,7 @@ module _ (r : Range Path) (p : Path) where
       near_end h = near_sized (record { from_start = false; shared = b }) end_fits (start_known a c).0 (rw (o, (start_known a c).1, end_known.1, lt-leb b a h, end_known.1))
 
 -- ---- the bytes after what is shared
-pub shared_short : (p : Path) (k : ℕ) → sized p ≡ true → length ((shared_by sized k).encode p) ≤ max_against_length
+shared_short : (p : Path) (k : ℕ) → sized p ≡ true → length ((shared_by sized k).encode p) ≤ max_against_length
 shared_short p k w =
     let f = sized_formed w in
     omega (arith, length-append (standalone_bytes k) ((suffix_by sized k).encode p), standalone_short k, suffix_short (drop k (components_of p)), rest_count p f k, rest_small p f k, f.well.count)

@@ -1,17 +1,14 @@
 // To write paths that are lent as their records, whose sizes are tested: what each shares with the nearer path of the reference, and how many bytes it takes.
-ghost use Rattle.std.specs.Prelude.{◌≡◌, ◌≤◌, length};
+ghost use Rattle.std.specs.Prelude.{◌≡◌};
 ghost use Rattle.codec.specs.Answers.{said_of};
-ghost use Rattle.codec.specs.Format.{allowed};
-ghost use Rattle.path.specs.Record.{sized};
 ghost use Rattle.path.specs.Flat.{path_in};
-ghost use Rattle.path_suffix.specs.inside.Lengths.{max_against_length};
-ghost use Rattle.path_relative.specs.Records.{shared_by};
 ghost use Rattle.range_3d.specs.Record.{paths_lent};
 ghost use Rattle.range_paths.specs.Records.{measure_in};
 ghost use Rattle.range_paths.specs.inside.Writing.{near_in};
 
 use crate::{MeasuredPaths, NearPath};
 use codec::Malformed;
+use path_relative_encode::shared_path::SharedPath;
 use range_3d::PathRange;
 
 // The nearer path of the reference.
@@ -34,14 +31,6 @@ fn nearest<'a>(path: &'a [u8], reference: PathRange<'a>) -> Result<NearPath, Mal
     })
 }
 
-// How many bytes a path takes of which `k` components are shared.
-fn path_len(path: &[u8], k: usize) -> usize
-    requires { (shared_by sized k).check (path_in path.now) ≡ allowed }
-    ensures { (result ≡ length ((shared_by sized k).encode (path_in path.now))) × (result ≤ max_against_length) }
-{
-    path_relative_encode::sized::shared_len(path, k).unwrap()
-}
-
 // What writing paths against those of a reference needs to know.
 pub fn measure<'a>(
     paths: PathRange<'a>,
@@ -50,7 +39,11 @@ pub fn measure<'a>(
     ensures { said_of result ≡ measure_in (paths_lent reference.entry) (paths_lent paths.entry) }
 {
     let start = nearest(paths.start, reference)?;
-    let start_len = path_len(paths.start, start.shared);
+    let start_len = SharedPath {
+        path: paths.start,
+        shared: start.shared,
+    }
+    .len();
     let Some(path) = paths.end else {
         return Ok(MeasuredPaths {
             start,
@@ -59,9 +52,10 @@ pub fn measure<'a>(
         });
     };
     let end = nearest(path, reference)?;
+    let shared = end.shared;
     Ok(MeasuredPaths {
         start,
         end: Some(end),
-        len: start_len + path_len(path, end.shared),
+        len: start_len + SharedPath { path, shared }.len(),
     })
 }

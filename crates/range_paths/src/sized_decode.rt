@@ -19,6 +19,7 @@ fn are_sized<'a>(paths: PathRange<'a>) -> bool
 }
 
 // Reads a path of this side, from `start` on.
+#[tactic(auto, using(codec::proofs::Answers::gives_refused, path::proofs::Growing::in_empty))]
 fn decode_path<'a>(
     message: &[u8],
     start: usize,
@@ -28,20 +29,16 @@ fn decode_path<'a>(
 ) -> Result<usize, DecodeError>
     ensures { Gives (path_from []) result (path_in out.new) (read_side_in (paths_lent reference.entry) from_start (drop start message.now)) }
 {
-    if from_start {
-        return path_relative_decode::sized::relative_decode(
-            message,
-            start,
-            false,
-            reference.start,
-            out,
-        );
-    }
-    let Some(end) = reference.end else {
+    let side = if from_start {
+        Some(reference.start)
+    } else {
+        reference.end
+    };
+    let Some(path) = side else {
         path::lent::clear(out);
         return Err(DecodeError::TheirFault);
     };
-    path_relative_decode::sized::relative_decode(message, start, false, end, out)
+    path_relative_decode::sized::relative_decode(message, start, false, path, out)
 }
 
 // Reads paths by their sides; whether the end is open is told apart from them, and its record is left empty then.

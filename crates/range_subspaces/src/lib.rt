@@ -135,11 +135,7 @@ pub fn relative_decode(
 fn id_bytes(id: &[u8; 32], reference: SubspaceRange) -> &[u8]
     ensures { (result.now ≡ id_bytes reference id.now) × (length result.now ≤ 32) }
 {
-    if source(*id, reference) == IdSource::Written {
-        id
-    } else {
-        &[]
-    }
+    byte_codec::id_bytes_if(id, source(*id, reference) == IdSource::Written)
 }
 
 // The same of an end; an open one takes none.

@@ -1,7 +1,5 @@
 -- What the writer's private functions are stated by.
 use Rattle.std.specs.Prelude.{List, ◌++◌, ℕ}
-use Rattle.path.specs.Record.{Path, sized}
-use Rattle.path_relative.specs.Records.{shared_by}
 use Rattle.grouping.specs.declared.TimeRange.{TimeRange}
 use Rattle.grouping.specs.declared.AreaHead.{AreaHead}
 use Rattle.entry.specs.declared.EntryFields.{EntryFields}
@@ -13,9 +11,9 @@ use Rattle.entry_area.specs.Entry.{start_of}
 abbrev pub end_in : EntryFields → End
 end_in f = end_from f.timestamp f.payload_length f.payload_digest
 
--- what stands after the id, of a path that shares k components with the area's, and all bytes
-abbrev pub tail_bytes : TimeRange → End → Path → ℕ → List ℕ
-tail_bytes r e p k = (shared_by sized k).encode p ++ end_of r e
+-- what stands after the id, by the bytes of the path, and all bytes
+abbrev pub tail_bytes : TimeRange → EntryFields → List ℕ → List ℕ
+tail_bytes r f path = path ++ end_of r (end_in f)
 
-abbrev pub known_bytes : AreaHead → EntryFields → Path → ℕ → List ℕ
-known_bytes h f p k = start_of h.times h.subspace f.subspace_id (end_in f) ++ tail_bytes h.times (end_in f) p k
+abbrev pub known_bytes : AreaHead → EntryFields → List ℕ → List ℕ
+known_bytes h f path = start_of h.times h.subspace f.subspace_id (end_in f) ++ tail_bytes h.times f path

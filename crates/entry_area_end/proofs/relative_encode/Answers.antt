@@ -1,13 +1,14 @@
-use Rattle.codec.proofs.Prelude.{refl}
+use Rattle.codec.proofs.Prelude.{refl, ◌∙◌}
+use Rattle.std.specs.Prelude.{Ok}
 use Rattle.codec.specs.Format.{allowed}
-use Rattle.codec.proofs.Lending.{put_full}
+use Rattle.codec.proofs.Lending.{put_done, put_full, put_over}
 use Rattle.codec.proofs.Pairs.{first_not_refused, second_starts, second_not_refused, both_put}
 use Rattle.entry_area_end.specs.End.{end_of}
 use Rattle.entry_area_end.proofs.Writing.{end_apart}
 use Rattle.entry_area_end.proofs.relative_encode.Goals as goal
 
-pub returns-then-buffer-whole : goal.returns-then-buffer-whole
-returns-then-buffer-whole c =
+pub returns-then-buffer-whole-clause-writes : goal.returns-then-buffer-whole-clause-writes
+returns-then-buffer-whole-clause-writes c =
     let a = c.args in
     let n = c.relative_len_of_encoding-whole in
     put_full allowed (end_of a.times a.end) a.buffer.now refl n.result n.ensures.0 c.if-buffer-whole.true
@@ -40,4 +41,5 @@ pub returns : goal.returns
 returns c =
     let a = c.args in
     let bytes = end_apart a.times a.end _ c.difference-time.ensures in
-    both_put _ _ a.buffer.now bytes c.relative_len_of_encoding-whole.ensures.0 c.if-buffer-whole.false c.in_ok-n.ensures.0 _ c.relative_encode_pair.auto.buffer c.relative_encode_pair.ensures.1 _ c.put_bytes.ensures.1
+    let w = both_put _ _ a.buffer.now bytes c.relative_len_of_encoding-whole.ensures.0 c.if-buffer-whole.false c.in_ok-n.ensures.0 _ c.relative_encode_pair.auto.buffer c.relative_encode_pair.ensures.1 _ c.put_bytes.ensures.1 in
+    record { fits = λ room. (put_done (end_of a.times a.end) _ (Ok c.relative_len_of_encoding-whole.result) room w.0, w.1 ∙ put_over (end_of a.times a.end) a.buffer.now room); writes = w }
