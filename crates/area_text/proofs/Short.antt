@@ -30,7 +30,7 @@ area_few a h =
 
 -- an area's fields put one after another, with tabs between them
 pub area_put : (a : Area) {l l1 l2 l3 l4 l5 l6 l7 : List ℕ} {p1 p2 p3 p4 p5 p6 p7 : ℕ} → length l ≡ max_bytes
-    → (p1 ≡ place_after 0 (subspace_text a.subspace) l) × (l1 ≡ put_at 0 (subspace_text a.subspace) l) × (length (subspace_text a.subspace) ≤ 64)
+    → length (subspace_text a.subspace) ≤ 64 → (p1 ≡ place_after 0 (subspace_text a.subspace) l) × (l1 ≡ put_at 0 (subspace_text a.subspace) l)
     → (p2 ≡ place_after p1 (9 ∷ []) l1) × (l2 ≡ put_at p1 (9 ∷ []) l1)
     → (p3 ≡ place_after p2 (path_text_of a.path) l2) × (l3 ≡ put_at p2 (path_text_of a.path) l2)
     → (p4 ≡ place_after p3 (9 ∷ []) l3) × (l4 ≡ put_at p3 (9 ∷ []) l3)
@@ -38,15 +38,14 @@ pub area_put : (a : Area) {l l1 l2 l3 l4 l5 l6 l7 : List ℕ} {p1 p2 p3 p4 p5 p6
     → (p6 ≡ place_after p5 (9 ∷ []) l5) × (l6 ≡ put_at p5 (9 ∷ []) l5)
     → (p7 ≡ place_after p6 (end_text a.times.end) l6) × (l7 ≡ put_at p6 (end_text a.times.end) l6)
     → PutsText 0 (area_text a) l l7 p7 × (p7 ≤ max_bytes)
-area_put a {l} long e1 e2 e3 e4 e5 e6 e7 =
+area_put a {l} long sf e1 e2 e3 e4 e5 e6 e7 =
     let s = subspace_text a.subspace in
     let p = path_text_of a.path in
     let d = decimal_text a.times.start in
-    let sf = e1.2 in
     let pf = path_text_laws.path_few a.path in
     let df = decimal_few a.times.start in
     let ef = end_few a.times.end in
     let sp = length-append s (after_tab p) in
     let spd = length-append (s ++ after_tab p) (after_tab d) in
-    let all = puts_tab (puts_tab (puts_tab (puts_fits s (omega arith) (e1.0, e1.1)) p (omega arith) e2 e3) d (omega arith) e4 e5) (end_text a.times.end) (omega arith) e6 e7 in
-    (all, omega (arith, all.place, area_few a e1.2))
+    let all = puts_tab (puts_tab (puts_tab (puts_fits s (omega arith) e1) p (omega arith) e2 e3) d (omega arith) e4 e5) (end_text a.times.end) (omega arith) e6 e7 in
+    (all, omega (arith, all.place, area_few a sf))

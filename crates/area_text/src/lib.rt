@@ -4,13 +4,14 @@
 
 ghost use Rattle.std.specs.Prelude.{◌≡◌, ◌≤◌, length, option_map};
 ghost use Rattle.grouping.specs.Record.{area_lent};
-ghost use Rattle.text.specs.Buffer.{place_after, put_at};
+ghost use Rattle.text.specs.Writer.{Writes, Keeps};
 ghost use Rattle.case_text.specs.Bytes.{bytes_of};
 ghost use Rattle.area_text.specs.AreaText.{read_subspace_text, read_end_text, subspace_text, end_text, area_text, area_field, field_area};
 
 use case_text::{Bytes, MAX_BYTES, fields};
 use grouping::{Area, AreaHead, AreaSubspace, RangeEnd, TimeRange};
 use path::Path;
+use text::Writer;
 
 // An area that four fields say.
 #[derive(Drop)]
@@ -57,21 +58,24 @@ pub fn read_end(s: &[u8]) -> Option<RangeEnd>
 }
 
 #[tactic(auto, using(text::proofs::HexSteps::hex_text_long))]
-pub fn put_subspace(out: &mut [u8], at: usize, subspace: AreaSubspace) -> usize
-    ensures { (result ≡ place_after at (subspace_text subspace) out.old) × (out.new ≡ put_at at (subspace_text subspace) out.old) × (length (subspace_text subspace) ≤ 64) }
+pub fn put_subspace(text: &mut Writer<'_>, subspace: AreaSubspace)
+    ensures put { Writes (subspace_text subspace) text.old text.new }
+    ensures few { length (subspace_text subspace) ≤ 64 }
+    ensures same { Keeps text.old text.new }
 {
     match subspace {
-        Some(id) => text::put_hex(out, at, &id),
-        None => text::put_bytes(out, at, b"*"),
+        Some(id) => text.put_hex(&id),
+        None => text.put_bytes(b"*"),
     }
 }
 
-pub fn put_end(out: &mut [u8], at: usize, end: RangeEnd) -> usize
-    ensures { (result ≡ place_after at (end_text end) out.old) × (out.new ≡ put_at at (end_text end) out.old) }
+pub fn put_end(text: &mut Writer<'_>, end: RangeEnd)
+    ensures put { Writes (end_text end) text.old text.new }
+    ensures same { Keeps text.old text.new }
 {
     match end {
-        RangeEnd::Closed(time) => text::put_decimal(out, at, time),
-        RangeEnd::Open => text::put_bytes(out, at, b"*"),
+        RangeEnd::Closed(time) => text.put_decimal(time),
+        RangeEnd::Open => text.put_bytes(b"*"),
     }
 }
 
@@ -98,13 +102,14 @@ pub fn print_area(area: Area<'_>) -> Bytes
     ensures { bytes_of result ≡ area_text (area_lent area.entry) }
 {
     let mut bytes = [0u8; MAX_BYTES];
-    let times = area.head.times;
-    let mut len = put_subspace(&mut bytes, 0, area.head.subspace);
-    len = text::put_bytes(&mut bytes, len, b"\t");
-    len = path_text::put_path(&mut bytes, len, area.path);
-    len = text::put_bytes(&mut bytes, len, b"\t");
-    len = text::put_decimal(&mut bytes, len, times.start);
-    len = text::put_bytes(&mut bytes, len, b"\t");
-    len = put_end(&mut bytes, len, times.end);
-    Bytes { bytes, len }
+    let mut text = Writer::new(&mut bytes, 0);
+    put_subspace(&mut text, area.head.subspace);
+    text.put_bytes(b"\t");
+    path_text::put_path(&mut text, area.path);
+    text.put_bytes(b"\t");
+    text.put_decimal(area.head.times.start);
+    text.put_bytes(b"\t");
+    put_end(&mut text, area.head.times.end);
+    let len = text.at;
+    case_text::first_bytes(bytes, len)
 }

@@ -32,8 +32,8 @@ kind_line kind line =
 abbrev pub max_line : ℕ
 max_line = 2 * max_bytes
 
-abbrev pub said_of : List ℕ → List ℕ
-said_of line = cond (leb (length line) max_line) (kind_line (field 0 line) line) six
+abbrev pub line_answer : List ℕ → List ℕ
+line_answer line = cond (leb (length line) max_line) (kind_line (field 0 line) line) six
 
 unfoldable pub answer_to : List ℕ → List ℕ
-answer_to line = ended (said_of line)
+answer_to line = ended (line_answer line)

@@ -3,14 +3,15 @@
 #![tactic(auto)]
 
 ghost use Rattle.std.specs.Prelude.{◌≡◌};
-ghost use Rattle.case_text.specs.Limits.{max_answer};
+ghost use Rattle.text.specs.Writer.{Keeps};
 ghost use Rattle.case_text.specs.Fields.{on_field};
-ghost use Rattle.case_text.specs.Answers.{answer_text, PutsWithin};
-ghost use Rattle.case_answers.specs.Lines.{kind_line, said_of, answer_to};
+ghost use Rattle.case_text.specs.Answers.{answer_text, Answers};
+ghost use Rattle.case_answers.specs.Lines.{kind_line, line_answer, answer_to};
 
 use byte_codec::same_bytes;
 use case_paths::Encoding;
 use case_text::{Answer, fields, put};
+use text::Writer;
 
 // The longest line, its newline not counted.
 pub const MAX_LINE: usize = 2 * case_text::MAX_BYTES;
@@ -46,8 +47,8 @@ fn by_kind(kind: &[u8], line: &[u8]) -> Option<Answer>
 }
 
 // What a line is answered.
-fn said(line: &[u8]) -> Option<Answer>
-    ensures { on_field result answer_text ≡ said_of line.now }
+fn line_answer(line: &[u8]) -> Option<Answer>
+    ensures { on_field result answer_text ≡ line_answer line.now }
 {
     if MAX_LINE < line.len() {
         return None;
@@ -55,10 +56,11 @@ fn said(line: &[u8]) -> Option<Answer>
     by_kind(fields::part(line, 0), line)
 }
 
-// Writes the answer to a line from a place on, and answers the next place; where fewer than MAX_ANSWER bytes are free, nothing changes.
+// Puts the answer to a line; where fewer than MAX_ANSWER bytes are free, nothing changes.
 #[tactic(auto, unfolding(crate::specs::Lines::answer_to))]
-pub fn answer(line: &[u8], out: &mut [u8], at: usize) -> usize
-    ensures { PutsWithin max_answer at (answer_to line.now) out.old out.new result }
+pub fn answer(line: &[u8], text: &mut Writer<'_>)
+    ensures put { Answers (answer_to line.now) text.old text.new }
+    ensures same { Keeps text.old text.new }
 {
-    put::answer(out, at, said(line))
+    put::answer(text, line_answer(line));
 }

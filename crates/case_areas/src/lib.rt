@@ -2,24 +2,31 @@
 
 #![tactic(auto)]
 
-ghost use Rattle.std.specs.Prelude.{◌≡◌, drop};
+ghost use Rattle.std.specs.Prelude.{◌≡◌};
 ghost use Rattle.grouping.specs.Record.{area_lent};
 ghost use Rattle.area_area.specs.Records.{read_against_area};
 ghost use Rattle.area_text.specs.AreaText.{area_text};
+ghost use Rattle.case_text.specs.Bytes.{rest_of};
 ghost use Rattle.case_text.specs.Texts.{read_text};
 ghost use Rattle.case_text.specs.Fields.{on_field};
 ghost use Rattle.case_text.specs.Answers.{answer_text};
 ghost use Rattle.case_areas.specs.Lines.{area_line};
 
-use case_text::{Answer, Asked, Bytes, fields};
+use case_text::{Answer, Asked, Message, fields};
 use grouping::Area;
 
 // Reads an area from a message, and prints it.
-fn read<'a>(message: &[u8], start: usize, canonic: bool, reference: Area<'a>) -> Answer
-    ensures { answer_text result ≡ read_text area_text (read_against_area canonic (area_lent reference.entry) (drop start message.now)) }
+pub fn read<'a>(message: &Message, reference: Area<'a>) -> Answer
+    ensures { answer_text result ≡ read_text area_text (read_against_area message.now.canonic (area_lent reference.entry) (rest_of message.now)) }
 {
     let mut path = [0u8; path::lent::SIZE];
-    match area_area_decode::relative_decode(message, start, canonic, reference, &mut path) {
+    match area_area_decode::relative_decode(
+        message.bytes.as_slice(),
+        message.start,
+        message.canonic,
+        reference,
+        &mut path,
+    ) {
         Ok(read) => Answer::Read {
             consumed: read.consumed,
             text: area_text::print_area(Area {
@@ -37,21 +44,14 @@ pub fn area(line: &[u8]) -> Option<Answer>
 {
     let reference = area_text::read_area(line, 2)?;
     Some(match fields::asked(line, 6, 10)? {
-        Asked::Read {
-            canonic,
-            start,
-            message,
-        } => read(message.as_slice(), start, canonic, reference.area()),
-        Asked::Write(lent) => {
+        Asked::Read(message) => read(&message, reference.area()),
+        Asked::Write(mut lent) => {
             let area = area_text::read_area(line, 6)?;
-            let len = lent.len;
-            let mut bytes = lent.bytes;
             let outcome = area_area_encode::relative_encode(
-                &mut bytes[..len],
+                lent.as_mut_slice(),
                 area.area(),
                 reference.area(),
             );
-            let lent = Bytes { bytes, len };
             Answer::Written { outcome, lent }
         }
         Asked::Length => {

@@ -2,32 +2,32 @@
 
 #![tactic(auto)]
 
-ghost use Rattle.std.specs.Prelude.{◌≡◌, drop};
+ghost use Rattle.std.specs.Prelude.{◌≡◌};
 ghost use Rattle.grouping.specs.Record.{area_lent};
 ghost use Rattle.entry_area.specs.Records.{read_against_namespace_area};
 ghost use Rattle.case_entry_text.specs.Fields.{entry_text};
+ghost use Rattle.case_text.specs.Bytes.{rest_of};
 ghost use Rattle.case_text.specs.Texts.{read_text};
 ghost use Rattle.case_text.specs.Fields.{on_field};
 ghost use Rattle.case_text.specs.Answers.{answer_text};
 ghost use Rattle.case_entries.specs.Lines.{entry_line};
 
-use case_text::{Answer, Asked, Bytes, fields};
+use case_text::{Answer, Asked, Message, fields};
 use entry::Entry;
 use grouping::Area;
 
 // Reads an entry from a message, and prints it.
-fn read<'a>(
-    message: &[u8],
-    start: usize,
-    canonic: bool,
-    namespace: [u8; 32],
-    reference: Area<'a>,
-) -> Answer
-    ensures { answer_text result ≡ read_text entry_text (read_against_namespace_area canonic namespace (area_lent reference.entry) (drop start message.now)) }
+fn read<'a>(message: &Message, namespace: [u8; 32], reference: Area<'a>) -> Answer
+    ensures { answer_text result ≡ read_text entry_text (read_against_namespace_area message.now.canonic namespace (area_lent reference.entry) (rest_of message.now)) }
 {
     let mut path = [0u8; path::lent::SIZE];
     match entry_area_decode::relative_decode(
-        message, start, canonic, namespace, reference, &mut path,
+        message.bytes.as_slice(),
+        message.start,
+        message.canonic,
+        namespace,
+        reference,
+        &mut path,
     ) {
         Ok(read) => Answer::Read {
             consumed: read.consumed,
@@ -46,24 +46,16 @@ pub fn entry(line: &[u8]) -> Option<Answer>
 {
     let namespace = fields::id(line, 2)?;
     let reference = area_text::read_area(line, 3)?;
-    let area = reference.area();
     Some(match fields::asked(line, 7, 13)? {
-        Asked::Read {
-            canonic,
-            start,
-            message,
-        } => read(message.as_slice(), start, canonic, namespace, area),
-        Asked::Write(lent) => {
+        Asked::Read(message) => read(&message, namespace, reference.area()),
+        Asked::Write(mut lent) => {
             let entry = case_entry_text::read_entry(line, 7)?;
-            let len = lent.len;
-            let mut bytes = lent.bytes;
             let outcome = entry_area_encode::relative_encode(
-                &mut bytes[..len],
+                lent.as_mut_slice(),
                 entry.entry(),
                 namespace,
-                area,
+                reference.area(),
             );
-            let lent = Bytes { bytes, len };
             Answer::Written { outcome, lent }
         }
         Asked::Length => {
@@ -71,7 +63,7 @@ pub fn entry(line: &[u8]) -> Option<Answer>
             Answer::Length(entry_area_encode::relative_len_of_encoding(
                 entry.entry(),
                 namespace,
-                area,
+                reference.area(),
             ))
         }
     })

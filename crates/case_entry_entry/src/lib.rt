@@ -2,24 +2,30 @@
 
 #![tactic(auto)]
 
-ghost use Rattle.std.specs.Prelude.{◌≡◌, drop};
+ghost use Rattle.std.specs.Prelude.{◌≡◌};
 ghost use Rattle.entry.specs.Record.{entry_lent};
 ghost use Rattle.entry_entry.specs.Records.{read_against_entry};
 ghost use Rattle.case_entry_text.specs.Fields.{entry_text};
+ghost use Rattle.case_text.specs.Bytes.{rest_of};
 ghost use Rattle.case_text.specs.Texts.{read_text};
 ghost use Rattle.case_text.specs.Fields.{on_field};
 ghost use Rattle.case_text.specs.Answers.{answer_text};
 ghost use Rattle.case_entry_entry.specs.Lines.{entry_entry_line};
 
-use case_text::{Answer, Asked, Bytes, fields};
+use case_text::{Answer, Asked, Message, fields};
 use entry::Entry;
 
 // Reads an entry from a message, and prints it.
-fn read<'a>(message: &[u8], start: usize, reference: Entry<'a>) -> Answer
-    ensures { answer_text result ≡ read_text entry_text (read_against_entry (entry_lent reference.entry) (drop start message.now)) }
+fn read<'a>(message: &Message, reference: Entry<'a>) -> Answer
+    ensures { answer_text result ≡ read_text entry_text (read_against_entry (entry_lent reference.entry) (rest_of message.now)) }
 {
     let mut path = [0u8; path::lent::SIZE];
-    match entry_entry_decode::relative_decode(message, start, reference, &mut path) {
+    match entry_entry_decode::relative_decode(
+        message.bytes.as_slice(),
+        message.start,
+        reference,
+        &mut path,
+    ) {
         Ok(read) => Answer::Read {
             consumed: read.consumed,
             text: case_entry_text::print_entry(Entry {
@@ -37,26 +43,19 @@ pub fn entry(line: &[u8]) -> Option<Answer>
 {
     let reference = case_entry_text::read_entry(line, 2)?;
     Some(match fields::asked(line, 8, 14)? {
-        Asked::Read {
-            canonic,
-            start,
-            message,
-        } => {
-            if canonic {
+        Asked::Read(message) => {
+            if message.canonic {
                 return None;
             }
-            read(message.as_slice(), start, reference.entry())
+            read(&message, reference.entry())
         }
-        Asked::Write(lent) => {
+        Asked::Write(mut lent) => {
             let entry = case_entry_text::read_entry(line, 8)?;
-            let len = lent.len;
-            let mut bytes = lent.bytes;
             let outcome = entry_entry_encode::relative_encode(
-                &mut bytes[..len],
+                lent.as_mut_slice(),
                 entry.entry(),
                 reference.entry(),
             );
-            let lent = Bytes { bytes, len };
             Answer::Written { outcome, lent }
         }
         Asked::Length => {

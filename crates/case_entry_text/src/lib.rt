@@ -10,6 +10,7 @@ ghost use Rattle.case_entry_text.specs.Fields.{entry_text, entry_field, field_en
 use case_text::{Bytes, MAX_BYTES, fields};
 use entry::{Entry, EntryFields};
 use path::Path;
+use text::Writer;
 
 // An entry that six fields say.
 #[derive(Drop)]
@@ -62,16 +63,18 @@ pub fn print_entry(entry: Entry<'_>) -> Bytes
 {
     let mut bytes = [0u8; MAX_BYTES];
     let fields = entry.fields;
-    let mut len = text::put_hex(&mut bytes, 0, &fields.namespace_id);
-    len = text::put_bytes(&mut bytes, len, b"\t");
-    len = text::put_hex(&mut bytes, len, &fields.subspace_id);
-    len = text::put_bytes(&mut bytes, len, b"\t");
-    len = path_text::put_path(&mut bytes, len, entry.path);
-    len = text::put_bytes(&mut bytes, len, b"\t");
-    len = text::put_decimal(&mut bytes, len, fields.timestamp);
-    len = text::put_bytes(&mut bytes, len, b"\t");
-    len = text::put_decimal(&mut bytes, len, fields.payload_length);
-    len = text::put_bytes(&mut bytes, len, b"\t");
-    len = text::put_hex(&mut bytes, len, &fields.payload_digest);
-    Bytes { bytes, len }
+    let mut text = Writer::new(&mut bytes, 0);
+    text.put_hex(&fields.namespace_id);
+    text.put_bytes(b"\t");
+    text.put_hex(&fields.subspace_id);
+    text.put_bytes(b"\t");
+    path_text::put_path(&mut text, entry.path);
+    text.put_bytes(b"\t");
+    text.put_decimal(fields.timestamp);
+    text.put_bytes(b"\t");
+    text.put_decimal(fields.payload_length);
+    text.put_bytes(b"\t");
+    text.put_hex(&fields.payload_digest);
+    let len = text.at;
+    case_text::first_bytes(bytes, len)
 }

@@ -3,12 +3,10 @@
 #![tactic(auto)]
 
 ghost use Rattle.std.specs.Prelude.{◌≡◌, length, option_map};
-ghost use Rattle.codec.specs.Answers.{answer_of};
 ghost use Rattle.codec.specs.Format.{allowed, put_answer, put_buffer};
 ghost use Rattle.compact_u64.specs.Answers.{bits};
 ghost use Rattle.compact_u64.specs.Number.{min_tag, number_bytes};
-ghost use Rattle.text.specs.Decimal.{decimal_text};
-ghost use Rattle.case_text.specs.Texts.{read_text, written_number_text};
+ghost use Rattle.case_text.specs.Texts.{written_number_text};
 ghost use Rattle.case_text.specs.Bytes.{bytes_of};
 ghost use Rattle.case_text.specs.Fields.{on_field};
 ghost use Rattle.case_text.specs.Answers.{answer_text};
@@ -29,13 +27,10 @@ fn width(field: &[u8]) -> Option<TagWidth>
 }
 
 // Writes a number into a lent buffer; its tag is told too.
-fn write(lent: Bytes, width: TagWidth, value: u64) -> Answer
+fn write(mut lent: Bytes, width: TagWidth, value: u64) -> Answer
     ensures { answer_text result ≡ written_number_text (put_answer allowed (number_bytes (bits width) value) (length (bytes_of lent))) (min_tag (bits width) value) (put_buffer allowed (number_bytes (bits width) value) (bytes_of lent)) }
 {
-    let len = lent.len;
-    let mut bytes = lent.bytes;
-    let outcome = compact_u64::relative_encode(&mut bytes[..len], width, value);
-    let lent = Bytes { bytes, len };
+    let outcome = compact_u64::relative_encode(lent.as_mut_slice(), width, value);
     match outcome {
         Ok(len) => Answer::WrittenNumber {
             len,
@@ -53,22 +48,18 @@ pub fn number(line: &[u8]) -> Option<Answer>
     let width = width(fields::part(line, 2))?;
     let value = fields::number(line, 3)?;
     match fields::asked(line, 4, 4)? {
-        Asked::Read {
-            canonic,
-            start,
-            message,
-        } => {
+        Asked::Read(message) => {
             if width.tag_limit() <= value {
                 return None;
             }
-            let message = message.as_slice();
             Some(compact_u64::relative_decode(
-                message,
-                start,
+                message.bytes.as_slice(),
+                message.start,
                 width,
                 value as u8,
-                canonic,
-            ).map_or_else(Answer::NotRead, Answer::Number))
+                message.canonic,
+            )
+            .map_or_else(Answer::NotRead, Answer::Number))
         }
         Asked::Write(lent) => Some(write(lent, width, value)),
         Asked::Length => Some(Answer::Length(Ok(compact_u64::relative_len_of_encoding(
@@ -83,20 +74,14 @@ pub fn standalone(line: &[u8]) -> Option<Answer>
     ensures { on_field result answer_text ≡ standalone_line line.now }
 {
     Some(match fields::asked(line, 2, 3)? {
-        Asked::Read {
-            canonic,
-            start,
-            message,
-        } => compact_u64::decode(message.as_slice(), start, canonic).map_or_else(
-            Answer::NotRead,
-            Answer::Number,
-        ),
-        Asked::Write(lent) => {
-            let len = lent.len;
-            let mut bytes = lent.bytes;
+        Asked::Read(message) => compact_u64::decode(
+            message.bytes.as_slice(),
+            message.start,
+            message.canonic,
+        ).map_or_else(Answer::NotRead, Answer::Number),
+        Asked::Write(mut lent) => {
             let value = fields::number(line, 2)?;
-            let outcome = compact_u64::encode(&mut bytes[..len], value);
-            let lent = Bytes { bytes, len };
+            let outcome = compact_u64::encode(lent.as_mut_slice(), value);
             Answer::Written { outcome, lent }
         }
         Asked::Length => {

@@ -1,18 +1,21 @@
 -- Reading a record's lengths one after another, and a record of parts that it holds.
-use Rattle.codec.proofs.Prelude.{◌≡◌, refl, sym, ap, ◌∙◌, List, [], ◌∷◌, ◌++◌, append-nil, append_assoc, Bool, true, false, ◌&&◌, ℕ, ◌+◌, ◌%◌, ◌≤◌, ◌<◌, leb, mod-eq_of_lt, true≢false, take-append-drop, arith, add-one, length, take, drop, set, get_or, length-set, take-suc-set, take_all, drop_of_length-le, put_mid, ◌-◌, le-ltb}
+use Rattle.codec.proofs.Prelude.{◌≡◌, refl, sym, ap, ◌∙◌, List, [], ◌∷◌, ◌++◌, append-nil, append_assoc, Bool, true, false, ◌&&◌, ℕ, ◌+◌, ◌%◌, ◌≤◌, ◌<◌, leb, mod-eq_of_lt, true≢false, take-append-drop, arith, add-one, length, take, drop, set, get_or, length-set, take-suc-set, leb-true, ◌/◌, zero, suc, take_all, drop_of_length-le, put_mid, ◌-◌, le-ltb}
 use Rattle.std.proofs.Common.{Option, Some, None, Result, replicate}
 use Rattle.std.specs.Option.{option_map}
 use Rattle.std.specs.List.{list_all, enumerate_from}
 use Rattle.std.proofs.lemmas.List.FromFn.{length-enumerate_from, get_or-enumerate_from}
 use Rattle.std.proofs.lemmas.List.{at_drop_more, at_drop_all}
 use Rattle.codec.specs.Answers.{said, unsaid, refused_writing}
-use Rattle.codec.specs.Format.{length_answer}
+use Rattle.std.specs.Int.{w16, to_be_bytes}
+use Rattle.compact_u64.specs.BigEndian.{big_endian}
+use Rattle.codec.specs.Format.{length_answer, over}
 use Rattle.codec.proofs.Lending.{length_refused_value}
+use Rattle.codec.proofs.Tests.{and_left, and_right}
 use Rattle.path.specs.Limits.{max_component_length, max_component_count, max_path_length}
 use Rattle.path.specs.Record.{Path, all_at_most, used, well_formed}
 use Rattle.path.specs.Flat.{path_size, shorts, path_flat, path_in}
 use Rattle.path.specs.Puts.{Puts}
-use Rattle.path.proofs.Puts.{puts_whole, puts_tail}
+use Rattle.path.proofs.Puts.{puts_whole, puts_tail, puts_then}
 use Rattle.path.proofs.Record.{well_formed_lem}
 use Rattle.path.proofs.Loads.{at_most_append, at_most_mono, path_fits}
 use Rattle.path_codec.specs.Plain.{plain_path}
@@ -85,6 +88,14 @@ bytes_read f r n {left} some answer is =
     rw (← here, bytes) refl
 
 -- ---- parts put one after another
+pub puts_mid : {na : ℕ} {a l l₁ : List ℕ} → Puts na a l l₁ → (k : ℕ) (b : List ℕ) → length b ≡ k → Puts (na + k) (a ++ b) l (put_mid na k l₁ b)
+puts_mid {na} {a} {l} {l₁} p k b long =
+    let e : put_mid na k l₁ b ≡ take na l₁ ++ over b (drop na l₁) = rw long refl in
+    rw e (puts_then p (record { long = long; is = refl }))
+
+pub two : (v : ℕ) → to_be_bytes w16 v ≡ big_endian 2 v
+two v = let e : v / 1 ≡ v = omega arith in rw e
+
 pub puts_part : (k : ℕ) {na nb : ℕ} {a b l l₁ m : List ℕ} → Puts na a l l₁ → length l₁ ≡ na + k → Puts nb b (take k (drop na l₁)) m → Puts (na + nb) (a ++ b) l (put_mid na k l₁ m)
 puts_part k {na} {nb} {a} {b} {l} {l₁} {m} p long q =
     let e : k ≡ length l₁ - na = omega (arith, long) in
@@ -122,6 +133,11 @@ module _ (p : Path) where
       let all = rw take-append-drop at (at_most_append 65535 (take p.count p.lengths) (drop p.count p.lengths)
       (at_most_mono max_component_length 65535 (used p) (omega arith) f.short) (at_most_mono 0 65535 (drop p.count p.lengths) (omega arith) f.lengths)) in
       true≢false (sym all ∙ e))
+
+pub at_most_at : (n : ℕ) (s : List ℕ) (i : ℕ) → all_at_most n s ≡ true → get_or s i 0 ≤ n
+at_most_at n [] i e = omega arith
+at_most_at n (x ∷ s) zero e = leb-true x n (and_left (leb x n) (all_at_most n s) e)
+at_most_at n (x ∷ s) (suc i) e = at_most_at n s i (and_right (leb x n) (all_at_most n s) e)
 
 -- ---- in std's word
 pub at_most_list : (n : ℕ) (s : List ℕ) → list_all (λ x. leb x n) s ≡ all_at_most n s

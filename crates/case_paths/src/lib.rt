@@ -2,21 +2,22 @@
 
 #![tactic(auto)]
 
-ghost use Rattle.std.specs.Prelude.{◌≡◌, [], ◌≤◌, drop};
+ghost use Rattle.std.specs.Prelude.{◌≡◌, [], ◌≤◌};
 ghost use Rattle.codec.specs.Answers.{outcome_of, Gives};
 ghost use Rattle.codec.specs.Format.{length_answer, WritesInto};
 ghost use Rattle.path.specs.Record.{path_from};
 ghost use Rattle.path.specs.Flat.{path_in};
 ghost use Rattle.path_text.specs.PathText.{path_text_of};
-ghost use Rattle.case_text.specs.Bytes.{bytes_of};
+ghost use Rattle.case_text.specs.Bytes.{bytes_of, rest_of};
 ghost use Rattle.case_text.specs.Texts.{read_text};
 ghost use Rattle.case_text.specs.Fields.{on_field};
 ghost use Rattle.case_text.specs.Answers.{answer_text};
 ghost use Rattle.case_paths.specs.Lines.{encoding_reader, encoding_format, encoding_line, plain_line, relative_line};
 
-use case_text::{Answer, Asked, Bytes, MAX_BYTES, fields};
+use case_text::{Answer, Asked, Bytes, MAX_BYTES, Message, fields};
 use codec::{DecodeError, EncodeError};
 use path::Path;
+use text::Writer;
 
 pub mod raw;
 
@@ -30,14 +31,15 @@ pub enum Encoding {
 
 fn decode(
     encoding: Encoding,
-    message: &[u8],
-    start: usize,
-    canonic: bool,
+    message: &Message,
     reference: &[u8],
     out: &mut [u8; path::lent::SIZE],
 ) -> Result<usize, DecodeError>
-    ensures { Gives (path_from []) result (path_in out.new) (encoding_reader encoding (path_in reference.now) canonic (drop start message.now)) }
+    ensures { Gives (path_from []) result (path_in out.new) (encoding_reader encoding (path_in reference.now) message.now.canonic (rest_of message.now)) }
 {
+    let canonic = message.canonic;
+    let start = message.start;
+    let message = message.bytes.as_slice();
     match encoding {
         Encoding::Plain => path_codec::decode(message, start, canonic, out),
         Encoding::Against => path_relative_decode::relative_decode(
@@ -81,16 +83,18 @@ fn print(path: &[u8]) -> Bytes
     ensures { bytes_of result ≡ path_text_of (path_in path.now) }
 {
     let mut bytes = [0u8; MAX_BYTES];
-    let len = path_text::put_path(&mut bytes, 0, path);
-    Bytes { bytes, len }
+    let mut text = Writer::new(&mut bytes, 0);
+    path_text::put_path(&mut text, path);
+    let len = text.at;
+    case_text::first_bytes(bytes, len)
 }
 
 // Reads a path from a message, and prints it.
-fn read(encoding: Encoding, message: &[u8], start: usize, canonic: bool, reference: &[u8]) -> Answer
-    ensures { answer_text result ≡ read_text path_text_of (encoding_reader encoding (path_in reference.now) canonic (drop start message.now)) }
+fn read(encoding: Encoding, message: &Message, reference: &[u8]) -> Answer
+    ensures { answer_text result ≡ read_text path_text_of (encoding_reader encoding (path_in reference.now) message.now.canonic (rest_of message.now)) }
 {
     let mut path = [0u8; path::lent::SIZE];
-    match decode(encoding, message, start, canonic, reference, &mut path) {
+    match decode(encoding, message, reference, &mut path) {
         Ok(consumed) => Answer::Read {
             consumed,
             text: print(&path),
@@ -105,23 +109,11 @@ fn answer(line: &[u8], encoding: Encoding, i: u8, reference: Path) -> Option<Ans
     ensures { on_field result answer_text ≡ encoding_line encoding (path_in reference.flat) i line.now }
 {
     Some(match fields::asked(line, i, i + 1)? {
-        Asked::Read {
-            canonic,
-            start,
-            message,
-        } => read(
-            encoding,
-            message.as_slice(),
-            start,
-            canonic,
-            &reference.flat,
-        ),
-        Asked::Write(lent) => {
+        Asked::Read(message) => read(encoding, &message, &reference.flat),
+        Asked::Write(mut lent) => {
             let path = fields::path(line, usize::from(i))?;
-            let len = lent.len;
-            let mut bytes = lent.bytes;
-            let outcome = encode(encoding, &mut bytes[..len], &path.flat, &reference.flat);
-            let lent = Bytes { bytes, len };
+            let buffer = lent.as_mut_slice();
+            let outcome = encode(encoding, buffer, &path.flat, &reference.flat);
             Answer::Written { outcome, lent }
         }
         Asked::Length => {

@@ -2,9 +2,9 @@
 ghost use Rattle.std.specs.Prelude.{◌≡◌, ◌*◌, ◌≤◌, length, true};
 ghost use Rattle.codec.specs.Answers.{outcome_of};
 ghost use Rattle.codec.specs.Format.{length_answer};
-ghost use Rattle.path.specs.Limits.{max_component_count, max_path_length};
+ghost use Rattle.path.specs.Limits.{max_component_count};
 ghost use Rattle.path.specs.Record.{all_at_most};
-ghost use Rattle.path.specs.Flat.{path_size, shorts, path_in};
+ghost use Rattle.path.specs.Flat.{shorts, path_in};
 ghost use Rattle.path.specs.Puts.{Puts};
 ghost use Rattle.path_codec.specs.Plain.{plain_path};
 ghost use Rattle.case_text.specs.Fields.{on_field};
@@ -40,11 +40,11 @@ fn read_bytes(field: &[u8]) -> Option<[u8; Path::MAX_PATH_LENGTH]>
 
 // The lengths, from the first byte on.
 fn put_lengths(flat: &mut [u8], lengths: &[usize; Path::MAX_COMPONENT_COUNT])
-    requires { 2 * max_component_count ≤ length flat.old }
+    requires { (2 * max_component_count ≤ length flat.old) × (all_at_most 65535 lengths.now ≡ true) }
     ensures { Puts (2 * max_component_count) (shorts lengths.now) flat.old flat.new }
 {
-    for i in 0..Path::MAX_COMPONENT_COUNT {
-        let _ = compact_u64::put_big_endian(&mut flat[2 * i..], 2, lengths[i] as u64);
+    for (i, &n) in lengths.iter().enumerate() {
+        flat[2 * i..2 * i + 2].copy_from_slice(&(n as u16).to_be_bytes());
     }
 }
 

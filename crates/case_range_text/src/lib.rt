@@ -2,11 +2,11 @@
 
 #![tactic(auto)]
 
-ghost use Rattle.std.specs.Prelude.{◌≡◌, ◌≤◌, length, option_map};
+ghost use Rattle.std.specs.Prelude.{◌≡◌, option_map};
 ghost use Rattle.range_3d.specs.Range3d.{end_named};
 ghost use Rattle.range_3d.specs.Record.{range_lent};
 ghost use Rattle.path.specs.Flat.{path_in};
-ghost use Rattle.text.specs.Buffer.{place_after, put_at};
+ghost use Rattle.text.specs.Writer.{Writes, Keeps};
 ghost use Rattle.case_text.specs.Bytes.{bytes_of};
 ghost use Rattle.case_range_text.specs.Fields.{end_held, read_path_end, range_field, field_range, path_end_text, range_text};
 
@@ -14,6 +14,7 @@ use case_text::{Bytes, MAX_BYTES, fields};
 use grouping::TimeRange;
 use path::Path;
 use range_3d::{Range, Range3d, SubspaceRange};
+use text::Writer;
 
 // A 3d range that six fields say; no end of the paths is an open one.
 #[derive(Drop)]
@@ -32,10 +33,7 @@ impl RangeField {
     pub fn range(&self) -> Range3d<'_>
         ensures { range_lent result ≡ field_range self.now }
     {
-        let end = match &self.end {
-            Some(path) => Some(path.flat.as_slice()),
-            None => None,
-        };
+        let end = self.end.as_ref().map(|path| path.flat.as_slice());
         Range3d {
             subspaces: self.subspaces,
             paths: Range {
@@ -83,12 +81,13 @@ pub fn read_range(line: &[u8], place: u8) -> Option<RangeField>
     })
 }
 
-fn put_path_end(out: &mut [u8], at: usize, end: Option<&[u8]>) -> usize
-    ensures { (result ≡ place_after at (path_end_text (end_named (λ s. path_in s.now) end.entry)) out.old) × (out.new ≡ put_at at (path_end_text (end_named (λ s. path_in s.now) end.entry)) out.old) }
+fn put_path_end(text: &mut Writer<'_>, end: Option<&[u8]>)
+    ensures put { Writes (path_end_text (end_named (λ s. path_in s.now) end.entry)) text.old text.new }
+    ensures same { Keeps text.old text.new }
 {
     match end {
-        Some(path) => path_text::put_path(out, at, path),
-        None => text::put_bytes(out, at, b"*"),
+        Some(path) => path_text::put_path(text, path),
+        None => text.put_bytes(b"*"),
     }
 }
 
@@ -99,16 +98,18 @@ pub fn print_range(range: Range3d<'_>) -> Bytes
     let mut bytes = [0u8; MAX_BYTES];
     let subspaces = range.subspaces;
     let times = range.times;
-    let mut len = text::put_hex(&mut bytes, 0, &subspaces.start);
-    len = text::put_bytes(&mut bytes, len, b"\t");
-    len = area_text::put_subspace(&mut bytes, len, subspaces.end);
-    len = text::put_bytes(&mut bytes, len, b"\t");
-    len = path_text::put_path(&mut bytes, len, range.paths.start);
-    len = text::put_bytes(&mut bytes, len, b"\t");
-    len = put_path_end(&mut bytes, len, range.paths.end);
-    len = text::put_bytes(&mut bytes, len, b"\t");
-    len = text::put_decimal(&mut bytes, len, times.start);
-    len = text::put_bytes(&mut bytes, len, b"\t");
-    len = area_text::put_end(&mut bytes, len, times.end);
-    Bytes { bytes, len }
+    let mut text = Writer::new(&mut bytes, 0);
+    text.put_hex(&subspaces.start);
+    text.put_bytes(b"\t");
+    area_text::put_subspace(&mut text, subspaces.end);
+    text.put_bytes(b"\t");
+    path_text::put_path(&mut text, range.paths.start);
+    text.put_bytes(b"\t");
+    put_path_end(&mut text, range.paths.end);
+    text.put_bytes(b"\t");
+    text.put_decimal(times.start);
+    text.put_bytes(b"\t");
+    area_text::put_end(&mut text, times.end);
+    let len = text.at;
+    case_text::first_bytes(bytes, len)
 }

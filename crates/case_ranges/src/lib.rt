@@ -2,25 +2,32 @@
 
 #![tactic(auto)]
 
-ghost use Rattle.std.specs.Prelude.{◌≡◌, drop};
+ghost use Rattle.std.specs.Prelude.{◌≡◌};
 ghost use Rattle.range_3d.specs.Record.{range_lent};
 ghost use Rattle.range3d_range3d.specs.Records.{read_against_range};
 ghost use Rattle.case_range_text.specs.Fields.{range_text};
+ghost use Rattle.case_text.specs.Bytes.{rest_of};
 ghost use Rattle.case_text.specs.Texts.{read_text};
 ghost use Rattle.case_text.specs.Fields.{on_field};
 ghost use Rattle.case_text.specs.Answers.{answer_text};
 ghost use Rattle.case_ranges.specs.Lines.{range_line};
 
-use case_text::{Answer, Asked, Bytes, fields};
+use case_text::{Answer, Asked, Message, fields};
 use range_3d::{PathRange, Range3d};
 
 // Reads a 3d range from a message, and prints it.
-fn read<'a>(message: &[u8], from: usize, reference: Range3d<'a>) -> Answer
-    ensures { answer_text result ≡ read_text range_text (read_against_range (range_lent reference.entry) (drop from message.now)) }
+fn read<'a>(message: &Message, reference: Range3d<'a>) -> Answer
+    ensures { answer_text result ≡ read_text range_text (read_against_range (range_lent reference.entry) (rest_of message.now)) }
 {
     let mut start = [0u8; path::lent::SIZE];
     let mut end = [0u8; path::lent::SIZE];
-    match range3d_range3d_decode::relative_decode(message, from, reference, &mut start, &mut end) {
+    match range3d_range3d_decode::relative_decode(
+        message.bytes.as_slice(),
+        message.start,
+        reference,
+        &mut start,
+        &mut end,
+    ) {
         Ok(read) => {
             let head = read.value;
             let paths = PathRange {
@@ -46,26 +53,19 @@ pub fn range(line: &[u8]) -> Option<Answer>
 {
     let reference = case_range_text::read_range(line, 2)?;
     Some(match fields::asked(line, 8, 14)? {
-        Asked::Read {
-            canonic,
-            start,
-            message,
-        } => {
-            if canonic {
+        Asked::Read(message) => {
+            if message.canonic {
                 return None;
             }
-            read(message.as_slice(), start, reference.range())
+            read(&message, reference.range())
         }
-        Asked::Write(lent) => {
+        Asked::Write(mut lent) => {
             let range = case_range_text::read_range(line, 8)?;
-            let len = lent.len;
-            let mut bytes = lent.bytes;
             let outcome = range3d_range3d_encode::relative_encode(
-                &mut bytes[..len],
+                lent.as_mut_slice(),
                 range.range(),
                 reference.range(),
             );
-            let lent = Bytes { bytes, len };
             Answer::Written { outcome, lent }
         }
         Asked::Length => {

@@ -1,21 +1,16 @@
 -- Laws of texts put into a buffer, one after another.
-use Rattle.codec.proofs.Prelude.{◌≡◌, refl, sym, ap, ◌∙◌, List, [], ◌∷◌, ◌++◌, ℕ, ◌+◌, ◌-◌, ◌*◌, ◌≤◌, arith, le-leb, length, take, drop, length-append, length-drop, length-take, take_at, length-take-le}
+use Rattle.codec.proofs.Prelude.{◌≡◌, refl, sym, ap, ◌∙◌, List, [], ◌∷◌, ◌++◌, ℕ, ◌+◌, ◌-◌, ◌*◌, ◌≤◌, arith, le-leb, length, take, drop, length-append, length-drop, take_at, length-take-le}
 use Rattle.text.specs.Buffer.{over_at, put_at, place_after}
 use Rattle.text.proofs.Buffer.{over_at_then, over_at_long, put_at_fits}
 use Rattle.text.specs.Hex.{hex_text}
 use Rattle.text.proofs.HexSteps.{hex_text_long}
 use Rattle.case_text.specs.Limits.{max_bytes}
-use Rattle.case_text.specs.declared.Bytes.{Bytes}
-use Rattle.case_text.specs.Bytes.{bytes_of}
 use Rattle.case_text.specs.Texts.{after_tab}
 use Rattle.case_text.specs.Answers.{PutsText, PutsWithin}
 
 -- ---- how long texts are at most
-pub bytes_few : (b : Bytes) → length (bytes_of b) ≤ max_bytes
-bytes_few b = rw length-take (omega (arith, b.inside))
-
-pub hex_few : (b : Bytes) → length (hex_text (bytes_of b)) ≤ 2 * max_bytes
-hex_few b = rw hex_text_long (omega (arith, bytes_few b))
+pub hex_few : (s : List ℕ) → length s ≤ max_bytes → length (hex_text s) ≤ 2 * max_bytes
+hex_few s few = rw hex_text_long (omega (arith, few))
 
 -- ---- a put of the crate text, where there is room
 pub puts_fits : {at r : ℕ} (t : List ℕ) {l l' : List ℕ} → at + length t ≤ length l → (r ≡ place_after at t l) × (l' ≡ put_at at t l) → PutsText at t l l' r

@@ -4,8 +4,10 @@ use Rattle.codec.specs.Answers.{outcome_of, decode_number}
 use Rattle.text.specs.Buffer.{over_at}
 use Rattle.text.specs.Decimal.{decimal_text}
 use Rattle.text.specs.Hex.{hex_text}
+use Rattle.text.specs.declared.Writer.{Writer}
 use Rattle.case_text.specs.declared.Answer.{Answer}
 use Rattle.case_text.specs.declared.Answer.TheVariants as answer
+use Rattle.case_text.specs.Limits.{max_answer}
 use Rattle.case_text.specs.Bytes.{bytes_of}
 use Rattle.case_text.specs.Texts.{ok_text, no_text, after_tab, length_text, written_text}
 
@@ -23,7 +25,15 @@ pub record PutsText (at : ℕ) (t l l' : List ℕ) (r : ℕ) : Type 0 where
   pub place : r ≡ at + length t
   pub buffer : l' ≡ over_at at t l
 
+-- the same by a writer
+abbrev pub Puts : List ℕ → Writer → Writer → Type 0
+Puts t w w' = PutsText w.at t w.out.now w'.out.now w'.at
+
 -- the same where `room` bytes are free, else nothing
 pub record PutsWithin (room at : ℕ) (t l l' : List ℕ) (r : ℕ) : Type 0 where
   pub place : r ≡ cond (leb (at + room) (length l)) (at + length t) at
   pub buffer : l' ≡ cond (leb (at + room) (length l)) (over_at at t l) l
+
+-- a line's answer, by a writer
+abbrev pub Answers : List ℕ → Writer → Writer → Type 0
+Answers t w w' = PutsWithin max_answer w.at t w.out.now w'.out.now w'.at

@@ -15,7 +15,7 @@ pub data Request : Type 0 where
 
 -- what the code holds of it
 abbrev pub request_of : Asked → Request
-request_of (asked.Read canonic start message) = read canonic start (bytes_of message)
+request_of (asked.Read m) = read m.canonic m.start (bytes_of m.bytes)
 request_of (asked.Write lent) = write (bytes_of lent)
 request_of asked.Length = measure
 

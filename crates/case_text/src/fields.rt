@@ -6,7 +6,7 @@ ghost use Rattle.case_text.specs.Bytes.{bytes_of};
 ghost use Rattle.case_text.specs.Fields.{field, decimal_field, id_field, hex_field, path_field, op_of};
 ghost use Rattle.case_text.specs.Asking.{request_of, request_read, request_write, asking};
 
-use crate::{Asked, Bytes, MAX_BYTES, Op};
+use crate::{Asked, Bytes, MAX_BYTES, Message, Op, first_bytes};
 use path::Path;
 
 pub fn count(line: &[u8]) -> usize
@@ -49,7 +49,7 @@ pub fn hex(line: &[u8], i: usize) -> Option<Bytes>
 {
     let mut bytes = [0u8; MAX_BYTES];
     let len = text::read_hex(part(line, i), &mut bytes).ok()?;
-    Some(Bytes { bytes, len })
+    Some(first_bytes(bytes, len))
 }
 
 // The operation that a field names.
@@ -75,12 +75,12 @@ fn message(line: &[u8], i: u8, canonic: bool) -> Option<Asked>
         return None;
     }
     let start = number(line, place)? as usize;
-    let message = hex(line, place + 1)?;
-    Some(Asked::Read {
+    let bytes = hex(line, place + 1)?;
+    Some(Asked::Read(Message {
         canonic,
         start,
-        message,
-    })
+        bytes,
+    }))
 }
 
 // The j-th field, which is the last, as a lent buffer.

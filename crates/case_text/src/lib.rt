@@ -2,9 +2,10 @@
 
 #![tactic(auto)]
 
-ghost use Rattle.std.specs.Prelude.{◌≤◌};
-ghost use Rattle.case_text.specs.Limits.{max_bytes};
+ghost use Rattle.std.specs.Prelude.{◌≡◌, take};
+ghost use Rattle.case_text.specs.Bytes.{bytes_of};
 
+use arrayvec::ArrayVec;
 use codec::{DecodeError, Decoded, EncodeError};
 
 pub mod fields;
@@ -25,33 +26,30 @@ pub enum Op {
     Length,
 }
 
-// A message, a lent buffer or a text: the first `len` bytes.
+// A message, a lent buffer or a text.
+pub type Bytes = ArrayVec<u8, MAX_BYTES>;
+
+// The first bytes of an array.
+pub fn first_bytes(array: [u8; MAX_BYTES], n: usize) -> Bytes
+    ensures { bytes_of result ≡ take n array }
+{
+    let mut bytes = Bytes::from(array);
+    bytes.truncate(n);
+    bytes
+}
+
+// A message that is read from a byte on, strictly or not.
 #[derive(Drop)]
-pub struct Bytes {
-    pub bytes: [u8; MAX_BYTES],
-    pub len: usize,
-    ghost inside: { len ≤ max_bytes },
+pub struct Message {
+    pub canonic: bool,
+    pub start: usize,
+    pub bytes: Bytes,
 }
 
-impl Bytes {
-    ghost use Rattle.std.specs.Prelude.{◌≡◌};
-    ghost use Rattle.case_text.specs.Bytes.{bytes_of};
-
-    pub fn as_slice(&self) -> &[u8]
-        ensures { result.now ≡ bytes_of self.now }
-    {
-        &self.bytes[..self.len]
-    }
-}
-
-// What a line asks for: a message read, strictly or not, from a byte on; a value written into a lent buffer, or measured.
+// What a line asks for: a message read; a value written into a lent buffer, or measured.
 #[derive(Drop)]
 pub enum Asked {
-    Read {
-        canonic: bool,
-        start: usize,
-        message: Bytes,
-    },
+    Read(Message),
     Write(Bytes),
     Length,
 }

@@ -8,6 +8,7 @@ ghost use Rattle.lines.specs.Lines.{span, answers, fitting_lines};
 ghost use Rattle.case_text.specs.Limits.{max_answer};
 
 use case_text::MAX_ANSWER;
+use text::Writer;
 
 pub mod programs;
 mod turns;
@@ -29,14 +30,17 @@ pub fn answer_lines<P: Program>(s: &[u8], out: &mut [u8]) -> Answered
     ensures taken_in_bounds { (result.taken ≤ length s.now) × (result.put ≤ length out.new) }
 {
     let mut taken = 0;
-    let mut put = 0;
-    while MAX_ANSWER <= out.len() - put {
+    let mut text = Writer::new(out, 0);
+    while MAX_ANSWER <= text.free() {
         let rest = &s[taken..];
         let Some(k) = text::find(rest, b'\n') else {
             break;
         };
-        put = P::answer(&rest[..k], out, put);
+        P::answer(&rest[..k], &mut text);
         taken += k + 1;
     }
-    Answered { taken, put }
+    Answered {
+        taken,
+        put: text.at,
+    }
 }

@@ -2,12 +2,14 @@
 ghost use Rattle.std.specs.Prelude.{ℕ, ◌+◌, ◌<◌, List};
 ghost use Rattle.std.proofs.Common.{rules};
 ghost use Rattle.lines.specs.Laws.{AnswersLines};
-ghost use Rattle.case_text.specs.Limits.{max_answer};
-ghost use Rattle.case_text.specs.Answers.{PutsWithin};
+ghost use Rattle.text.specs.Writer.{Keeps};
+ghost use Rattle.case_text.specs.Answers.{Answers};
 ghost use Rattle.listing.specs.Lines as listed;
 ghost use Rattle.listing.proofs.Stream.{listed_lines};
 ghost use Rattle.case_answers.specs.Lines as cases;
 ghost use Rattle.case_answers.proofs.Stream.{case_lines};
+
+use text::Writer;
 
 pub trait Program {
     const NAME: &'static [u8];
@@ -19,9 +21,10 @@ pub trait Program {
 
     ghost answer_to: { List ℕ → List ℕ };
 
-    // Writes the answer to a line from a place on, and answers the next place; where fewer than MAX_ANSWER bytes are free, nothing changes.
-    fn answer(line: &[u8], out: &mut [u8], at: usize) -> usize
-        ensures { PutsWithin max_answer at (answer_to line.now) out.old out.new result };
+    // Puts the answer to a line; where fewer than MAX_ANSWER bytes are free, nothing changes.
+    fn answer(line: &[u8], text: &mut Writer<'_>)
+        ensures put { Answers (answer_to line.now) text.old text.new }
+        ensures same { Keeps text.old text.new };
 
     // What is kept leaves room to read into buffers of the programs' size.
     ghost room: { LIMIT < 65536 };
@@ -45,8 +48,8 @@ impl Program for Listing {
 
     ghost whole = { listed_lines };
 
-    fn answer(line: &[u8], out: &mut [u8], at: usize) -> usize {
-        listing::answer(line, out, at)
+    fn answer(line: &[u8], text: &mut Writer<'_>) {
+        listing::answer(line, text);
     }
 }
 
@@ -65,7 +68,7 @@ impl Program for CaseLines {
 
     ghost whole = { case_lines };
 
-    fn answer(line: &[u8], out: &mut [u8], at: usize) -> usize {
-        case_answers::answer(line, out, at)
+    fn answer(line: &[u8], text: &mut Writer<'_>) {
+        case_answers::answer(line, text);
     }
 }

@@ -8,6 +8,7 @@ ghost use Rattle.case_text.specs.Limits.{max_answer};
 use crate::{Program, answer_lines};
 use case_text::MAX_ANSWER;
 use std::io::{Read, Write};
+use text::Writer;
 
 // What ends a program before its input does.
 #[derive(Clone, Copy)]
@@ -57,80 +58,76 @@ fn drain<P: Program>(rt: HostRuntime, s: &[u8], out: &mut [u8]) -> Result<usize,
     }
 }
 
-// Answers the whole lines of the first `end` bytes, and keeps what is left of them at the front.
-fn settle<P: Program>(
-    rt: HostRuntime,
-    buf: &mut [u8],
-    end: usize,
-    out: &mut [u8],
-) -> Result<usize, Failure>
-    requires { (end ≤ length buf.old) × (max_answer ≤ length out.old) }
-    ensures have_value { IfOk result (λ n. (n ≡ length (kept_after P.LIMIT (take end buf.old))) × (buf.new ≡ over (kept_after P.LIMIT (take end buf.old)) buf.old)) }
-    ensures have_bound { IfOk result (λ n. n ≤ P.LIMIT) }
-{
-    let at = drain::<P>(rt, &buf[..end], out)?;
-    Ok(lines::keep(buf, at, end, P::LIMIT))
+// Input that is held between two readings, the first `have` bytes of a buffer, and where its answers go.
+#[derive(Drop)]
+struct Held<'a> {
+    buf: &'a mut [u8],
+    have: usize,
+    out: &'a mut [u8],
 }
 
-// The last line, where it lacks its newline.
-fn finish<P: Program>(
-    rt: HostRuntime,
-    buf: &mut [u8],
-    have: usize,
-    out: &mut [u8],
-) -> Result<(), Failure>
-    requires { have ≤ length buf.old }
-{
-    if have == 0 {
-        return Ok(());
+impl<'a> Held<'a> {
+    // Answers the whole lines of the first `end` bytes, and keeps what is left of them at the front.
+    fn settle<P: Program>(self, rt: HostRuntime, end: usize) -> Result<Held<'a>, Failure>
+        requires { (end ≤ length self.buf.now) × (max_answer ≤ length self.out.now) }
+        ensures have_value { IfOk result (λ held. (held.have ≡ length (kept_after P.LIMIT (take end self.entry.buf.now))) × (held.buf.now ≡ over (kept_after P.LIMIT (take end self.entry.buf.now)) self.entry.buf.now)) }
+        ensures have_bound { IfOk result (λ held. held.have ≤ P.LIMIT) }
+    {
+        let Held { buf, have: _, out } = self;
+        let at = drain::<P>(rt, &buf[..end], out)?;
+        let have = lines::keep(buf, at, end, P::LIMIT);
+        Ok(Held { buf, have, out })
     }
-    let put = P::answer(&buf[..have], out, 0);
-    match out.get(..put) {
-        Some(answer) => put_all(rt, answer),
-        None => Ok(()),
-    }
-}
 
-// Reads once, answers the whole lines and keeps what is left at the front; at the end of the input the last line is answered.
-fn read_once<P: Program>(
-    rt: HostRuntime,
-    buf: &mut [u8],
-    have: usize,
-    out: &mut [u8],
-) -> Result<Option<usize>, Failure>
-    requires { (have ≤ P.LIMIT) × ((P.LIMIT < length buf.old) × (max_answer ≤ length out.old)) }
-    ensures { IfOk result (λ held. IfSome held (λ n. n ≤ P.LIMIT)) }
-{
-    let mut input = rt.stdin();
-    match input.read(&mut buf[have..]) {
-        Err(_) => Err(Failure::Reading),
-        Ok(0) => {
-            finish::<P>(rt, buf, have, out)?;
-            Ok(None)
+    // The last line, where it lacks its newline.
+    fn finish<P: Program>(self, rt: HostRuntime) -> Result<(), Failure>
+        requires { self.have ≤ length self.buf.now }
+    {
+        let Held { buf, have, out } = self;
+        if have == 0 {
+            return Ok(());
         }
-        Ok(n) => Ok(Some(settle::<P>(rt, buf, have + n, out)?)),
+        let mut text = Writer::new(out, 0);
+        P::answer(&buf[..have], &mut text);
+        let put = text.at;
+        match out.get(..put) {
+            Some(answer) => put_all(rt, answer),
+            None => Ok(()),
+        }
     }
-}
 
-// One turn of a program that holds `have` bytes of its input: how many it holds then, none once the input has ended. Nothing is read into buffers that are too short.
-fn turn<P: Program>(
-    rt: HostRuntime,
-    buf: &mut [u8],
-    have: usize,
-    out: &mut [u8],
-) -> Result<Option<usize>, Failure>
-    ensures { IfOk result (λ held. IfSome held (λ n. n ≤ P.LIMIT)) }
-{
-    if P::LIMIT < have {
-        return Err(Failure::TooMuchHeld);
+    // Reads once, answers the whole lines and keeps what is left at the front; at the end of the input the last line is answered.
+    fn read_once<P: Program>(self, rt: HostRuntime) -> Result<Option<Held<'a>>, Failure>
+        requires { (self.have ≤ P.LIMIT) × ((P.LIMIT < length self.buf.now) × (max_answer ≤ length self.out.now)) }
+        ensures { IfOk result (λ held. IfSome held (λ h. h.have ≤ P.LIMIT)) }
+    {
+        let Held { buf, have, out } = self;
+        let mut input = rt.stdin();
+        match input.read(&mut buf[have..]) {
+            Err(_) => Err(Failure::Reading),
+            Ok(0) => {
+                Held { buf, have, out }.finish::<P>(rt)?;
+                Ok(None)
+            }
+            Ok(n) => Ok(Some(Held { buf, have, out }.settle::<P>(rt, have + n)?)),
+        }
     }
-    if buf.len() <= P::LIMIT {
-        return Err(Failure::NoRoomToRead);
+
+    // One turn of a program: what it holds then, none once the input has ended. Nothing is read into buffers that are too short.
+    fn turn<P: Program>(self, rt: HostRuntime) -> Result<Option<Held<'a>>, Failure>
+        ensures { IfOk result (λ held. IfSome held (λ h. h.have ≤ P.LIMIT)) }
+    {
+        if P::LIMIT < self.have {
+            return Err(Failure::TooMuchHeld);
+        }
+        if self.buf.len() <= P::LIMIT {
+            return Err(Failure::NoRoomToRead);
+        }
+        if self.out.len() < MAX_ANSWER {
+            return Err(Failure::NoRoomToAnswer);
+        }
+        self.read_once::<P>(rt)
     }
-    if out.len() < MAX_ANSWER {
-        return Err(Failure::NoRoomToAnswer);
-    }
-    read_once::<P>(rt, buf, have, out)
 }
 
 // Takes turns to the end of the input, and answers how many bytes the last one left, none at the end or once a turn failed. Nothing says that the
@@ -138,10 +135,10 @@ fn turn<P: Program>(
 pub fn run<P: Program>(rt: HostRuntime, buf: &mut [u8], out: &mut [u8]) -> Option<usize>
     ensures { IfSome result (λ n. n ≤ P.LIMIT) }
 {
-    let mut have = 0;
+    let mut held = Held { buf, have: 0, out };
     for _ in 0..u64::MAX {
-        match turn::<P>(rt, buf, have, out) {
-            Ok(held) => have = held?,
+        match held.turn::<P>(rt) {
+            Ok(next) => held = next?,
             Err(failure) => {
                 tell(rt, P::NAME);
                 tell(rt, failure.text());
@@ -149,5 +146,5 @@ pub fn run<P: Program>(rt: HostRuntime, buf: &mut [u8], out: &mut [u8]) -> Optio
             }
         }
     }
-    Some(have)
+    Some(held.have)
 }

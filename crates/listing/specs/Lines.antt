@@ -28,8 +28,8 @@ mode_line op.Length line = six
 abbrev pub max_line : ℕ
 max_line = 4096
 
-abbrev pub said_of : List ℕ → List ℕ
-said_of line = cond (leb (length line) max_line) (on_field (op_of (field 0 line)) (λ mode. mode_line mode line)) six
+abbrev pub line_answer : List ℕ → List ℕ
+line_answer line = cond (leb (length line) max_line) (on_field (op_of (field 0 line)) (λ mode. mode_line mode line)) six
 
 unfoldable pub answer_to : List ℕ → List ℕ
-answer_to line = ended (said_of line)
+answer_to line = ended (line_answer line)

@@ -3,13 +3,13 @@
 #![tactic(auto)]
 
 ghost use Rattle.std.specs.Prelude.{◌≡◌};
-ghost use Rattle.case_text.specs.Limits.{max_answer};
+ghost use Rattle.text.specs.Writer.{Keeps};
 ghost use Rattle.case_text.specs.Fields.{on_field};
-ghost use Rattle.case_text.specs.Answers.{answer_text, PutsWithin};
-ghost use Rattle.listing.specs.Lines.{read_line, said_of, answer_to};
+ghost use Rattle.case_text.specs.Answers.{answer_text, Answers};
+ghost use Rattle.listing.specs.Lines.{read_line, line_answer, answer_to};
 
-use case_text::{Answer, Op, fields, put};
-use grouping::Area;
+use case_text::{Answer, Message, Op, fields, put};
+use text::Writer;
 
 // The longest line, its newline not counted.
 pub const MAX_LINE: usize = 4096;
@@ -22,26 +22,18 @@ fn read_line(line: &[u8], canonic: bool) -> Option<Answer>
         return None;
     }
     let reference = area_text::read_area(line, 1)?;
-    let message = fields::hex(line, 5)?;
-    let message = message.as_slice();
-    let mut path = [0u8; path::lent::SIZE];
-    Some(
-        match area_area_decode::relative_decode(message, 0, canonic, reference.area(), &mut path) {
-            Ok(read) => Answer::Read {
-                consumed: read.consumed,
-                text: area_text::print_area(Area {
-                    head: read.value,
-                    path: &path,
-                }),
-            },
-            Err(error) => Answer::NotRead(error),
-        },
-    )
+    let bytes = fields::hex(line, 5)?;
+    let message = Message {
+        canonic,
+        start: 0,
+        bytes,
+    };
+    Some(case_areas::read(&message, reference.area()))
 }
 
 // What a line is answered.
-fn said(line: &[u8]) -> Option<Answer>
-    ensures { on_field result answer_text ≡ said_of line.now }
+fn line_answer(line: &[u8]) -> Option<Answer>
+    ensures { on_field result answer_text ≡ line_answer line.now }
 {
     if MAX_LINE < line.len() {
         return None;
@@ -53,10 +45,11 @@ fn said(line: &[u8]) -> Option<Answer>
     }
 }
 
-// Writes the answer to a line from a place on, and answers the next place; where fewer than MAX_ANSWER bytes are free, nothing changes.
+// Puts the answer to a line; where fewer than MAX_ANSWER bytes are free, nothing changes.
 #[tactic(auto, unfolding(crate::specs::Lines::answer_to))]
-pub fn answer(line: &[u8], out: &mut [u8], at: usize) -> usize
-    ensures { PutsWithin max_answer at (answer_to line.now) out.old out.new result }
+pub fn answer(line: &[u8], text: &mut Writer<'_>)
+    ensures put { Answers (answer_to line.now) text.old text.new }
+    ensures same { Keeps text.old text.new }
 {
-    put::answer(out, at, said(line))
+    put::answer(text, line_answer(line));
 }

@@ -4,13 +4,14 @@
 
 ghost use Rattle.std.specs.Prelude.{◌≡◌, true, ◌≤◌, length};
 ghost use Rattle.codec.specs.Format.{over};
-ghost use Rattle.text.specs.Buffer.{put_at, place_after};
+ghost use Rattle.text.specs.Writer.{Writes, Keeps};
 ghost use Rattle.path.specs.Record.{components_of, well_formed};
 ghost use Rattle.path.specs.Flat.{path_in};
 ghost use Rattle.path_text.specs.PathText.{max_tail_text, tail_text, path_text_of, found_answer, read_components_text, read_path_text};
 ghost use Rattle.path_text.specs.inside.PathText.{AppendsText};
 
 use path::{Path, PathBuilder};
+use text::Writer;
 
 // How long the text of a path is at most, with a `/` before each component.
 const MAX_TAIL: usize = 2 * Path::MAX_PATH_LENGTH + Path::MAX_COMPONENT_COUNT;
@@ -51,35 +52,38 @@ pub fn read_path(s: &[u8]) -> Option<Path>
     }
 }
 
-// Each component after a `/`, at the start of a buffer that has room for any; answers how many bytes that is.
-fn fill(path: &[u8], out: &mut [u8]) -> usize
-    requires { (well_formed (path_in path.now) ≡ true) × (max_tail_text ≤ length out.old) }
-    ensures { (result ≡ length (tail_text (components_of (path_in path.now)))) × (out.new ≡ over (tail_text (components_of (path_in path.now))) out.old) × (result ≤ max_tail_text) }
+// Each component after a `/`, put into a buffer that has room for any.
+fn fill(text: &mut Writer<'_>, path: &[u8])
+    requires { (well_formed (path_in path.now) ≡ true) × ((text.old.at ≡ 0) × (max_tail_text ≤ length text.old.out.now)) }
+    ensures put { (text.new.at ≡ length (tail_text (components_of (path_in path.now)))) × (text.new.out.now ≡ over (tail_text (components_of (path_in path.now))) text.old.out.now) × (text.new.at ≤ max_tail_text) }
+    ensures same { Keeps text.old text.new }
 {
     let bytes = path::lent::bytes(path);
-    let mut place = 0;
     let mut from = 0;
     for i in 0..path::lent::count(path) {
         let to = from + path::lent::component_len(path, i);
-        place = text::put_bytes(out, place, b"/");
-        place = text::put_hex(out, place, &bytes[from..to]);
+        text.put_bytes(b"/");
+        text.put_hex(&bytes[from..to]);
         from = to;
     }
-    place
 }
 
-// Puts a path, as `text::put_bytes` does; nothing where the record is not well formed.
+// Puts a path; nothing where the record is not well formed.
 #[tactic(auto, using(crate::proofs::Printing::putting))]
-pub fn put_path(out: &mut [u8], at: usize, path: &[u8]) -> usize
-    ensures { (result ≡ place_after at (path_text_of (path_in path.now)) out.old) × (out.new ≡ put_at at (path_text_of (path_in path.now)) out.old) }
+pub fn put_path(text: &mut Writer<'_>, path: &[u8])
+    ensures put { Writes (path_text_of (path_in path.now)) text.old text.new }
+    ensures same { Keeps text.old text.new }
 {
     if !path::lent::well_formed(path) {
-        return at;
+        return;
     }
-    let mut texts = [0u8; MAX_TAIL];
-    let n = fill(path, &mut texts);
+    let mut tail = [0u8; MAX_TAIL];
+    let mut tail_text = Writer::new(&mut tail, 0);
+    fill(&mut tail_text, path);
+    let n = tail_text.at;
     if n == 0 {
-        return text::put_bytes(out, at, b"-");
+        text.put_bytes(b"-");
+    } else {
+        text.put_bytes(&tail[1..n]);
     }
-    text::put_bytes(out, at, &texts[1..n])
 }

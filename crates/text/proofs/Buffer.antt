@@ -31,6 +31,11 @@ pub over_at_then : (at : ℕ) (a b l : List ℕ) → at ≤ length l → over_at
 unfolding over_at
 over_at_then at a b l h = sym (over_turn l a b at h)
 
+-- a copy keeps the length
+pub put_mid_long : (at k : ℕ) (bs l : List ℕ) → k ≡ length bs → at + k ≤ length l → length (put_mid at k l bs) ≡ length l
+unfolding over_at
+put_mid_long at k bs l e h = rw e (over_at_long at bs l (omega arith))
+
 -- ---- whether bytes fit
 module _ (at : ℕ) (bs l : List ℕ) where
   pub place_after_fits : at + length bs ≤ length l → place_after at bs l ≡ at + length bs
@@ -57,7 +62,7 @@ module _ (at : ℕ) (bs l : List ℕ) where
   pub put_at_fits : at + length bs ≤ length l → (at + length bs ≡ place_after at bs l) × (over_at at bs l ≡ put_at at bs l)
   put_at_fits h = (sym (place_after_fits h), sym (put_at-over_at h))
 
-pub ruleset puts = (place_after_fits, place_after_full, put_at-over_at, put_at_full, put_mid-over_at)
+pub ruleset puts = (place_after_fits, place_after_full, put_at-over_at, put_at_full, put_mid-over_at, put_mid_long)
 
 -- ---- puts one after another, in a buffer that has room for all
 pub wrote_first : (l : List ℕ) (at : ℕ) (b l' : List ℕ) (p k : ℕ) → p ≡ place_after at b l → l' ≡ put_at at b l → length b ≤ k → at + k ≤ length l → Wrote l at b l' p k

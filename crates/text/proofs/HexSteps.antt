@@ -3,6 +3,7 @@ use Rattle.std.proofs.Common.{◌≡◌, refl, ◌∙◌, List, [], ◌∷◌, t
 use Rattle.std.proofs.lemmas.List.{drop_more, drop_all, get_or_past}
 use Rattle.std.proofs.lemmas.Bool.{lt-ltb, le-ltb, ltb-true, eqb-true, and_parts, cases_lt}
 use Rattle.std.proofs.lemmas.List.Sums.{AllPass-from_list_all}
+use Rattle.std.specs.Simd.{first_chunks}
 use Rattle.io.specs.Digits.{hex_digit_ascii}
 use Rattle.codec.specs.Answers.{AllBytes, said, unsaid}
 use Rattle.text.specs.Hex.{hex_value, is_hex, unhex, hex_text}
@@ -43,6 +44,24 @@ unhex_bytes s h i = elim (cases_lt i (length s / 2)) [
   | inr k ↦ rw (get_or_past (unhex s) i 0 (omega (arith, unhex_long s))) (omega arith)
 ]
 
+-- the i-th two digits
+pair_at : (s : List ℕ) (n i : ℕ) → i < n → 2 * n ≤ length s → get_or (first_chunks 2 n s) i [] ≡ get_or s (2 * i) 0 ∷ get_or s (2 * i + 1) 0 ∷ []
+pair_at s zero i h k = absurd (omega arith)
+pair_at [] (suc n) i h k = absurd (omega arith)
+pair_at (a ∷ []) (suc n) i h k = absurd (omega arith)
+pair_at (a ∷ b ∷ s) (suc n) zero h k = refl
+pair_at (a ∷ b ∷ s) (suc n) (suc i) h k =
+    let e : 2 * suc i ≡ suc (suc (2 * i)) = omega arith in
+    let f : 2 * suc i + 1 ≡ suc (suc (2 * i + 1)) = omega arith in
+    rw (f, e) (pair_at s n i (omega arith) (omega arith))
+
+module _ (s : List ℕ) (i : ℕ) (h : i < length s / 2) where
+  pub high_at : get_or (get_or (first_chunks 2 (length s / 2) s) i []) 0 0 ≡ get_or s (2 * i) 0
+  high_at = rw (pair_at s (length s / 2) i h (omega arith)) refl
+
+  pub low_at : get_or (get_or (first_chunks 2 (length s / 2) s) i []) 1 0 ≡ get_or s (2 * i + 1) 0
+  low_at = rw (pair_at s (length s / 2) i h (omega arith)) refl
+
 -- a byte stored, the others still to be read
 pub unhex_turn : (s l : List ℕ) (i : ℕ) → i < length s / 2 → i < length l
     → over_at i (drop i (unhex s)) l ≡ over_at (i + 1) (drop (i + 1) (unhex s)) (set l i (hex_value (get_or s (2 * i) 0) * 16 + hex_value (get_or s (2 * i + 1) 0)))
@@ -77,7 +96,7 @@ module _ (s l : List ℕ) where
   unfolding hex_buffer over_at
   hex_buffer_fits e h = rw (e, unhex_long s, le-ltb _ _ h)
 
-pub ruleset reading = (is_hex_digit, unhex_turn, unhex_whole, read_hex_not, read_hex_full, read_hex_fits, hex_buffer_not, hex_buffer_full, hex_buffer_fits)
+pub ruleset reading = (is_hex_digit, high_at, low_at, unhex_turn, unhex_whole, read_hex_not, read_hex_full, read_hex_fits, hex_buffer_not, hex_buffer_full, hex_buffer_fits)
 
 -- ---- printing
 pub hex_text_long : (s : List ℕ) → length (hex_text s) ≡ 2 * length s

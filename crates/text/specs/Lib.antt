@@ -3,6 +3,7 @@ pub mod Parts
 pub mod Hex
 pub mod Decimal
 pub mod Buffer
+pub mod Writer
 pub mod Fields
 pub mod Ids
 pub mod Laws

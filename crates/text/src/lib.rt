@@ -7,7 +7,6 @@ ghost use Rattle.io.specs.Digits.{hex_digit_ascii};
 ghost use Rattle.text.specs.Parts.{parts, part_at};
 ghost use Rattle.text.specs.Hex.{hex_value, is_hex, hex_text};
 ghost use Rattle.text.specs.Decimal.{decimal_text};
-ghost use Rattle.text.specs.Buffer.{put_at, place_after};
 ghost use Rattle.text.specs.Fields.{read_hex, hex_answer, hex_buffer};
 
 pub mod ids;
@@ -77,30 +76,18 @@ pub fn read_hex(s: &[u8], out: &mut [u8]) -> Result<usize, HexError>
     if out.len() < n {
         return Err(HexError::NoRoom);
     }
-    for i in 0..n {
-        out[i] = hex_value(s[2 * i]) * 16 + hex_value(s[2 * i + 1]);
+    let (pairs, _) = s.as_chunks::<2>();
+    for (i, &[high, low]) in pairs.iter().enumerate() {
+        out[i] = hex_value(high) * 16 + hex_value(low);
     }
     Ok(n)
 }
 
-// Whether `n` bytes have room from a place on.
-fn fits(out: &[u8], at: usize, n: usize) -> bool
-    ensures { IsTrue result ↔ (at + n ≤ length out.now) }
-{
-    at <= out.len() && n <= out.len() - at
-}
-
-// Puts bytes from a place on and answers the next place; where they do not fit, nothing changes and the place stays.
-#[tactic(auto, using(crate::proofs::Buffer::puts))]
-pub fn put_bytes(out: &mut [u8], at: usize, s: &[u8]) -> usize
-    ensures { (result ≡ place_after at s.now out.old) × (out.new ≡ put_at at s.now out.old) }
-{
-    if !fits(out, at, s.len()) {
-        return at;
-    }
-    let end = at + s.len();
-    out[at..end].copy_from_slice(s);
-    end
+// Text put into a lent buffer from a place on. Where what is put does not fit, nothing changes and the place stays.
+#[derive(Drop)]
+pub struct Writer<'a> {
+    pub out: &'a mut [u8],
+    pub at: usize,
 }
 
 fn hex_digit(value: u8) -> u8
@@ -113,29 +100,73 @@ fn hex_digit(value: u8) -> u8
     }
 }
 
-// Puts bytes in hex, as `put_bytes` does.
-#[tactic(auto, using(crate::proofs::HexSteps::printing))]
-pub fn put_hex(out: &mut [u8], at: usize, s: &[u8]) -> usize
-    ensures { (result ≡ place_after at (hex_text s.now) out.old) × (out.new ≡ put_at at (hex_text s.now) out.old) }
-{
-    if !fits(out, at, 2 * s.len()) {
-        return at;
-    }
-    let mut end = at;
-    for b in s {
-        out[end] = hex_digit(b / 16);
-        out[end + 1] = hex_digit(b % 16);
-        end += 2;
-    }
-    end
-}
+impl<'a> Writer<'a> {
+    ghost use Rattle.std.specs.Prelude.{◌≡◌, ◌↔◌, ◌+◌, ◌-◌, ◌≤◌, IsTrue, length};
+    ghost use Rattle.text.specs.Hex.{hex_text};
+    ghost use Rattle.text.specs.Decimal.{decimal_text};
+    ghost use Rattle.text.specs.Writer.{Writes, Keeps};
 
-// Puts a number in decimal, as `put_bytes` does.
-#[tactic(auto, using(crate::proofs::DecimalPrinted::decimal_is))]
-pub fn put_decimal(out: &mut [u8], at: usize, n: u64) -> usize
-    ensures { (result ≡ place_after at (decimal_text n) out.old) × (out.new ≡ put_at at (decimal_text n) out.old) }
-{
-    let mut digits = [0u8; 20];
-    let k = io::decimal(n, &mut digits);
-    put_bytes(out, at, &digits[..k])
+    pub fn new(out: &'a mut [u8], at: usize) -> Writer<'a>
+        ensures start { (result.at ≡ at) × (result.out.now ≡ out.old) }
+        ensures same { result.out.ghost_name ≡ out.entry.ghost_name }
+    {
+        Writer { out, at }
+    }
+
+    // Whether `n` bytes have room.
+    fn fits(&self, n: usize) -> bool
+        ensures { IsTrue result ↔ (self.now.at + n ≤ length self.now.out.now) }
+    {
+        self.at <= self.out.len() && n <= self.out.len() - self.at
+    }
+
+    // How many bytes are free.
+    pub fn free(&self) -> usize
+        ensures { result ≡ length self.now.out.now - self.now.at }
+    {
+        self.out.len().saturating_sub(self.at)
+    }
+
+    // Puts bytes.
+    #[tactic(auto, using(crate::proofs::Buffer::puts))]
+    pub fn put_bytes(&mut self, s: &[u8])
+        ensures put { Writes s.now self.old self.new }
+        ensures same { Keeps self.old self.new }
+    {
+        if !self.fits(s.len()) {
+            return;
+        }
+        let at = self.at;
+        let end = at + s.len();
+        self.out[at..end].copy_from_slice(s);
+        self.at = end;
+    }
+
+    // Puts bytes in hex.
+    #[tactic(auto, using(crate::proofs::HexSteps::printing))]
+    pub fn put_hex(&mut self, s: &[u8])
+        ensures put { Writes (hex_text s.now) self.old self.new }
+        ensures same { Keeps self.old self.new }
+    {
+        if !self.fits(2 * s.len()) {
+            return;
+        }
+        for b in s {
+            let at = self.at;
+            self.out[at] = hex_digit(b / 16);
+            self.out[at + 1] = hex_digit(b % 16);
+            self.at = at + 2;
+        }
+    }
+
+    // Puts a number in decimal.
+    #[tactic(auto, using(crate::proofs::DecimalPrinted::decimal_is))]
+    pub fn put_decimal(&mut self, n: u64)
+        ensures put { Writes (decimal_text n) self.old self.new }
+        ensures same { Keeps self.old self.new }
+    {
+        let mut digits = [0u8; 20];
+        let k = io::decimal(n, &mut digits);
+        self.put_bytes(&digits[..k]);
+    }
 }
