@@ -2,7 +2,7 @@
 
 #![tactic(auto)]
 
-ghost use Rattle.std.specs.Prelude.{◌≡◌, [], true, ◌+◌, ◌<◌, ◌^◌, length, drop};
+ghost use Rattle.std.specs.Prelude.{◌≡◌, [], true, ◌+◌, ◌<◌, ◌^◌, leb, length, drop};
 ghost use Rattle.codec.specs.Reader.{shift, mapped};
 ghost use Rattle.path.specs.Record.{path_from};
 ghost use Rattle.path.specs.Flat.{path_in};
@@ -20,6 +20,16 @@ use range_3d::{Range3d, Range3dHead};
 use range_header::{HEADER_LENGTH, Range3dHeader};
 use range_paths::Sides;
 use range_subspaces::Sources;
+
+// Whether the header bytes lie at `start`.
+fn has_header(len: usize, start: usize) -> bool
+    ensures { result ≡ leb (start + header_length) len }
+{
+    if len <= start {
+        return false;
+    }
+    HEADER_LENGTH <= len - start
+}
 
 // Reads what follows the subspaces; `times` is the second header byte.
 fn decode_rest<'a>(
@@ -102,7 +112,7 @@ pub fn relative_decode<'a>(
     if !reference.is_well_formed() {
         return Err(DecodeError::Malformed);
     }
-    if message.len().saturating_sub(from) < HEADER_LENGTH {
+    if !has_header(message.len(), from) {
         return Err(DecodeError::EndOfInput);
     }
     let header = range_header::unpack(message[from]);

@@ -174,7 +174,11 @@ end_short (Some p) (Some n) fits = shared_short p n.shared fits
 module _ (r v : Range Path) (m : MeasuredPaths) (e : said m ≡ measure_in r v) where
   told : ((sized_paths r && sized_paths v) ≡ true) × (measure_of (paths_of r) (paths_of v) ≡ m)
   unfolding measure_in
-  told = said_known (sized_paths r && sized_paths v) (measure_of (paths_of r) (paths_of v)) m e
+  told = go (sized_paths r && sized_paths v) refl
+    where
+      go : (b : Bool) → (sized_paths r && sized_paths v) ≡ b → ((sized_paths r && sized_paths v) ≡ true) × (measure_of (paths_of r) (paths_of v) ≡ m)
+      go true p = (p, (said_known true (measure_of (paths_of r) (paths_of v)) m (rw p at e)).1)
+      go false p = (p ∙ (said_known false (measure_of (paths_of r) (paths_of v)) m (rw p at e)).0, (said_known false (measure_of (paths_of r) (paths_of v)) m (rw p at e)).1)
 
   pub told_is : measure_of (paths_of r) (paths_of v) ≡ m
   told_is = told.1

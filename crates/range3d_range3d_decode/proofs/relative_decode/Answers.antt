@@ -1,4 +1,4 @@
-use Rattle.codec.proofs.Prelude.{sym, ap, ◌∙◌, ◌+◌, ◌≤◌, arith, length}
+use Rattle.codec.proofs.Prelude.{sym, ap, ◌∙◌, ◌+◌, ◌≤◌, arith, length, leb-true, leb-false}
 use Rattle.codec.specs.declared.DecodeError.TheVariants as decoding
 use Rattle.codec.proofs.Lending.{to_end}
 use Rattle.path.specs.Flat.{path_in}
@@ -14,14 +14,15 @@ returns-then-not-is_well_formed c =
     range_refused decoding.Malformed (ap path_in c.clear.ensures ∙ in_empty) (ap path_in c.clear-2.ensures ∙ in_empty)
     (sym (range_unformed (range_lent c.args.reference) _ (sym c.is_well_formed.ensures ∙ c.if-not-is_well_formed.true)))
 
-pub returns-then-saturating_sub-lt-HEADER_LENGTH : goal.returns-then-saturating_sub-lt-HEADER_LENGTH
-returns-then-saturating_sub-lt-HEADER_LENGTH c =
+pub returns-then-not-has_header : goal.returns-then-not-has_header
+returns-then-not-has_header c =
+    let cut = leb-false _ _ (sym c.has_header.ensures ∙ c.if-not-has_header.true) in
     range_refused decoding.EndOfInput (ap path_in c.clear.ensures ∙ in_empty) (ap path_in c.clear-2.ensures ∙ in_empty)
-    (sym (header_cut (range_lent c.args.reference) (sym c.is_well_formed.ensures ∙ c.if-not-is_well_formed.false) c.args.message.now c.args.from (omega arith)))
+    (sym (header_cut (range_lent c.args.reference) (sym c.is_well_formed.ensures ∙ c.if-not-is_well_formed.false) c.args.message.now c.args.from (omega (arith, cut))))
 
 pub decode_parts-requires : goal.decode_parts-requires
 decode_parts-requires c = (
-  omega arith,
+  omega (arith, leb-true _ _ (sym c.has_header.ensures ∙ c.if-not-has_header.false)),
   well_sized_range (range_lent c.args.reference) (sym c.is_well_formed.ensures ∙ c.if-not-is_well_formed.false),
   ap path_in c.clear.ensures ∙ in_empty,
   ap path_in c.clear-2.ensures ∙ in_empty,
@@ -29,6 +30,6 @@ decode_parts-requires c = (
 
 pub returns : goal.returns
 returns c =
-    let whole : c.args.from + header_length ≤ length c.args.message.now = omega arith in
+    let whole : c.args.from + header_length ≤ length c.args.message.now = leb-true _ _ (sym c.has_header.ensures ∙ c.if-not-has_header.false) in
     rw (header_read (range_lent c.args.reference) (sym c.is_well_formed.ensures ∙ c.if-not-is_well_formed.false) c.args.message.now c.args.from whole)
     (rw (c.unpack-header.ensures, to_end (c.args.from + header_length) c.args.message.now) at c.decode_parts.ensures)
