@@ -19,7 +19,7 @@ fn check<'a>(area: Area<'a>, reference: Area<'a>) -> Result<(), EncodeError>
     ensures ok { OnOk result (IsInHead (area_lent reference.entry) (area_lent area.entry)) }
     ensures err { IfErr result (λ error. (against_area (area_lent reference.entry)).check (area_lent area.entry) ≡ refused_value (encode_number error)) }
 {
-    if !reference.is_well_formed() || !area.is_well_formed() {
+    if !reference.both_formed(area) {
         return Err(EncodeError::Malformed);
     }
     if !reference.head.contains(area.head) {

@@ -2,7 +2,7 @@
 
 #![tactic(auto)]
 
-ghost use Rattle.std.specs.Prelude.{◌≡◌};
+ghost use Rattle.std.specs.Prelude.{◌≡◌, ◌&&◌};
 ghost use Rattle.codec.specs.Answers.{said_of};
 ghost use Rattle.grouping.specs.Area.{includes_subspace, head_lies_inside};
 ghost use Rattle.grouping.specs.Record.{area_lent, well_formed_area, area_includes, says_area_inside};
@@ -78,11 +78,18 @@ impl<'a> Area<'a> {
         path::lent::well_formed(self.path)
     }
 
+    // Whether two areas are.
+    pub fn both_formed(self, other: Area<'a>) -> bool
+        ensures { result ≡ (well_formed_area (area_lent self.entry) && well_formed_area (area_lent other.entry)) }
+    {
+        path::lent::both_formed(self.path, other.path)
+    }
+
     #[tactic(auto, using(crate::proofs::Compare::both_sized), unfolding(crate::specs::Record::area_includes, crate::specs::Area::includes_area))]
     pub fn includes_area(self, other: Area<'a>) -> Result<bool, Malformed>
         ensures { said_of result ≡ area_includes (area_lent self.entry) (area_lent other.entry) }
     {
-        if !path::lent::both_formed(self.path, other.path) {
+        if !self.both_formed(other) {
             return Err(Malformed);
         }
         if !includes_subspace(self.head.subspace, other.head.subspace)
@@ -98,7 +105,7 @@ impl<'a> Area<'a> {
     pub fn contains(self, other: Area<'a>) -> Result<bool, Malformed>
         ensures { said_of result ≡ says_area_inside (area_lent self.entry) (area_lent other.entry) }
     {
-        if !path::lent::both_formed(self.path, other.path) {
+        if !self.both_formed(other) {
             return Err(Malformed);
         }
         if !self.head.contains(other.head) {

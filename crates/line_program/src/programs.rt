@@ -33,6 +33,7 @@ pub trait Program {
     ghost whole: { AnswersLines answer_to LIMIT };
 }
 
+#[derive(Clone, Copy)]
 pub struct Listing;
 
 impl Program for Listing {
@@ -53,6 +54,7 @@ impl Program for Listing {
     }
 }
 
+#[derive(Clone, Copy)]
 pub struct CaseLines;
 
 impl Program for CaseLines {
