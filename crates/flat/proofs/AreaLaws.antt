@@ -1,12 +1,12 @@
 -- Areas as flat bytes: there and back.
-use Rattle.codec.proofs.Prelude.{◌≡◌, refl, List, ◌++◌, Bool, true, false, ◌&&◌, ℕ, arith, length, take, drop, length-append, length-drop, take_at, drop_at}
+use Rattle.codec.proofs.Prelude.{◌≡◌, refl, ap, ◌∙◌, List, ◌++◌, Bool, true, false, ◌&&◌, ℕ, arith, length, take, drop, length-append, length-drop, take_at, drop_at}
 use Rattle.codec.specs.Answers.{AllBytes}
 use Rattle.codec.proofs.Bytes.{AllBytes-drop}
 use Rattle.codec.proofs.Tests.{and_left, and_right}
 use Rattle.path.specs.Record.{well_formed}
 use Rattle.std.specs.Prelude.{Option}
 use Rattle.grouping.specs.Area.{TypedSubspace}
-use Rattle.grouping.specs.Record.{Area, well_formed_area, TypedArea}
+use Rattle.grouping.specs.Record.{Area, head_of, area_with, well_formed_area, TypedArea}
 use Rattle.path.specs.Flat.{path_size, path_flat, path_in}
 use Rattle.flat.specs.PathRecord.{path_if}
 use Rattle.flat.specs.Times.{times_flat, times_marked, times_in}
@@ -14,7 +14,7 @@ use Rattle.flat.specs.AreaRecord.{area_size, area_times_start, subspace_flat, ar
 use Rattle.path.proofs.Loads.{path_long, path_loads, path_stores}
 use Rattle.flat.specs.Optional.{option_marked, option_in}
 use Rattle.flat.proofs.Optional.{option_long, option_marked_lem, option_loads, option_stores}
-use Rattle.flat.proofs.PathLaws.{unmarked, either_unmarked}
+use Rattle.flat.proofs.PathLaws.{unmarked, path_within_lem, either_unmarked}
 use Rattle.flat.proofs.TimesLaws.{times_marked_lem, times_loads, times_stores, times_long, drop_two, three}
 
 pub subspace_long : (s : Option (List ℕ)) → TypedSubspace s → length (subspace_flat s) ≡ 33
@@ -61,10 +61,12 @@ area_stores s long b w = go (option_marked 32 s && times_marked (drop area_times
     go true e f = fields (and_left (option_marked 32 s) (times_marked (drop area_times_start s)) e) (and_right (option_marked 32 s) (times_marked (drop area_times_start s)) e)
     go false e f = absurd (unmarked (drop 33 s) f)
 
--- the path of an area that is marked
-pub area_path : (s : List ℕ) → area_marked s ≡ true → path_in (drop 33 s) ≡ path_if (area_marked s) (drop 33 s)
-unfolding path_in
-area_path s m = rw m
+-- an area that is marked, by its head and the record of its path
+pub area_lent : (s p : List ℕ) → (p ≡ take path_size (drop 33 s)) × (length p ≡ path_size) → area_marked s ≡ true → area_with (head_of (area_in s)) (path_in p) ≡ area_in s
+unfolding area_in path_in
+area_lent s p e m =
+    let path : path_in p ≡ path_if (area_marked s) (drop 33 s) = path_within_lem p (drop 33 s) e ∙ rw m in
+    ap (area_with (head_of (area_in s))) path
 
 -- an area whose marks are none is not well formed
 pub area_unmarked : (s : List ℕ) → area_marked s ≡ false → well_formed_area (area_in s) ≡ false

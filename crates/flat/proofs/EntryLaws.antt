@@ -3,10 +3,11 @@ use Rattle.codec.proofs.Prelude.{◌≡◌, refl, sym, ap, ◌∙◌, List, ◌+
 use Rattle.codec.specs.Answers.{AllBytes}
 use Rattle.codec.proofs.Bytes.{AllBytes-drop}
 use Rattle.compact_u64.specs.BigEndian.{big_endian, value_of}
-use Rattle.entry.specs.Record.{Entry, well_formed_entry, TypedEntry}
+use Rattle.entry.specs.Record.{Entry, fields_of, entry_with, well_formed_entry, TypedEntry}
 use Rattle.path.specs.Flat.{path_size, path_flat, path_in}
 use Rattle.flat.specs.EntryRecord.{entry_size, entry_time_start, entry_length_start, entry_digest_start, entry_flat, entry_in}
 use Rattle.path.proofs.Loads.{number_loads, number_stores, path_long, path_loads, path_stores}
+use Rattle.flat.proofs.PathLaws.{path_within_lem}
 use Rattle.flat.proofs.TimesLaws.{drop_two, three}
 
 pub entry_long : (e : Entry) → TypedEntry e → length (entry_flat e) ≡ entry_size
@@ -87,3 +88,8 @@ entry_stores s long b w =
     whole : (p a b : List ℕ) → p ≡ take path_size (drop 64 s) → a ≡ take 8 (drop entry_time_start s) → b ≡ take 8 (drop entry_length_start s)
         → (take 32 s ++ take 32 (drop 32 s)) ++ (p ++ (a ++ (b ++ take 32 (drop entry_digest_start s)))) ≡ s
     whole p a b ep ea eb = rw (ep, ea, eb, end, ← (take-add 32 32 s)) (three s 64 path_size)
+
+-- an entry by its fields and the record of its path
+pub entry_lent : (s p : List ℕ) → (p ≡ take path_size (drop 64 s)) × (length p ≡ path_size) → entry_with (fields_of (entry_in s)) (path_in p) ≡ entry_in s
+unfolding entry_in
+entry_lent s p e = ap (entry_with (fields_of (entry_in s))) (path_within_lem p (drop 64 s) e)

@@ -1,10 +1,12 @@
 -- 3d ranges as flat bytes: there and back.
-use Rattle.codec.proofs.Prelude.{◌≡◌, refl, sym, ◌∙◌, List, ◌++◌, append_assoc, Bool, true, false, ◌&&◌, ℕ, suc, ◌+◌, arith, length, take, drop, length-append, length-drop, take_at, drop_at, drop-drop, take-add}
+use Rattle.codec.proofs.Prelude.{◌≡◌, refl, sym, ap, ◌∙◌, List, ◌++◌, append_assoc, Bool, true, false, cond, ◌&&◌, ℕ, suc, ◌+◌, arith, eqb, get_or, length, take, drop, length-append, length-drop, take_at, drop_at, drop-drop, take-add}
+use Rattle.std.specs.Prelude.{Some, None}
 use Rattle.codec.specs.Answers.{AllBytes}
 use Rattle.codec.proofs.Bytes.{AllBytes-drop}
 use Rattle.codec.proofs.Tests.{and_left, and_right}
-use Rattle.path.specs.Record.{well_formed}
-use Rattle.range_3d.specs.Record.{Range3d, well_formed_range3d, TypedRange3d}
+use Rattle.path.specs.Record.{Path, well_formed}
+use Rattle.range_3d.specs.Range3d.{open_end}
+use Rattle.range_3d.specs.Record.{Range3d, head_of, range_with, well_formed_range3d, TypedRange3d}
 use Rattle.path.specs.Flat.{path_size, path_flat, path_in}
 use Rattle.flat.specs.Optional.{option_flat, option_marked, option_in}
 use Rattle.flat.specs.PathRecord.{path_if}
@@ -12,7 +14,7 @@ use Rattle.flat.specs.Times.{times_flat, times_marked, times_in}
 use Rattle.flat.specs.RangeRecord.{range_size, range_path_open, range_path_end, range_times_start, subspaces_flat, range_flat, range_marked, subspaces_in, range_in}
 use Rattle.path.proofs.Loads.{path_long, path_loads, path_stores}
 use Rattle.flat.proofs.Optional.{option_long, option_marked_lem, option_loads, option_stores}
-use Rattle.flat.proofs.PathLaws.{unmarked, either_unmarked}
+use Rattle.flat.proofs.PathLaws.{unmarked, path_within_lem, either_unmarked}
 use Rattle.flat.proofs.TimesLaws.{times_marked_lem, times_loads, times_stores, times_long, three}
 
 -- where the parts stand: an id and what may be an id, a path and what may be a path, and the times
@@ -129,10 +131,17 @@ range_stores s long b w = go (range_marked s) refl (and_left (well_formed (range
     go true e f = fields (marks s e)
     go false e f = absurd (unmarked (drop 65 s) f)
 
--- the first path of a 3d range that is marked
-pub range_path : (s : List ℕ) → range_marked s ≡ true → path_in (drop 65 s) ≡ path_if (range_marked s) (drop 65 s)
-unfolding path_in
-range_path s m = rw m
+-- a 3d range that is marked, by its head and the records of its paths
+pub range_lent : (s p q : List ℕ) → (p ≡ take path_size (drop 65 s)) × (length p ≡ path_size) → (q ≡ take path_size (drop range_path_end s)) × (length q ≡ path_size) → range_marked s ≡ true → range_with (head_of (range_in s)) (path_in p) (path_in q) ≡ range_in s
+unfolding range_in path_in
+range_lent s p q e f m =
+    let start : path_in p ≡ path_if (range_marked s) (drop 65 s) = path_within_lem p (drop 65 s) e ∙ rw m in
+    let end : path_in q ≡ path_in (drop 1 (drop range_path_open s)) = path_within_lem q (drop range_path_end s) f ∙ ap path_in (sym (drop-drop 1 range_path_open s)) in
+    λ i. record { subspaces = subspaces_in s; paths = record { start = start i; end = named (eqb (get_or (drop range_path_open s) 0 0) 1) end i }; times = times_in (drop range_times_start s) }
+  where
+    named : (missing : Bool) {x y : Path} → x ≡ y → cond (open_end (cond missing None (Some y))) None (Some x) ≡ cond missing None (Some y)
+    named true e = refl
+    named false e = ap Some e
 
 range_marks : (s : List ℕ) → range_marked s ≡ false → well_formed_range3d (range_in s) ≡ true → ⊥
 unfolding range_in

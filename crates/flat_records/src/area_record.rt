@@ -1,7 +1,7 @@
 // An area: the mark of any subspace, the id, the path, the times.
-ghost use Rattle.std.specs.Prelude.{◌≡◌, ◌↔◌, false, IfOk, IsErr};
-ghost use Rattle.path.specs.Flat.{path_in};
-ghost use Rattle.grouping.specs.Record.{area_with, area_lent};
+ghost use Rattle.std.specs.Prelude.{◌≡◌, ◌↔◌, false, length, take, drop, IfOk, IsErr};
+ghost use Rattle.path.specs.Flat.{path_size, path_in};
+ghost use Rattle.grouping.specs.Record.{head_of, area_with, area_lent};
 ghost use Rattle.flat.specs.AreaRecord.{area_marked, area_in, area_flat};
 
 use codec::Malformed;
@@ -14,16 +14,33 @@ const TIMES: usize = PATH + path::lent::SIZE;
 
 pub const SIZE: usize = TIMES + crate::times::SIZE;
 
+// What an area has beside its path, and the record of its path, whatever the marks.
+#[tactic(auto, unfolding(flat::specs::AreaRecord::area_in))]
+pub fn head(flat: &[u8; SIZE]) -> AreaHead
+    ensures { result ≡ head_of (area_in flat.now) }
+{
+    AreaHead {
+        subspace: crate::optional(flat).copied(),
+        times: crate::times::times_in(crate::part(crate::after(flat, TIMES))),
+    }
+}
+
+pub fn path(flat: &[u8; SIZE]) -> &[u8]
+    ensures { (result.now ≡ take path_size (drop 33 flat.now)) × (length result.now ≡ path_size) }
+{
+    crate::path(crate::after(flat, PATH))
+}
+
 // Whether the marks are 0 or 1, and zeros stand beside those of any subspace and of an open end.
 #[tactic(auto, unfolding(flat::specs::AreaRecord::area_marked))]
-fn is_marked(flat: &[u8; SIZE]) -> bool
+pub fn is_marked(flat: &[u8; SIZE]) -> bool
     ensures { result ≡ area_marked flat.now }
 {
     crate::is_marked(flat, 32) && crate::times::is_marked(crate::part(crate::after(flat, TIMES)))
 }
 
 // The area that bytes are, its path lent; bytes whose marks are none are no area's.
-#[tactic(auto, using(flat::proofs::AreaLaws::area_path), unfolding(flat::specs::AreaRecord::area_in))]
+#[tactic(auto, using(flat::proofs::AreaLaws::area_lent))]
 pub fn load<'a>(flat: &'a [u8; SIZE]) -> Result<Area<'a>, Malformed>
     ensures ok { IfOk result (λ area. area_lent area ≡ area_in flat.now) }
     ensures err { IsErr result ↔ (area_marked flat.now ≡ false) }
@@ -32,11 +49,8 @@ pub fn load<'a>(flat: &'a [u8; SIZE]) -> Result<Area<'a>, Malformed>
         return Err(Malformed);
     }
     Ok(Area {
-        head: AreaHead {
-            subspace: crate::optional(flat).copied(),
-            times: crate::times::times_in(crate::part(crate::after(flat, TIMES))),
-        },
-        path: crate::path(crate::after(flat, PATH)),
+        head: head(flat),
+        path: path(flat),
     })
 }
 

@@ -1,7 +1,7 @@
 // An entry: namespace id, subspace id, path, timestamp, payload length, payload digest.
-ghost use Rattle.std.specs.Prelude.{◌≡◌};
-ghost use Rattle.path.specs.Flat.{path_in};
-ghost use Rattle.entry.specs.Record.{entry_with, entry_lent};
+ghost use Rattle.std.specs.Prelude.{◌≡◌, length, take, drop};
+ghost use Rattle.path.specs.Flat.{path_size, path_in};
+ghost use Rattle.entry.specs.Record.{fields_of, entry_with, entry_lent};
 ghost use Rattle.flat.specs.EntryRecord.{entry_in, entry_flat};
 
 use entry::{Entry, EntryFields};
@@ -19,20 +19,34 @@ const DIGEST: usize = PAYLOAD_LENGTH + 8;
 
 pub const SIZE: usize = DIGEST + 32;
 
-// The entry that bytes are, its path lent.
+// What an entry has beside its path, and the record of its path.
 #[tactic(auto, unfolding(flat::specs::EntryRecord::entry_in))]
+pub fn fields(flat: &[u8; SIZE]) -> EntryFields
+    ensures { result ≡ fields_of (entry_in flat.now) }
+{
+    EntryFields {
+        namespace_id: *crate::part(flat),
+        subspace_id: *crate::part(crate::after(flat, SUBSPACE)),
+        timestamp: crate::number(crate::after(flat, TIMESTAMP)),
+        payload_length: crate::number(crate::after(flat, PAYLOAD_LENGTH)),
+        payload_digest: *crate::part(crate::after(flat, DIGEST)),
+    }
+}
+
+pub fn path(flat: &[u8; SIZE]) -> &[u8]
+    ensures { (result.now ≡ take path_size (drop 64 flat.now)) × (length result.now ≡ path_size) }
+{
+    crate::path(crate::after(flat, PATH))
+}
+
+// The entry that bytes are, its path lent.
+#[tactic(auto, using(flat::proofs::EntryLaws::entry_lent))]
 pub fn load<'a>(flat: &'a [u8; SIZE]) -> Entry<'a>
     ensures { entry_lent result ≡ entry_in flat.now }
 {
     Entry {
-        fields: EntryFields {
-            namespace_id: *crate::part(flat),
-            subspace_id: *crate::part(crate::after(flat, SUBSPACE)),
-            timestamp: crate::number(crate::after(flat, TIMESTAMP)),
-            payload_length: crate::number(crate::after(flat, PAYLOAD_LENGTH)),
-            payload_digest: *crate::part(crate::after(flat, DIGEST)),
-        },
-        path: crate::path(crate::after(flat, PATH)),
+        fields: fields(flat),
+        path: path(flat),
     }
 }
 

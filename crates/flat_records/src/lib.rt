@@ -4,9 +4,8 @@
 
 ghost use Rattle.std.specs.Prelude.{◌≡◌, ◌+◌, ◌-◌, ◌≤◌, length, take, drop, option_copied};
 ghost use Rattle.compact_u64.specs.BigEndian.{big_endian, value_of};
-ghost use Rattle.path.specs.Flat.{path_size, path_in};
+ghost use Rattle.path.specs.Flat.{path_size};
 ghost use Rattle.path.specs.Puts.{Puts};
-ghost use Rattle.range_3d.specs.Range3d.{end_named};
 ghost use Rattle.flat.specs.Optional.{option_flat, option_marked, option_in};
 
 pub mod area_record;
@@ -52,23 +51,11 @@ pub(crate) fn optional<const N: usize>(flat: &[u8]) -> Option<&[u8; N]>
 }
 
 // The record of a path.
-#[tactic(auto, using(path::proofs::Loads::path_taken))]
 pub(crate) fn path(flat: &[u8]) -> &[u8]
     requires { path_size ≤ length flat.now }
-    ensures { path_in result.now ≡ path_in flat.now }
+    ensures { (result.now ≡ take path_size flat.now) × (length result.now ≡ path_size) }
 {
     part::<{ path::lent::SIZE }>(flat)
-}
-
-// The record of a path that may be missing.
-pub(crate) fn optional_path(flat: &[u8]) -> Option<&[u8]>
-    requires { 1 + path_size ≤ length flat.now }
-    ensures { end_named (λ p. path_in p.now) result ≡ option_in path_in flat.now }
-{
-    match optional::<{ path::lent::SIZE }>(flat) {
-        Some(path) => Some(path),
-        None => None,
-    }
 }
 
 // Whether the bytes are those of a part of so many bytes that may be missing: the mark is 0, or 1 before zeros.

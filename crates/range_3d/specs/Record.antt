@@ -9,7 +9,7 @@ use Rattle.grouping.specs.Range.{TypedRange}
 use Rattle.range_3d.specs.declared.Range3d.{Range3d as LentRange}
 use Rattle.range_3d.specs.declared.Range3dHead.{Range3dHead}
 use Rattle.range_3d.specs.declared.Range.{Range}
-use Rattle.range_3d.specs.Range3d.{Range3dValue, range_named, both_pass, Both}
+use Rattle.range_3d.specs.Range3d.{Range3dValue, open_end, range_named, both_pass, Both}
 
 pub record Range3d : Type 0 where
   pub subspaces : Range (List ℕ)
@@ -37,6 +37,9 @@ abbrev pub range_lent : LentRange → Range3d
 range_lent r = record { subspaces = r.subspaces; paths = paths_lent r.paths; times = r.times }
 
 -- ---- a 3d range by its head and its two paths; the second is none beside the mark of an open end
+abbrev pub head_of : Range3d → Range3dHead
+head_of r = record { subspaces = r.subspaces; end_open = open_end r.paths.end; times = r.times }
+
 abbrev pub paths_with : Path → Bool → Path → Range Path
 paths_with start end_open end = record { start = start; end = cond end_open None (Some end) }
 
