@@ -1,17 +1,20 @@
 -- 3d ranges as flat bytes: there and back.
-use Rattle.codec.proofs.Prelude.{◌≡◌, refl, sym, ap, ◌∙◌, List, ◌++◌, append_assoc, Bool, true, false, cond, ◌&&◌, ℕ, suc, ◌+◌, arith, eqb, get_or, length, take, drop, length-append, length-drop, take_at, drop_at, drop-drop, take-add}
+use Rattle.codec.proofs.Prelude.{◌≡◌, refl, sym, ap, ◌∙◌, List, [], ◌∷◌, ◌++◌, append_assoc, Bool, true, false, cond, ◌&&◌, ℕ, suc, ◌+◌, arith, eqb, get_or, length, take, drop, length-append, length-drop, take_at, drop_at, drop-drop, take-add}
 use Rattle.std.specs.Prelude.{Some, None}
 use Rattle.codec.specs.Answers.{AllBytes}
+use Rattle.codec.specs.Header.{bit}
 use Rattle.codec.proofs.Bytes.{AllBytes-drop}
 use Rattle.codec.proofs.Tests.{and_left, and_right}
-use Rattle.path.specs.Record.{Path, well_formed}
+use Rattle.path.specs.Record.{Path, path_from, well_formed}
+use Rattle.range_3d.specs.declared.Range3dHead.{Range3dHead}
 use Rattle.range_3d.specs.Range3d.{open_end}
 use Rattle.range_3d.specs.Record.{Range3d, head_of, range_with, well_formed_range3d, TypedRange3d}
 use Rattle.path.specs.Flat.{path_size, path_flat, path_in}
 use Rattle.flat.specs.Optional.{option_flat, option_marked, option_in}
 use Rattle.flat.specs.PathRecord.{path_if}
 use Rattle.flat.specs.Times.{times_flat, times_marked, times_in}
-use Rattle.flat.specs.RangeRecord.{range_size, range_path_open, range_path_end, range_times_start, subspaces_flat, range_flat, range_marked, subspaces_in, range_in}
+use Rattle.flat.specs.RangeRecord.{range_size, range_path_open, range_path_end, range_times_start, subspaces_flat, range_flat, range_stored, range_marked, subspaces_in, range_in}
+use Rattle.path.proofs.Growing.{flat_empty}
 use Rattle.path.proofs.Loads.{path_long, path_loads, path_stores}
 use Rattle.flat.proofs.Optional.{option_long, option_marked_lem, option_loads, option_stores}
 use Rattle.flat.proofs.PathLaws.{unmarked, path_within_lem, either_unmarked}
@@ -142,6 +145,15 @@ range_lent s p q e f m =
     named : (missing : Bool) {x y : Path} → x ≡ y → cond (open_end (cond missing None (Some y))) None (Some x) ≡ cond missing None (Some y)
     named true e = refl
     named false e = ap Some e
+
+-- a head and two paths as they are stored are the 3d range of them, where beside the mark of an open end the second is empty
+pub stored_flat : (h : Range3dHead) (start end : Path) → (h.end_open ≡ true → end ≡ path_from []) → range_stored h start end ≡ range_flat (range_with h start end)
+unfolding range_stored range_flat
+stored_flat h start end empty = ap (λ (q : List ℕ). subspaces_flat h.subspaces ++ ((path_flat start ++ q) ++ times_flat h.times)) (marked h.end_open empty)
+  where
+    marked : (missing : Bool) → (missing ≡ true → end ≡ path_from []) → bit missing ∷ path_flat end ≡ option_flat path_size path_flat (cond missing None (Some end))
+    marked true e = ap (λ (l : List ℕ). 1 ∷ l) (ap path_flat (e refl) ∙ sym flat_empty)
+    marked false e = refl
 
 range_marks : (s : List ℕ) → range_marked s ≡ false → well_formed_range3d (range_in s) ≡ true → ⊥
 unfolding range_in

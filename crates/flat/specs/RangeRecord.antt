@@ -1,7 +1,9 @@
 -- docs/ABI.md, "Records": a 3d range as flat bytes, the start, the mark of an open end and the end of its subspaces, then of its paths, then its times.
-use Rattle.std.specs.Prelude.{List, ◌++◌, Bool, ◌&&◌, ℕ, ◌+◌, take, drop}
+use Rattle.std.specs.Prelude.{List, ◌∷◌, ◌++◌, Bool, ◌&&◌, ℕ, ◌+◌, take, drop}
+use Rattle.codec.specs.Header.{bit}
 use Rattle.path.specs.Record.{Path}
 use Rattle.range_3d.specs.declared.Range.{Range}
+use Rattle.range_3d.specs.declared.Range3dHead.{Range3dHead}
 use Rattle.range_3d.specs.Record.{Range3d}
 use Rattle.path.specs.Flat.{path_size, path_flat, path_in}
 use Rattle.flat.specs.Optional.{option_flat, option_marked, option_in}
@@ -29,6 +31,10 @@ paths_flat p = path_flat p.start ++ option_flat path_size path_flat p.end
 
 unfoldable pub range_flat : Range3d → List ℕ
 range_flat r = subspaces_flat r.subspaces ++ (paths_flat r.paths ++ times_flat r.times)
+
+-- a head and two paths as they are stored: the second stands after its mark, whatever the mark says
+unfoldable pub range_stored : Range3dHead → Path → Path → List ℕ
+range_stored h start end = subspaces_flat h.subspaces ++ ((path_flat start ++ (bit h.end_open ∷ path_flat end)) ++ times_flat h.times)
 
 -- every mark is 0 or 1, and beside the mark of an open end stand zeros
 unfoldable pub range_marked : List ℕ → Bool

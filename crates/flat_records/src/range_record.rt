@@ -1,8 +1,9 @@
 // A 3d range: subspace start, mark, end; path start, mark, end; times. The marks say that an end is open.
-ghost use Rattle.std.specs.Prelude.{◌≡◌, ◌↔◌, false, length, take, drop, IfOk, IsErr};
+ghost use Rattle.std.specs.Prelude.{◌≡◌, ◌↔◌, [], true, false, length, take, drop, IfOk, IsErr};
+ghost use Rattle.path.specs.Record.{path_from};
 ghost use Rattle.path.specs.Flat.{path_size, path_in};
 ghost use Rattle.range_3d.specs.Record.{head_of, range_with, range_lent};
-ghost use Rattle.flat.specs.RangeRecord.{range_path_end, range_marked, range_in, range_flat};
+ghost use Rattle.flat.specs.RangeRecord.{range_path_end, range_marked, range_in, range_flat, range_stored};
 
 use codec::Malformed;
 use range_3d::{PathRange, Range3d, Range3dHead, SubspaceRange};
@@ -77,18 +78,20 @@ pub fn load<'a>(flat: &'a [u8; SIZE]) -> Result<Range3d<'a>, Malformed>
     })
 }
 
-// Stores a 3d range by its head and the records of its paths.
+// Stores a 3d range by its head and the records of its paths; the second is stored as it is, also beside an open end.
 pub fn store(
     flat: &mut [u8; SIZE],
     head: Range3dHead,
     start: &[u8; path::lent::SIZE],
     end: &[u8; path::lent::SIZE],
 )
-    ensures { flat.new ≡ range_flat (range_with head (path_in start.now) (path_in end.now)) }
+    ensures stored { flat.new ≡ range_stored head (path_in start.now) (path_in end.now) }
+    ensures range { (head.end_open ≡ true → path_in end.now ≡ path_from []) → flat.new ≡ range_flat (range_with head (path_in start.now) (path_in end.now)) }
 {
     crate::put(flat, &head.subspaces.start);
     crate::put_optional(&mut flat[SUBSPACE_END..], head.subspaces.end.as_ref());
     crate::put(&mut flat[PATH_START..], start);
-    crate::put_optional(&mut flat[PATH_OPEN..], (!head.end_open).then_some(end));
+    flat[PATH_OPEN] = u8::from(head.end_open);
+    crate::put(&mut flat[PATH_END..], end);
     crate::times::put_times(&mut flat[TIMES..], head.times);
 }
