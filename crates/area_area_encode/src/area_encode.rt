@@ -33,7 +33,7 @@ fn put_start(buffer: &mut [u8], area: AreaHead, reference: AreaHead) -> usize
     buffer[0] = area_times::header_byte(written, area.times, reference.times);
     let id = subspace_bytes(&area.subspace, reference.subspace);
     let end = HEADER_LENGTH + id.len();
-    buffer[HEADER_LENGTH..end].copy_from_slice(id);
+    byte_codec::put_bytes(&mut buffer[HEADER_LENGTH..end], id).unwrap();
     end
 }
 

@@ -90,7 +90,7 @@ impl<'a> Difference<'a> {
         );
         let id = id_bytes(&self.fields.subspace_id, subspace);
         let end = HEADER_LENGTH + id.len();
-        buffer[HEADER_LENGTH..end].copy_from_slice(id);
+        byte_codec::put_bytes(&mut buffer[HEADER_LENGTH..end], id).unwrap();
         end
     }
 

@@ -103,8 +103,8 @@ impl<'a> Difference<'a> {
         let subspace = id_bytes(&self.fields.subspace_id, self.reference.subspace_id);
         let n = namespace.len();
         let whole = n + subspace.len();
-        buffer[..n].copy_from_slice(namespace);
-        buffer[n..whole].copy_from_slice(subspace);
+        byte_codec::put_bytes(&mut buffer[..n], namespace).unwrap();
+        byte_codec::put_bytes(&mut buffer[n..whole], subspace).unwrap();
         whole
     }
 

@@ -14,9 +14,13 @@ fn put_prefix(out: &mut [u8; lent::SIZE], path: &[u8], k: usize, total: usize)
     ensures { out.new ≡ record_more 0 0 (take k (components_of (path_in path.now))) out.old }
 {
     let end = lent::BYTES + total;
-    out[lent::BYTES..end].copy_from_slice(&path[lent::BYTES..end]);
     let lengths_end = lent::LENGTHS + 2 * k;
-    out[lent::LENGTHS..lengths_end].copy_from_slice(&path[lent::LENGTHS..lengths_end]);
+    byte_codec::put_bytes(&mut out[lent::BYTES..end], &path[lent::BYTES..end]).unwrap();
+    byte_codec::put_bytes(
+        &mut out[lent::LENGTHS..lengths_end],
+        &path[lent::LENGTHS..lengths_end],
+    )
+    .unwrap();
     out[0] = k as u8;
 }
 
@@ -45,7 +49,7 @@ impl PathBuilder {
         ensures { out.new ≡ record_more self.total self.count (component.now ∷ []) out.old }
     {
         let at = lent::BYTES + self.total;
-        out[at..at + component.len()].copy_from_slice(component);
+        byte_codec::put_bytes(&mut out[at..at + component.len()], component).unwrap();
         let length_at = lent::LENGTHS + 2 * self.count;
         out[length_at..length_at + 2].copy_from_slice(&(component.len() as u16).to_be_bytes());
         out[0] = (self.count + 1) as u8;

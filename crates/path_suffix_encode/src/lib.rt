@@ -19,7 +19,7 @@ fn put_sized(buffer: &mut [u8], s: &[u8]) -> usize
 {
     let n = compact_u64::encode(buffer, s.len() as u64).unwrap();
     let end = n + s.len();
-    buffer[n..end].copy_from_slice(s);
+    byte_codec::put_bytes(&mut buffer[n..end], s).unwrap();
     end
 }
 

@@ -85,7 +85,7 @@ impl<'a> Suffix<'a> {
             from = to;
         }
         let len = path::lent::component_len(path, n - 1);
-        buffer[at..at + len].copy_from_slice(&bytes[from..from + len]);
+        byte_codec::put_bytes(&mut buffer[at..at + len], &bytes[from..from + len]).unwrap();
     }
 
     // How many bytes the suffix takes.

@@ -35,11 +35,11 @@ pub returns-in_err-put_bytes : goal.returns-in_err-put_bytes
 returns-in_err-put_bytes c =
     let a = c.args in
     let bytes = end_apart a.times a.end _ c.difference-time.ensures in
-    absurd (second_not_refused _ _ a.buffer.now bytes c.relative_len_of_encoding-whole.ensures.0 c.if-buffer-whole.false c.in_ok-n.ensures.0 _ c.relative_encode_pair.auto.buffer c.in_err-put_bytes.ensures.0)
+    absurd (second_not_refused _ _ a.buffer.now bytes c.relative_len_of_encoding-whole.ensures.0 c.if-buffer-whole.false c.in_ok-n.ensures.0 _ c.relative_encode_pair.auto.buffer c.in_err-put_bytes.ensures.put.0)
 
 pub returns : goal.returns
 returns c =
     let a = c.args in
     let bytes = end_apart a.times a.end _ c.difference-time.ensures in
-    let w = both_put _ _ a.buffer.now bytes c.relative_len_of_encoding-whole.ensures.0 c.if-buffer-whole.false c.in_ok-n.ensures.0 _ c.relative_encode_pair.auto.buffer c.relative_encode_pair.ensures.1 _ c.put_bytes.ensures.1 in
+    let w = both_put _ _ a.buffer.now bytes c.relative_len_of_encoding-whole.ensures.0 c.if-buffer-whole.false c.in_ok-n.ensures.0 _ c.relative_encode_pair.auto.buffer c.relative_encode_pair.ensures.1 _ c.put_bytes.ensures.put.1 in
     record { fits = λ room. (put_done (end_of a.times a.end) _ (Ok c.relative_len_of_encoding-whole.result) room w.0, w.1 ∙ put_over (end_of a.times a.end) a.buffer.now room); writes = w }

@@ -1,4 +1,5 @@
 use Rattle.codec.proofs.Prelude.{◌≡◌, refl, arith, length, length-append}
+use Rattle.std.proofs.Common.{rules}
 use Rattle.compact_u64.specs.Number.{standalone_bytes}
 use Rattle.path_suffix.proofs.Writing.{length_put, sized_put}
 use Rattle.path_suffix_encode.proofs.put_sized.Goals as goal
@@ -15,8 +16,8 @@ overflow_add-end c =
     let n : c.unwrap-n.result ≡ length (standalone_bytes (length a.s.now)) = cc in
     omega (arith, n, length-append (standalone_bytes (length a.s.now)) a.s.now, c.requires)
 
-pub slice_bounds-copy_from_slice-end : goal.slice_bounds-copy_from_slice-end
-slice_bounds-copy_from_slice-end c =
+pub slice_bounds-put_bytes-end : goal.slice_bounds-put_bytes-end
+slice_bounds-put_bytes-end c =
     let a = c.args in
     let told = length_put a.s.now a.buffer.now c.requires c.encode.result c.encode.ensures.0 in
     let n : c.unwrap-n.result ≡ length (standalone_bytes (length a.s.now)) = cc in
@@ -28,5 +29,5 @@ returns c =
     let told = length_put a.s.now a.buffer.now c.requires c.encode.result c.encode.ensures.0 in
     let n : c.unwrap-n.result ≡ length (standalone_bytes (length a.s.now)) = cc in (
       omega (arith, n, length-append (standalone_bytes (length a.s.now)) a.s.now),
-      sized_put a.s.now a.buffer.now c.requires _ _ n (omega arith) c.encode.ensures.1 c.copy_from_slice.ensures.after,
+      sized_put a.s.now a.buffer.now c.requires _ _ n (omega arith) c.encode.ensures.1 (c.put_bytes.ensures.whole (search rules)).1,
     )

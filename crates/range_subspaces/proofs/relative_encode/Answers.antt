@@ -16,28 +16,28 @@ pub returns-in_err-n : goal.returns-in_err-n
 returns-in_err-n c =
     let a = c.args in
     let bytes = bytes_of a.reference a.subspaces c.id_bytes.ensures.0 refl in
-    absurd (first_not_refused _ _ a.buffer.now bytes c.relative_len_of_encoding-whole.ensures.0 c.if-buffer-whole.false c.in_err-n.ensures.0)
+    absurd (first_not_refused _ _ a.buffer.now bytes c.relative_len_of_encoding-whole.ensures.0 c.if-buffer-whole.false c.in_err-n.ensures.put.0)
 
 pub slice_bounds-put_bytes-count : goal.slice_bounds-put_bytes-count
 slice_bounds-put_bytes-count c =
     let a = c.args in
     let bytes = bytes_of a.reference a.subspaces c.id_bytes.ensures.0 refl in
-    second_starts _ _ a.buffer.now bytes c.relative_len_of_encoding-whole.ensures.0 c.if-buffer-whole.false c.in_ok-n.ensures.0 _ c.put_bytes.auto.buffer
+    second_starts _ _ a.buffer.now bytes c.relative_len_of_encoding-whole.ensures.0 c.if-buffer-whole.false c.in_ok-n.ensures.put.0 _ c.put_bytes.auto.buffer
 
 pub slice_bounds-put_bytes-start : goal.slice_bounds-put_bytes-start
 slice_bounds-put_bytes-start c =
     let a = c.args in
     let bytes = bytes_of a.reference a.subspaces c.id_bytes.ensures.0 refl in
-    second_starts _ _ a.buffer.now bytes c.relative_len_of_encoding-whole.ensures.0 c.if-buffer-whole.false c.in_ok-n.ensures.0 _ c.put_bytes.auto.buffer
+    second_starts _ _ a.buffer.now bytes c.relative_len_of_encoding-whole.ensures.0 c.if-buffer-whole.false c.in_ok-n.ensures.put.0 _ c.put_bytes.auto.buffer
 
 pub returns-in_err-put_bytes : goal.returns-in_err-put_bytes
 returns-in_err-put_bytes c =
     let a = c.args in
     let bytes = bytes_of a.reference a.subspaces c.id_bytes.ensures.0 c.end_bytes.ensures.0 in
-    absurd (second_not_refused _ _ a.buffer.now bytes c.relative_len_of_encoding-whole.ensures.0 c.if-buffer-whole.false c.in_ok-n.ensures.0 _ c.put_bytes.auto.buffer c.in_err-put_bytes.ensures.0)
+    absurd (second_not_refused _ _ a.buffer.now bytes c.relative_len_of_encoding-whole.ensures.0 c.if-buffer-whole.false c.in_ok-n.ensures.put.0 _ c.put_bytes.auto.buffer c.in_err-put_bytes.ensures.put.0)
 
 pub returns : goal.returns
 returns c =
     let a = c.args in
     let bytes = bytes_of a.reference a.subspaces c.id_bytes.ensures.0 c.end_bytes.ensures.0 in
-    both_put _ _ a.buffer.now bytes c.relative_len_of_encoding-whole.ensures.0 c.if-buffer-whole.false c.in_ok-n.ensures.0 _ c.put_bytes.auto.buffer c.put_bytes.ensures.1 _ c.put_bytes-2.ensures.1
+    both_put _ _ a.buffer.now bytes c.relative_len_of_encoding-whole.ensures.0 c.if-buffer-whole.false c.in_ok-n.ensures.put.0 _ c.put_bytes.auto.buffer c.put_bytes.ensures.put.1 _ c.put_bytes-2.ensures.put.1

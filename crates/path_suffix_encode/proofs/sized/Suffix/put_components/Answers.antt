@@ -1,4 +1,5 @@
 use Rattle.codec.proofs.Prelude.{refl, ◌≡◌, ◌-◌, ◌∙◌, arith}
+use Rattle.std.proofs.Common.{rules}
 use Rattle.path.proofs.Components.{sized_formed}
 use Rattle.path.proofs.Records.{lent_known, span_start}
 use Rattle.path_suffix_encode.proofs.Records.{turn_ends, turn_inside, turn_part, turn_room, turn_next, turn_fits, turn_last}
@@ -40,8 +41,8 @@ overflow_add-at-2 c =
     let len = rw (← i) at c.component_len-len.ensures in
     omega (arith, turn_fits c.args.self.path.now c.args.self.leads c.count-n.ensures c.loop-i.invariant len c.requires (omega arith))
 
-pub slice_bounds-copy_from_slice-end : goal.slice_bounds-copy_from_slice-end
-slice_bounds-copy_from_slice-end c =
+pub slice_bounds-put_bytes-end : goal.slice_bounds-put_bytes-end
+slice_bounds-put_bytes-end c =
     let i : c.loop-i.i ≡ c.count-n.result - 1 = omega arith in
     let len = rw (← i) at c.component_len-len.ensures in
     omega (arith, turn_fits c.args.self.path.now c.args.self.leads c.count-n.ensures c.loop-i.invariant len c.requires (omega arith))
@@ -52,8 +53,8 @@ overflow_add-from c =
     let len = rw (← i) at c.component_len-len.ensures in
     omega (arith, turn_ends c.args.self.path.now c.args.self.leads c.count-n.ensures c.loop-i.invariant len)
 
-pub slice_bounds-copy_from_slice-end-2 : goal.slice_bounds-copy_from_slice-end-2
-slice_bounds-copy_from_slice-end-2 c =
+pub slice_bounds-put_bytes-end-2 : goal.slice_bounds-put_bytes-end-2
+slice_bounds-put_bytes-end-2 c =
     let i : c.loop-i.i ≡ c.count-n.result - 1 = omega arith in
     let len = rw (← i) at c.component_len-len.ensures in
     omega (arith, turn_inside c.args.self.path.now c.args.self.leads c.count-n.ensures c.loop-i.invariant len c.bytes-bytes.ensures)
@@ -63,4 +64,4 @@ returns c =
     let i : c.loop-i.i ≡ c.count-n.result - 1 = omega arith in
     let len = rw (← i) at c.component_len-len.ensures in
     let part = turn_part c.args.self.path.now c.args.self.leads c.count-n.ensures c.loop-i.invariant len c.bytes-bytes.ensures in
-    turn_last c.args.self.path.now c.args.self.leads c.count-n.ensures c.loop-i.invariant len c.requires (omega arith) (omega arith) (c.copy_from_slice.ensures.after ∙ part)
+    turn_last c.args.self.path.now c.args.self.leads c.count-n.ensures c.loop-i.invariant len c.requires (omega arith) (omega arith) ((c.put_bytes.ensures.whole (search rules)).1 ∙ part)
