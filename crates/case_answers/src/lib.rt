@@ -10,7 +10,7 @@ ghost use Rattle.case_answers.specs.Lines.{kind_line, line_answer, answer_to};
 
 use byte_codec::same_bytes;
 use case_paths::Encoding;
-use case_text::{Answer, fields, put};
+use case_text::{Answer, Buffer, fields, put};
 use text::Writer;
 
 // The longest line, its newline not counted.
@@ -18,27 +18,27 @@ pub const MAX_LINE: usize = 2 * case_text::MAX_BYTES;
 
 // What a line of the kind that its first field names is answered.
 #[tactic(auto, unfolding(crate::specs::Lines::kind_line))]
-fn by_kind(kind: &[u8], line: &[u8]) -> Option<Answer>
+fn by_kind<'a>(kind: &[u8], line: &[u8], buffer: &'a mut Buffer) -> Option<Answer<'a>>
     ensures { on_field result answer_text ≡ kind_line kind.now line.now }
 {
     if same_bytes(kind, b"number") {
-        case_numbers::number(line)
+        case_numbers::number(line, buffer)
     } else if same_bytes(kind, b"standalone") {
-        case_numbers::standalone(line)
+        case_numbers::standalone(line, buffer)
     } else if same_bytes(kind, b"path") {
-        case_paths::plain(line)
+        case_paths::plain(line, buffer)
     } else if same_bytes(kind, b"path_path") {
-        case_paths::relative(line, Encoding::Against)
+        case_paths::relative(line, Encoding::Against, buffer)
     } else if same_bytes(kind, b"path_extends") {
-        case_paths::relative(line, Encoding::Extends)
+        case_paths::relative(line, Encoding::Extends, buffer)
     } else if same_bytes(kind, b"area_area") {
-        case_areas::area(line)
+        case_areas::area(line, buffer)
     } else if same_bytes(kind, b"entry_area") {
-        case_entries::entry(line)
+        case_entries::entry(line, buffer)
     } else if same_bytes(kind, b"entry_entry") {
-        case_entry_entry::entry(line)
+        case_entry_entry::entry(line, buffer)
     } else if same_bytes(kind, b"range3d_range3d") {
-        case_ranges::range(line)
+        case_ranges::range(line, buffer)
     } else if same_bytes(kind, b"raw") {
         case_paths::raw::raw(line)
     } else {
@@ -47,13 +47,13 @@ fn by_kind(kind: &[u8], line: &[u8]) -> Option<Answer>
 }
 
 // What a line is answered.
-fn line_answer(line: &[u8]) -> Option<Answer>
+fn line_answer<'a>(line: &[u8], buffer: &'a mut Buffer) -> Option<Answer<'a>>
     ensures { on_field result answer_text ≡ line_answer line.now }
 {
     if MAX_LINE < line.len() {
         return None;
     }
-    by_kind(fields::part(line, 0), line)
+    by_kind(fields::part(line, 0), line, buffer)
 }
 
 // Puts the answer to a line; where fewer than MAX_ANSWER bytes are free, nothing changes.
@@ -62,5 +62,6 @@ pub fn answer(line: &[u8], text: &mut Writer<'_>)
     ensures put { Answers (answer_to line.now) text.old text.new }
     ensures same { Keeps text.old text.new }
 {
-    put::answer(text, line_answer(line));
+    let mut buffer = [0u8; case_text::MAX_BYTES];
+    put::answer(text, line_answer(line, &mut buffer));
 }

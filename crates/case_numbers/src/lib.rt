@@ -2,17 +2,17 @@
 
 #![tactic(auto)]
 
-ghost use Rattle.std.specs.Prelude.{◌≡◌, length, option_map};
+ghost use Rattle.std.specs.Prelude.{◌≡◌, ◌≤◌, length, option_map};
 ghost use Rattle.codec.specs.Format.{allowed, put_answer, put_buffer};
 ghost use Rattle.compact_u64.specs.Answers.{bits};
 ghost use Rattle.compact_u64.specs.Number.{min_tag, number_bytes};
 ghost use Rattle.case_text.specs.Texts.{written_number_text};
-ghost use Rattle.case_text.specs.Bytes.{bytes_of};
+ghost use Rattle.case_text.specs.Limits.{max_bytes};
 ghost use Rattle.case_text.specs.Fields.{on_field};
 ghost use Rattle.case_text.specs.Answers.{answer_text};
 ghost use Rattle.case_numbers.specs.Lines.{width_of, tagged_line, standalone_line};
 
-use case_text::{Answer, Asked, Bytes, fields};
+use case_text::{Answer, Asked, Buffer, Text, fields};
 use compact_u64::TagWidth;
 
 // The width of a number's tag.
@@ -27,10 +27,12 @@ fn width(field: &[u8]) -> Option<TagWidth>
 }
 
 // Writes a number into a lent buffer; its tag is told too.
-fn write(mut lent: Bytes, width: TagWidth, value: u64) -> Answer
-    ensures { answer_text result ≡ written_number_text (put_answer allowed (number_bytes (bits width) value) (length (bytes_of lent))) (min_tag (bits width) value) (put_buffer allowed (number_bytes (bits width) value) (bytes_of lent)) }
+fn write<'a>(lent: &'a mut [u8], width: TagWidth, value: u64) -> Answer<'a>
+    requires { length lent.old ≤ max_bytes }
+    ensures { answer_text result ≡ written_number_text (put_answer allowed (number_bytes (bits width) value) (length lent.old)) (min_tag (bits width) value) (put_buffer allowed (number_bytes (bits width) value) lent.old) }
 {
-    let outcome = compact_u64::relative_encode(lent.as_mut_slice(), width, value);
+    let outcome = compact_u64::relative_encode(lent, width, value);
+    let lent = Text { bytes: lent };
     match outcome {
         Ok(len) => Answer::WrittenNumber {
             len,
@@ -42,26 +44,29 @@ fn write(mut lent: Bytes, width: TagWidth, value: u64) -> Answer
 }
 
 // Answers a line of a number after its tag. The tag stands where a number to write or measure does.
-pub fn number(line: &[u8]) -> Option<Answer>
+pub fn number<'a>(line: &[u8], buffer: &'a mut Buffer) -> Option<Answer<'a>>
     ensures { on_field result answer_text ≡ tagged_line line.now }
 {
     let width = width(fields::part(line, 2))?;
     let value = fields::number(line, 3)?;
-    match fields::asked(line, 4, 4)? {
+    match fields::asked(line, 4, 4, buffer)? {
         Asked::Read(message) => {
             if width.tag_limit() <= value {
                 return None;
             }
-            Some(compact_u64::relative_decode(
-                message.bytes.as_slice(),
+            let read = compact_u64::relative_decode(
+                message.bytes_in(buffer),
                 message.start,
                 width,
                 value as u8,
                 message.canonic,
-            )
-            .map_or_else(Answer::NotRead, Answer::Number))
+            );
+            Some(match read {
+                Ok(number) => Answer::Number(number),
+                Err(error) => Answer::NotRead(error),
+            })
         }
-        Asked::Write(lent) => Some(write(lent, width, value)),
+        Asked::Write(len) => Some(write(&mut buffer[..len], width, value)),
         Asked::Length => Some(Answer::Length(Ok(compact_u64::relative_len_of_encoding(
             width, value,
         )))),
@@ -70,18 +75,23 @@ pub fn number(line: &[u8]) -> Option<Answer>
 
 // Answers a line of a number that stands alone.
 #[tactic(auto, unfolding(codec::specs::Format::length_answer))]
-pub fn standalone(line: &[u8]) -> Option<Answer>
+pub fn standalone<'a>(line: &[u8], buffer: &'a mut Buffer) -> Option<Answer<'a>>
     ensures { on_field result answer_text ≡ standalone_line line.now }
 {
-    Some(match fields::asked(line, 2, 3)? {
-        Asked::Read(message) => compact_u64::decode(
-            message.bytes.as_slice(),
-            message.start,
-            message.canonic,
-        ).map_or_else(Answer::NotRead, Answer::Number),
-        Asked::Write(mut lent) => {
+    Some(match fields::asked(line, 2, 3, buffer)? {
+        Asked::Read(message) => {
+            let bytes = message.bytes_in(buffer);
+            match compact_u64::decode(bytes, message.start, message.canonic) {
+                Ok(number) => Answer::Number(number),
+                Err(error) => Answer::NotRead(error),
+            }
+        }
+        Asked::Write(len) => {
             let value = fields::number(line, 2)?;
-            let outcome = compact_u64::encode(lent.as_mut_slice(), value);
+            let outcome = compact_u64::encode(&mut buffer[..len], value);
+            let lent = Text {
+                bytes: &buffer[..len],
+            };
             Answer::Written { outcome, lent }
         }
         Asked::Length => {

@@ -14,7 +14,7 @@ ghost use Rattle.case_text.specs.Fields.{on_field};
 ghost use Rattle.case_text.specs.Answers.{answer_text};
 ghost use Rattle.case_paths.specs.Lines.{encoding_reader, encoding_format, encoding_line, plain_line, relative_line};
 
-use case_text::{Answer, Asked, Bytes, MAX_BYTES, Message, fields};
+use case_text::{Answer, Asked, Buffer, Bytes, MAX_BYTES, Message, Text, fields};
 use codec::{DecodeError, EncodeError};
 use path::Path;
 use text::Writer;
@@ -31,15 +31,16 @@ pub enum Encoding {
 
 fn decode(
     encoding: Encoding,
-    message: &Message,
+    message: Message,
+    buffer: &[u8],
     reference: &[u8],
     out: &mut [u8; path::lent::SIZE],
 ) -> Result<usize, DecodeError>
-    ensures { Gives (path_from []) result (path_in out.new) (encoding_reader encoding (path_in reference.now) message.now.canonic (rest_of message.now)) }
+    ensures { Gives (path_from []) result (path_in out.new) (encoding_reader encoding (path_in reference.now) message.canonic (rest_of message buffer.now)) }
 {
     let canonic = message.canonic;
     let start = message.start;
-    let message = message.bytes.as_slice();
+    let message = message.bytes_in(buffer);
     match encoding {
         Encoding::Plain => path_codec::decode(message, start, canonic, out),
         Encoding::Against => path_relative_decode::relative_decode(
@@ -90,30 +91,44 @@ fn print(path: &[u8]) -> Bytes
 }
 
 // Reads a path from a message, and prints it.
-fn read(encoding: Encoding, message: &Message, reference: &[u8]) -> Answer
-    ensures { answer_text result ≡ read_text path_text_of (encoding_reader encoding (path_in reference.now) message.now.canonic (rest_of message.now)) }
+fn read<'a>(
+    encoding: Encoding,
+    message: Message,
+    reference: &[u8],
+    buffer: &'a mut Buffer,
+) -> Answer<'a>
+    ensures { answer_text result ≡ read_text path_text_of (encoding_reader encoding (path_in reference.now) message.canonic (rest_of message buffer.old)) }
 {
     let mut path = [0u8; path::lent::SIZE];
-    match decode(encoding, message, reference, &mut path) {
+    match decode(encoding, message, buffer, reference, &mut path) {
         Ok(consumed) => Answer::Read {
             consumed,
-            text: print(&path),
+            text: print(&path).copy_to(buffer),
         },
         Err(error) => Answer::NotRead(error),
     }
 }
 
 // Answers a line whose path, or start and message, stand from the i-th field on.
-fn answer(line: &[u8], encoding: Encoding, i: u8, reference: Path) -> Option<Answer>
+fn answer<'a>(
+    line: &[u8],
+    encoding: Encoding,
+    i: u8,
+    reference: Path,
+    buffer: &'a mut Buffer,
+) -> Option<Answer<'a>>
     requires { i ≤ 3 }
     ensures { on_field result answer_text ≡ encoding_line encoding (path_in reference.flat) i line.now }
 {
-    Some(match fields::asked(line, i, i + 1)? {
-        Asked::Read(message) => read(encoding, &message, &reference.flat),
-        Asked::Write(mut lent) => {
+    Some(match fields::asked(line, i, i + 1, buffer)? {
+        Asked::Read(message) => read(encoding, message, &reference.flat, buffer),
+        Asked::Write(len) => {
             let path = fields::path(line, usize::from(i))?;
-            let buffer = lent.as_mut_slice();
-            let outcome = encode(encoding, buffer, &path.flat, &reference.flat);
+            let lent = &mut buffer[..len];
+            let outcome = encode(encoding, lent, &path.flat, &reference.flat);
+            let lent = Text {
+                bytes: &buffer[..len],
+            };
             Answer::Written { outcome, lent }
         }
         Asked::Length => {
@@ -124,16 +139,16 @@ fn answer(line: &[u8], encoding: Encoding, i: u8, reference: Path) -> Option<Ans
 }
 
 // Answers a line of a plain path.
-pub fn plain(line: &[u8]) -> Option<Answer>
+pub fn plain<'a>(line: &[u8], buffer: &'a mut Buffer) -> Option<Answer<'a>>
     ensures { on_field result answer_text ≡ plain_line line.now }
 {
-    answer(line, Encoding::Plain, 2, Path::new_empty())
+    answer(line, Encoding::Plain, 2, Path::new_empty(), buffer)
 }
 
 // Answers a line of a path against a reference, which stands before the other fields.
-pub fn relative(line: &[u8], encoding: Encoding) -> Option<Answer>
+pub fn relative<'a>(line: &[u8], encoding: Encoding, buffer: &'a mut Buffer) -> Option<Answer<'a>>
     ensures { on_field result answer_text ≡ relative_line encoding line.now }
 {
     let reference = fields::path(line, 2)?;
-    answer(line, encoding, 3, reference)
+    answer(line, encoding, 3, reference, buffer)
 }

@@ -87,7 +87,7 @@ fn raw_len(
 }
 
 // Answers a line of raw parts.
-pub fn raw(line: &[u8]) -> Option<Answer>
+pub fn raw(line: &[u8]) -> Option<Answer<'static>>
     ensures { on_field result answer_text ≡ raw_line line.now }
 {
     if fields::count(line) != 4 {

@@ -12,17 +12,17 @@ ghost use Rattle.case_text.specs.Fields.{on_field};
 ghost use Rattle.case_text.specs.Answers.{answer_text};
 ghost use Rattle.case_ranges.specs.Lines.{range_line};
 
-use case_text::{Answer, Asked, Message, fields};
+use case_text::{Answer, Asked, Buffer, Message, Text, fields};
 use range_3d::{PathRange, Range3d};
 
 // Reads a 3d range from a message, and prints it.
-fn read<'a>(message: &Message, reference: Range3d<'a>) -> Answer
-    ensures { answer_text result ≡ read_text range_text (read_against_range (range_lent reference.entry) (rest_of message.now)) }
+fn read<'a>(message: Message, reference: Range3d<'_>, buffer: &'a mut Buffer) -> Answer<'a>
+    ensures { answer_text result ≡ read_text range_text (read_against_range (range_lent reference.entry) (rest_of message buffer.old)) }
 {
     let mut start = [0u8; path::lent::SIZE];
     let mut end = [0u8; path::lent::SIZE];
     match range3d_range3d_decode::relative_decode(
-        message.bytes.as_slice(),
+        message.bytes_in(buffer),
         message.start,
         reference,
         &mut start,
@@ -40,7 +40,8 @@ fn read<'a>(message: &Message, reference: Range3d<'a>) -> Answer
                     subspaces: head.subspaces,
                     paths,
                     times: head.times,
-                }),
+                })
+                .copy_to(buffer),
             }
         }
         Err(error) => Answer::NotRead(error),
@@ -48,24 +49,27 @@ fn read<'a>(message: &Message, reference: Range3d<'a>) -> Answer
 }
 
 // Answers a line of a 3d range against a reference, which stands before the other fields. No strict reading is asked for.
-pub fn range(line: &[u8]) -> Option<Answer>
+pub fn range<'a>(line: &[u8], buffer: &'a mut Buffer) -> Option<Answer<'a>>
     ensures { on_field result answer_text ≡ range_line line.now }
 {
     let reference = case_range_text::read_range(line, 2)?;
-    Some(match fields::asked(line, 8, 14)? {
+    Some(match fields::asked(line, 8, 14, buffer)? {
         Asked::Read(message) => {
             if message.canonic {
                 return None;
             }
-            read(&message, reference.range())
+            read(message, reference.range(), buffer)
         }
-        Asked::Write(mut lent) => {
+        Asked::Write(len) => {
             let range = case_range_text::read_range(line, 8)?;
             let outcome = range3d_range3d_encode::relative_encode(
-                lent.as_mut_slice(),
+                &mut buffer[..len],
                 range.range(),
                 reference.range(),
             );
+            let lent = Text {
+                bytes: &buffer[..len],
+            };
             Answer::Written { outcome, lent }
         }
         Asked::Length => {

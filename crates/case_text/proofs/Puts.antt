@@ -5,12 +5,14 @@ use Rattle.text.proofs.Buffer.{over_at_then, over_at_long, put_at_fits}
 use Rattle.text.specs.Hex.{hex_text}
 use Rattle.text.proofs.HexSteps.{hex_text_long}
 use Rattle.case_text.specs.Limits.{max_bytes}
+use Rattle.case_text.specs.declared.texts.Text.{Text}
+use Rattle.case_text.specs.Bytes.{text_of}
 use Rattle.case_text.specs.Texts.{after_tab}
 use Rattle.case_text.specs.Answers.{PutsText, PutsWithin}
 
 -- ---- how long texts are at most
-pub hex_few : (s : List ℕ) → length s ≤ max_bytes → length (hex_text s) ≤ 2 * max_bytes
-hex_few s few = rw hex_text_long (omega (arith, few))
+pub hex_few : (t : Text) → length (hex_text (text_of t)) ≤ 2 * max_bytes
+hex_few t = rw hex_text_long (omega (arith, t.few))
 
 -- ---- a put of the crate text, where there is room
 pub puts_fits : {at r : ℕ} (t : List ℕ) {l l' : List ℕ} → at + length t ≤ length l → (r ≡ place_after at t l) × (l' ≡ put_at at t l) → PutsText at t l l' r

@@ -8,16 +8,16 @@ use Rattle.text.specs.declared.Writer.{Writer}
 use Rattle.case_text.specs.declared.Answer.{Answer}
 use Rattle.case_text.specs.declared.Answer.TheVariants as answer
 use Rattle.case_text.specs.Limits.{max_answer}
-use Rattle.case_text.specs.Bytes.{bytes_of}
+use Rattle.case_text.specs.Bytes.{text_of}
 use Rattle.case_text.specs.Texts.{ok_text, no_text, after_tab, length_text, written_text}
 
 -- the text of an answer
 abbrev pub answer_text : Answer → List ℕ
-answer_text (answer.Read consumed text) = ok_text consumed ++ after_tab (bytes_of text)
+answer_text (answer.Read consumed text) = ok_text consumed ++ after_tab (text_of text)
 answer_text (answer.Number d) = ok_text d.consumed ++ after_tab (decimal_text d.value)
 answer_text (answer.NotRead e) = no_text (decode_number e)
-answer_text (answer.Written outcome lent) = written_text (outcome_of outcome) (bytes_of lent)
-answer_text (answer.WrittenNumber n tag lent) = ok_text n ++ (after_tab (decimal_text tag) ++ after_tab (hex_text (bytes_of lent)))
+answer_text (answer.Written outcome lent) = written_text (outcome_of outcome) (text_of lent)
+answer_text (answer.WrittenNumber n tag lent) = ok_text n ++ (after_tab (decimal_text tag) ++ after_tab (hex_text (text_of lent)))
 answer_text (answer.Length outcome) = length_text (outcome_of outcome)
 
 -- a text was put into the buffer l from a place on; it is now l', and r is the next place

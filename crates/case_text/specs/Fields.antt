@@ -32,9 +32,13 @@ decimal_field i line = told (read_decimal (field i line))
 abbrev pub id_field : ℕ → List ℕ → Option (List ℕ)
 id_field i line = read_id_text (field i line)
 
--- bytes in hex: a message or a lent buffer, all that a line can hold
+-- bytes in hex, at most `room` of them
+abbrev pub hex_field_in : ℕ → ℕ → List ℕ → Option (List ℕ)
+hex_field_in room i line = option_map (λ n. unhex (field i line)) (told (read_hex (field i line) room))
+
+-- a message or a lent buffer: all that a line can hold
 abbrev pub hex_field : ℕ → List ℕ → Option (List ℕ)
-hex_field i line = option_map (λ n. unhex (field i line)) (told (read_hex (field i line) max_bytes))
+hex_field i line = hex_field_in max_bytes i line
 
 -- a path
 abbrev pub path_field : ℕ → List ℕ → Option Path

@@ -1,12 +1,11 @@
 // The fields of a line, parted by tabs.
-ghost use Rattle.std.specs.Prelude.{◌≡◌, length, option_map};
+ghost use Rattle.std.specs.Prelude.{◌≡◌, ◌≤◌, length, take, option_map, IfSome};
 ghost use Rattle.text.specs.Parts.{parts};
 ghost use Rattle.path.specs.Flat.{path_in};
-ghost use Rattle.case_text.specs.Bytes.{bytes_of};
-ghost use Rattle.case_text.specs.Fields.{field, decimal_field, id_field, hex_field, path_field, op_of};
-ghost use Rattle.case_text.specs.Asking.{request_of, request_read, request_write, asking};
+ghost use Rattle.case_text.specs.Fields.{field, decimal_field, id_field, hex_field_in, path_field, op_of};
+ghost use Rattle.case_text.specs.Asking.{request_of, request_read, request_write, asking, AskedInside};
 
-use crate::{Asked, Bytes, MAX_BYTES, Message, Op, first_bytes};
+use crate::{Asked, Message, Op};
 use path::Path;
 
 pub fn count(line: &[u8]) -> usize
@@ -43,13 +42,12 @@ pub fn path(line: &[u8], i: usize) -> Option<Path>
     path_text::read_path(part(line, i))
 }
 
-// The i-th field as bytes in hex.
-pub fn hex(line: &[u8], i: usize) -> Option<Bytes>
-    ensures { option_map bytes_of result ≡ hex_field i line.now }
+// The i-th field as bytes in hex, no more than the buffer has: how many, from its first byte on.
+pub fn hex(line: &[u8], i: usize, buffer: &mut [u8]) -> Option<usize>
+    ensures said { option_map (λ n. take n buffer.new) result ≡ hex_field_in (length buffer.old) i line.now }
+    ensures inside { IfSome result (λ n. n ≤ length buffer.new) }
 {
-    let mut bytes = [0u8; MAX_BYTES];
-    let len = text::read_hex(part(line, i), &mut bytes).ok()?;
-    Some(first_bytes(bytes, len))
+    text::read_hex(part(line, i), buffer).ok()
 }
 
 // The operation that a field names.
@@ -67,41 +65,44 @@ pub fn op(field: &[u8]) -> Option<Op>
 }
 
 // The i-th field as a start, and the next, which is the last, as a message.
-fn message(line: &[u8], i: u8, canonic: bool) -> Option<Asked>
-    ensures { option_map request_of result ≡ request_read i canonic line.now }
+fn message(line: &[u8], i: u8, canonic: bool, buffer: &mut [u8]) -> Option<Asked>
+    ensures said { option_map (request_of buffer.new) result ≡ request_read (length buffer.old) i canonic line.now }
+    ensures inside { IfSome result (AskedInside (length buffer.new)) }
 {
     let place = usize::from(i);
     if count(line) != place + 2 {
         return None;
     }
     let start = number(line, place)? as usize;
-    let bytes = hex(line, place + 1)?;
+    let len = hex(line, place + 1, buffer)?;
     Some(Asked::Read(Message {
         canonic,
         start,
-        bytes,
+        len,
     }))
 }
 
 // The j-th field, which is the last, as a lent buffer.
-fn lent(line: &[u8], j: u8) -> Option<Asked>
-    ensures { option_map request_of result ≡ request_write j line.now }
+fn lent(line: &[u8], j: u8, buffer: &mut [u8]) -> Option<Asked>
+    ensures said { option_map (request_of buffer.new) result ≡ request_write (length buffer.old) j line.now }
+    ensures inside { IfSome result (AskedInside (length buffer.new)) }
 {
     let place = usize::from(j);
     if count(line) != place + 1 {
         return None;
     }
-    Some(Asked::Write(hex(line, place)?))
+    Some(Asked::Write(hex(line, place, buffer)?))
 }
 
-// Reads all of a line but its reference and its value: the operation; start and message from the i-th field on; or the lent buffer, which is the j-th field, the one after the value.
-pub fn asked(line: &[u8], i: u8, j: u8) -> Option<Asked>
-    ensures { option_map request_of result ≡ asking i j line.now }
+// Reads all of a line but its reference and its value: the operation; start and message from the i-th field on; or the lent buffer, which is the j-th field, the one after the value. Message and lent buffer are read into `buffer`, and are no longer than it.
+pub fn asked(line: &[u8], i: u8, j: u8, buffer: &mut [u8]) -> Option<Asked>
+    ensures said { option_map (request_of buffer.new) result ≡ asking (length buffer.old) i j line.now }
+    ensures inside { IfSome result (AskedInside (length buffer.new)) }
 {
     match op(part(line, 1))? {
-        Op::Strict => message(line, i, true),
-        Op::Lenient => message(line, i, false),
-        Op::Write => lent(line, j),
+        Op::Strict => message(line, i, true, buffer),
+        Op::Lenient => message(line, i, false, buffer),
+        Op::Write => lent(line, j, buffer),
         Op::Length => (count(line) == usize::from(j)).then_some(Asked::Length),
     }
 }

@@ -5,12 +5,12 @@ ghost use Rattle.text.specs.Decimal.{decimal_text};
 ghost use Rattle.text.specs.Writer.{Keeps};
 ghost use Rattle.text.specs.Hex.{hex_text};
 ghost use Rattle.case_text.specs.Limits.{max_bytes, max_answer};
-ghost use Rattle.case_text.specs.Bytes.{bytes_of};
+ghost use Rattle.case_text.specs.Bytes.{text_of};
 ghost use Rattle.case_text.specs.Texts.{ok_text, no_text, after_tab, ended, length_text};
 ghost use Rattle.case_text.specs.Fields.{on_field};
 ghost use Rattle.case_text.specs.Answers.{answer_text, Puts, Answers};
 
-use crate::{Answer, Bytes, MAX_ANSWER};
+use crate::{Answer, MAX_ANSWER, Text};
 use codec::EncodeError;
 use text::Writer;
 
@@ -56,28 +56,28 @@ fn outcome(text: &mut Writer<'_>, outcome: Result<usize, EncodeError>)
 }
 
 // A lent buffer in hex, after a tab.
-fn tab_hex(text: &mut Writer<'_>, lent: &Bytes)
+fn tab_hex(text: &mut Writer<'_>, lent: &Text<'_>)
     requires { text.old.at + (1 + 2 * max_bytes) ≤ length text.old.out.now }
-    ensures put { Puts (after_tab (hex_text (bytes_of lent.now))) text.old text.new × (text.new.at ≤ text.old.at + (1 + 2 * max_bytes)) }
+    ensures put { Puts (after_tab (hex_text (text_of lent.now))) text.old text.new × (text.new.at ≤ text.old.at + (1 + 2 * max_bytes)) }
     ensures same { Keeps text.old text.new }
 {
     text.put_bytes(b"\t");
-    text.put_hex(lent.as_slice());
+    text.put_hex(lent.bytes);
 }
 
-fn tab_bytes(text: &mut Writer<'_>, value: &Bytes)
+fn tab_bytes(text: &mut Writer<'_>, value: &Text<'_>)
     requires { text.old.at + (1 + max_bytes) ≤ length text.old.out.now }
-    ensures put { Puts (after_tab (bytes_of value.now)) text.old text.new × (text.new.at ≤ text.old.at + (1 + max_bytes)) }
+    ensures put { Puts (after_tab (text_of value.now)) text.old text.new × (text.new.at ≤ text.old.at + (1 + max_bytes)) }
     ensures same { Keeps text.old text.new }
 {
     text.put_bytes(b"\t");
-    text.put_bytes(value.as_slice());
+    text.put_bytes(value.bytes);
 }
 
 // An answer, without the line's end.
-fn unended(text: &mut Writer<'_>, answer: Answer)
+fn unended(text: &mut Writer<'_>, answer: Answer<'_>)
     requires { text.old.at + max_answer ≤ length text.old.out.now }
-    ensures put { Puts (answer_text answer) text.old text.new × (text.new.at + 1 ≤ text.old.at + max_answer) }
+    ensures put { Puts (answer_text answer.entry) text.old text.new × (text.new.at + 1 ≤ text.old.at + max_answer) }
     ensures same { Keeps text.old text.new }
 {
     match answer {
@@ -110,8 +110,8 @@ fn unended(text: &mut Writer<'_>, answer: Answer)
 }
 
 // Puts the answer to a line, 6 for one that is not in its form; where fewer than MAX_ANSWER bytes are free, nothing changes.
-pub fn answer(text: &mut Writer<'_>, answer: Option<Answer>)
-    ensures put { Answers (ended (on_field answer answer_text)) text.old text.new }
+pub fn answer(text: &mut Writer<'_>, answer: Option<Answer<'_>>)
+    ensures put { Answers (ended (on_field answer.entry answer_text)) text.old text.new }
     ensures same { Keeps text.old text.new }
 {
     if text.free() < MAX_ANSWER {

@@ -8,39 +8,39 @@ ghost use Rattle.case_text.specs.Fields.{on_field};
 ghost use Rattle.case_text.specs.Answers.{answer_text, Answers};
 ghost use Rattle.listing.specs.Lines.{read_line, line_answer, answer_to};
 
-use case_text::{Answer, Message, Op, fields, put};
+use case_text::{Answer, Buffer, MAX_BYTES, Message, Op, fields, put};
 use text::Writer;
 
 // The longest line, its newline not counted.
 pub const MAX_LINE: usize = 4096;
 
 // Reads the area of a line in one of the modes.
-fn read_line(line: &[u8], canonic: bool) -> Option<Answer>
+fn read_line<'a>(line: &[u8], canonic: bool, buffer: &'a mut Buffer) -> Option<Answer<'a>>
     ensures { on_field result answer_text ≡ read_line canonic line.now }
 {
     if fields::count(line) != 6 {
         return None;
     }
     let reference = area_text::read_area(line, 1)?;
-    let bytes = fields::hex(line, 5)?;
+    let len = fields::hex(line, 5, buffer)?;
     let message = Message {
         canonic,
         start: 0,
-        bytes,
+        len,
     };
-    Some(case_areas::read(&message, reference.area()))
+    Some(case_areas::read(message, reference.area(), buffer))
 }
 
 // What a line is answered.
-fn line_answer(line: &[u8]) -> Option<Answer>
+fn line_answer<'a>(line: &[u8], buffer: &'a mut Buffer) -> Option<Answer<'a>>
     ensures { on_field result answer_text ≡ line_answer line.now }
 {
     if MAX_LINE < line.len() {
         return None;
     }
     match fields::op(fields::part(line, 0))? {
-        Op::Strict => read_line(line, true),
-        Op::Lenient => read_line(line, false),
+        Op::Strict => read_line(line, true, buffer),
+        Op::Lenient => read_line(line, false, buffer),
         Op::Write | Op::Length => None,
     }
 }
@@ -51,5 +51,6 @@ pub fn answer(line: &[u8], text: &mut Writer<'_>)
     ensures put { Answers (answer_to line.now) text.old text.new }
     ensures same { Keeps text.old text.new }
 {
-    put::answer(text, line_answer(line));
+    let mut buffer = [0u8; MAX_BYTES];
+    put::answer(text, line_answer(line, &mut buffer));
 }

@@ -1,11 +1,13 @@
-use Rattle.std.proofs.Common.{◌∙◌, sym}
-use Rattle.case_text.specs.Limits.{max_bytes}
-use Rattle.text.proofs.HexAnswers.{hex_some, bytes_are}
+use Rattle.std.proofs.Common.{◌≡◌, length, arith}
+use Rattle.case_text.proofs.HexFields.{hex_taken, hex_inside}
 use Rattle.case_text.proofs.fields.hex.Goals as goal
 
-pub returns : goal.returns
-returns c =
-    let s = c.part.result.now in
-    let n = c.in_ok-len.len in
-    let here = hex_some c.read_hex.result s max_bytes n (sym c.ok.ensures.value ∙ c.in_ok-len.was) c.read_hex.ensures.0 in
-    rw (c.first_bytes.ensures, c.read_hex.ensures.1, bytes_are s n _ here, ← c.part.ensures, ← here)
+pub returns-clause-said : goal.returns-clause-said
+returns-clause-said c =
+    let read = c.read_hex.ensures in
+    rw (c.ok.ensures.value, read.1, ← c.part.ensures) (hex_taken c.part.result.now c.args.buffer.now c.read_hex.result read.0)
+
+pub returns-clause-inside : goal.returns-clause-inside
+returns-clause-inside c =
+    let long : length c.read_hex.new.out ≡ length c.args.buffer.now = omega arith in
+    rw (c.ok.ensures.value, long) (hex_inside c.part.result.now c.args.buffer.now c.read_hex.result c.read_hex.ensures.0)

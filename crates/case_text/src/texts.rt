@@ -1,0 +1,40 @@
+// Texts of at most MAX_BYTES bytes.
+ghost use Rattle.std.specs.Prelude.{◌≤◌, length};
+ghost use Rattle.case_text.specs.Limits.{max_bytes};
+
+use crate::{Buffer, MAX_BYTES};
+
+// The first `len` bytes.
+#[derive(Clone, Copy)]
+pub struct Bytes {
+    pub bytes: [u8; MAX_BYTES],
+    pub len: usize,
+    ghost inside: { len ≤ max_bytes },
+}
+
+impl Bytes {
+    ghost use Rattle.std.specs.Prelude.{◌≡◌};
+    ghost use Rattle.case_text.specs.Bytes.{bytes_of, text_of};
+
+    pub fn as_slice(&self) -> &[u8]
+        ensures { result.now ≡ bytes_of self.now }
+    {
+        &self.bytes[..self.len]
+    }
+
+    // A copy at the start of a buffer.
+    pub fn copy_to<'a>(&self, buffer: &'a mut Buffer) -> Text<'a>
+        ensures { text_of result ≡ bytes_of self.now }
+    {
+        let bytes = &mut buffer[..self.len];
+        bytes.copy_from_slice(self.as_slice());
+        Text { bytes }
+    }
+}
+
+// Bytes that lie in a buffer.
+#[derive(Clone, Copy)]
+pub struct Text<'a> {
+    pub bytes: &'a [u8],
+    ghost few: { length bytes.now ≤ max_bytes },
+}
