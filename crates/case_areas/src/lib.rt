@@ -53,9 +53,7 @@ pub fn area<'a>(line: &[u8], buffer: &'a mut Buffer) -> Option<Answer<'a>>
                 area.area(),
                 reference.area(),
             );
-            let lent = Text {
-                bytes: &buffer[..len],
-            };
+            let lent = Text::first(buffer, len);
             Answer::Written { outcome, lent }
         }
         Asked::Length => {

@@ -57,9 +57,7 @@ pub fn entry<'a>(line: &[u8], buffer: &'a mut Buffer) -> Option<Answer<'a>>
                 entry.entry(),
                 reference.entry(),
             );
-            let lent = Text {
-                bytes: &buffer[..len],
-            };
+            let lent = Text::first(buffer, len);
             Answer::Written { outcome, lent }
         }
         Asked::Length => {

@@ -3,16 +3,19 @@
 #![tactic(auto)]
 
 ghost use Rattle.std.specs.Prelude.{◌≡◌, ◌≤◌, length, option_map};
+ghost use Rattle.codec.specs.Answers.{answer_of};
 ghost use Rattle.codec.specs.Format.{allowed, put_answer, put_buffer};
+ghost use Rattle.text.specs.Decimal.{decimal_text};
 ghost use Rattle.compact_u64.specs.Answers.{bits};
 ghost use Rattle.compact_u64.specs.Number.{min_tag, number_bytes};
-ghost use Rattle.case_text.specs.Texts.{written_number_text};
+ghost use Rattle.case_text.specs.Texts.{read_text, written_number_text};
 ghost use Rattle.case_text.specs.Limits.{max_bytes};
 ghost use Rattle.case_text.specs.Fields.{on_field};
 ghost use Rattle.case_text.specs.Answers.{answer_text};
 ghost use Rattle.case_numbers.specs.Lines.{width_of, tagged_line, standalone_line};
 
 use case_text::{Answer, Asked, Buffer, Text, fields};
+use codec::{DecodeError, Decoded};
 use compact_u64::TagWidth;
 
 // The width of a number's tag.
@@ -43,6 +46,16 @@ fn write<'a>(lent: &'a mut [u8], width: TagWidth, value: u64) -> Answer<'a>
     }
 }
 
+// What reading a number answers.
+fn read(number: Result<Decoded<u64>, DecodeError>) -> Answer<'static>
+    ensures { answer_text result ≡ read_text decimal_text (answer_of number) }
+{
+    match number {
+        Ok(number) => Answer::Number(number),
+        Err(error) => Answer::NotRead(error),
+    }
+}
+
 // Answers a line of a number after its tag. The tag stands where a number to write or measure does.
 pub fn number<'a>(line: &[u8], buffer: &'a mut Buffer) -> Option<Answer<'a>>
     ensures { on_field result answer_text ≡ tagged_line line.now }
@@ -54,17 +67,13 @@ pub fn number<'a>(line: &[u8], buffer: &'a mut Buffer) -> Option<Answer<'a>>
             if width.tag_limit() <= value {
                 return None;
             }
-            let read = compact_u64::relative_decode(
+            Some(read(compact_u64::relative_decode(
                 message.bytes_in(buffer),
                 message.start,
                 width,
                 value as u8,
                 message.canonic,
-            );
-            Some(match read {
-                Ok(number) => Answer::Number(number),
-                Err(error) => Answer::NotRead(error),
-            })
+            )))
         }
         Asked::Write(len) => Some(write(&mut buffer[..len], width, value)),
         Asked::Length => Some(Answer::Length(Ok(compact_u64::relative_len_of_encoding(
@@ -79,19 +88,15 @@ pub fn standalone<'a>(line: &[u8], buffer: &'a mut Buffer) -> Option<Answer<'a>>
     ensures { on_field result answer_text ≡ standalone_line line.now }
 {
     Some(match fields::asked(line, 2, 3, buffer)? {
-        Asked::Read(message) => {
-            let bytes = message.bytes_in(buffer);
-            match compact_u64::decode(bytes, message.start, message.canonic) {
-                Ok(number) => Answer::Number(number),
-                Err(error) => Answer::NotRead(error),
-            }
-        }
+        Asked::Read(message) => read(compact_u64::decode(
+            message.bytes_in(buffer),
+            message.start,
+            message.canonic,
+        )),
         Asked::Write(len) => {
             let value = fields::number(line, 2)?;
             let outcome = compact_u64::encode(&mut buffer[..len], value);
-            let lent = Text {
-                bytes: &buffer[..len],
-            };
+            let lent = Text::first(buffer, len);
             Answer::Written { outcome, lent }
         }
         Asked::Length => {

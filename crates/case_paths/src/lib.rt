@@ -126,9 +126,7 @@ fn answer<'a>(
             let path = fields::path(line, usize::from(i))?;
             let lent = &mut buffer[..len];
             let outcome = encode(encoding, lent, &path.flat, &reference.flat);
-            let lent = Text {
-                bytes: &buffer[..len],
-            };
+            let lent = Text::first(buffer, len);
             Answer::Written { outcome, lent }
         }
         Asked::Length => {

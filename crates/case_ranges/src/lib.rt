@@ -67,9 +67,7 @@ pub fn range<'a>(line: &[u8], buffer: &'a mut Buffer) -> Option<Answer<'a>>
                 range.range(),
                 reference.range(),
             );
-            let lent = Text {
-                bytes: &buffer[..len],
-            };
+            let lent = Text::first(buffer, len);
             Answer::Written { outcome, lent }
         }
         Asked::Length => {

@@ -22,13 +22,12 @@ impl Bytes {
         &self.bytes[..self.len]
     }
 
-    // A copy at the start of a buffer.
+    // A copy that lies in a buffer.
     pub fn copy_to<'a>(&self, buffer: &'a mut Buffer) -> Text<'a>
         ensures { text_of result ≡ bytes_of self.now }
     {
-        let bytes = &mut buffer[..self.len];
-        bytes.copy_from_slice(self.as_slice());
-        Text { bytes }
+        buffer[..self.len].copy_from_slice(self.as_slice());
+        Text::first(buffer, self.len)
     }
 }
 
@@ -37,4 +36,18 @@ impl Bytes {
 pub struct Text<'a> {
     pub bytes: &'a [u8],
     ghost few: { length bytes.now ≤ max_bytes },
+}
+
+impl<'a> Text<'a> {
+    ghost use Rattle.std.specs.Prelude.{◌≡◌, take};
+    ghost use Rattle.case_text.specs.Bytes.{text_of};
+
+    // The first bytes of a buffer.
+    pub fn first(buffer: &'a Buffer, len: usize) -> Text<'a>
+        ensures { text_of result ≡ take len buffer.now }
+    {
+        Text {
+            bytes: &buffer[..len.min(MAX_BYTES)],
+        }
+    }
 }
