@@ -171,8 +171,10 @@ fn fill_big_endian(buffer: &mut [u8], n: usize, value: u64)
     ensures { buffer.new ≡ over (big_endian n value) buffer.old }
 {
     let mut x = value;
-    for k in 0..n {
-        buffer[n - 1 - k] = (x % 256) as u8;
+    let mut at = n;
+    for _ in 0..n {
+        at -= 1;
+        buffer[at] = (x % 256) as u8;
         x /= 256;
     }
 }
