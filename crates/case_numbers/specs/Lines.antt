@@ -4,7 +4,6 @@ use Rattle.codec.specs.Format.{allowed, put_answer, put_buffer}
 use Rattle.compact_u64.specs.Number.{min_tag, number_bytes, read_number, read_standalone, standalone}
 use Rattle.codec.specs.Bytes.{same_bytes}
 use Rattle.text.specs.Decimal.{decimal_text}
-use Rattle.case_text.specs.Limits.{max_bytes}
 use Rattle.case_text.specs.Texts.{six, ok_text, read_text, written_number_text}
 use Rattle.case_text.specs.Fields.{field, decimal_field, on_field}
 use Rattle.case_text.specs.Asking.{Request, read, write, measure, asking}
@@ -30,7 +29,7 @@ number_text w v measure = ok_text (length (number_bytes w v))
 
 -- ---- the two kinds
 abbrev pub tagged_line : List ℕ → List ℕ
-tagged_line line = on_field (width_of (field 2 line)) (λ w. on_field (decimal_field 3 line) (λ v. on_field (asking max_bytes 4 4 line) (number_text w v)))
+tagged_line line = on_field (width_of (field 2 line)) (λ w. on_field (decimal_field 3 line) (λ v. on_field (asking 4 4 line) (number_text w v)))
 
 abbrev pub standalone_line : List ℕ → List ℕ
 standalone_line line = record_line decimal_field decimal_text read_standalone standalone 2 3 line

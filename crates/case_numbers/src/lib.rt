@@ -11,10 +11,10 @@ ghost use Rattle.compact_u64.specs.Number.{min_tag, number_bytes};
 ghost use Rattle.case_text.specs.Texts.{read_text, written_number_text};
 ghost use Rattle.case_text.specs.Limits.{max_bytes};
 ghost use Rattle.case_text.specs.Fields.{on_field};
-ghost use Rattle.case_text.specs.Answers.{answer_text};
+ghost use Rattle.case_text.specs.Answers.{answer_text, answer_in_text};
 ghost use Rattle.case_numbers.specs.Lines.{width_of, tagged_line, standalone_line};
 
-use case_text::{Answer, Asked, Buffer, Text, fields};
+use case_text::{Answer, AnswerIn, AskedIn, Buffer, MAX_BYTES, Text, fields};
 use codec::{DecodeError, Decoded};
 use compact_u64::TagWidth;
 
@@ -30,40 +30,47 @@ fn width(field: &[u8]) -> Option<TagWidth>
 }
 
 // Writes a number into a lent buffer; its tag is told too.
-fn write<'a>(lent: &'a mut [u8], width: TagWidth, value: u64) -> Answer<'a>
+fn write<'a>(lent: &'a mut [u8], width: TagWidth, value: u64) -> AnswerIn<'a>
     requires { length lent.old ≤ max_bytes }
-    ensures { answer_text result ≡ written_number_text (put_answer allowed (number_bytes (bits width) value) (length lent.old)) (min_tag (bits width) value) (put_buffer allowed (number_bytes (bits width) value) lent.old) }
+    ensures { answer_in_text result ≡ written_number_text (put_answer allowed (number_bytes (bits width) value) (length lent.old)) (min_tag (bits width) value) (put_buffer allowed (number_bytes (bits width) value) lent.old) }
 {
     let outcome = compact_u64::relative_encode(lent, width, value);
     let lent = Text { bytes: lent };
     match outcome {
-        Ok(len) => Answer::WrittenNumber {
+        Ok(len) => AnswerIn::WrittenNumber {
             len,
             tag: compact_u64::min_tag(width, value),
             lent,
         },
-        Err(_) => Answer::Written { outcome, lent },
+        Err(_) => AnswerIn::Written { outcome, lent },
     }
 }
 
 // What reading a number answers.
-fn read(number: Result<Decoded<u64>, DecodeError>) -> Answer<'static>
-    ensures { answer_text result ≡ read_text decimal_text (answer_of number) }
+fn read(number: Result<Decoded<u64>, DecodeError>) -> AnswerIn<'static>
+    ensures { answer_in_text result ≡ read_text decimal_text (answer_of number) }
 {
     match number {
-        Ok(number) => Answer::Number(number),
-        Err(error) => Answer::NotRead(error),
+        Ok(number) => AnswerIn::Number(number),
+        Err(error) => AnswerIn::NotRead(error),
     }
 }
 
 // Answers a line of a number after its tag. The tag stands where a number to write or measure does.
-pub fn number<'a>(line: &[u8], buffer: &'a mut Buffer) -> Option<Answer<'a>>
+pub fn number(line: &[u8]) -> Option<Answer>
     ensures { on_field result answer_text ≡ tagged_line line.now }
+{
+    Some(number_in(line, &mut [0; MAX_BYTES])?.into_owned())
+}
+
+// The same in a lent buffer.
+pub fn number_in<'a>(line: &[u8], buffer: &'a mut Buffer) -> Option<AnswerIn<'a>>
+    ensures { on_field result answer_in_text ≡ tagged_line line.now }
 {
     let width = width(fields::part(line, 2))?;
     let value = fields::number(line, 3)?;
-    match fields::asked(line, 4, 4, buffer)? {
-        Asked::Read(message) => {
+    match fields::asked_in(line, 4, 4, buffer)? {
+        AskedIn::Read(message) => {
             if width.tag_limit() <= value {
                 return None;
             }
@@ -75,33 +82,40 @@ pub fn number<'a>(line: &[u8], buffer: &'a mut Buffer) -> Option<Answer<'a>>
                 message.canonic,
             )))
         }
-        Asked::Write(len) => Some(write(&mut buffer[..len], width, value)),
-        Asked::Length => Some(Answer::Length(Ok(compact_u64::relative_len_of_encoding(
+        AskedIn::Write(len) => Some(write(&mut buffer[..len], width, value)),
+        AskedIn::Length => Some(AnswerIn::Length(Ok(compact_u64::relative_len_of_encoding(
             width, value,
         )))),
     }
 }
 
 // Answers a line of a number that stands alone.
-#[tactic(auto, unfolding(codec::specs::Format::length_answer))]
-pub fn standalone<'a>(line: &[u8], buffer: &'a mut Buffer) -> Option<Answer<'a>>
+pub fn standalone(line: &[u8]) -> Option<Answer>
     ensures { on_field result answer_text ≡ standalone_line line.now }
 {
-    Some(match fields::asked(line, 2, 3, buffer)? {
-        Asked::Read(message) => read(compact_u64::decode(
+    Some(standalone_in(line, &mut [0; MAX_BYTES])?.into_owned())
+}
+
+// The same in a lent buffer.
+#[tactic(auto, unfolding(codec::specs::Format::length_answer))]
+pub fn standalone_in<'a>(line: &[u8], buffer: &'a mut Buffer) -> Option<AnswerIn<'a>>
+    ensures { on_field result answer_in_text ≡ standalone_line line.now }
+{
+    Some(match fields::asked_in(line, 2, 3, buffer)? {
+        AskedIn::Read(message) => read(compact_u64::decode(
             message.bytes_in(buffer),
             message.start,
             message.canonic,
         )),
-        Asked::Write(len) => {
+        AskedIn::Write(len) => {
             let value = fields::number(line, 2)?;
             let outcome = compact_u64::encode(&mut buffer[..len], value);
             let lent = Text::first(buffer, len);
-            Answer::Written { outcome, lent }
+            AnswerIn::Written { outcome, lent }
         }
-        Asked::Length => {
+        AskedIn::Length => {
             let value = fields::number(line, 2)?;
-            Answer::Length(Ok(compact_u64::len_of_encoding(value)))
+            AnswerIn::Length(Ok(compact_u64::len_of_encoding(value)))
         }
     })
 }

@@ -8,13 +8,13 @@ ghost use Rattle.codec.specs.Format.{length_answer, WritesInto};
 ghost use Rattle.path.specs.Record.{path_from};
 ghost use Rattle.path.specs.Flat.{path_in};
 ghost use Rattle.path_text.specs.PathText.{path_text_of};
-ghost use Rattle.case_text.specs.Bytes.{bytes_of, rest_of};
+ghost use Rattle.case_text.specs.Bytes.{bytes_of, rest_in};
 ghost use Rattle.case_text.specs.Texts.{read_text};
 ghost use Rattle.case_text.specs.Fields.{on_field};
-ghost use Rattle.case_text.specs.Answers.{answer_text};
+ghost use Rattle.case_text.specs.Answers.{answer_text, answer_in_text};
 ghost use Rattle.case_paths.specs.Lines.{encoding_reader, encoding_format, encoding_line, plain_line, relative_line};
 
-use case_text::{Answer, Asked, Buffer, Bytes, MAX_BYTES, Message, Text, fields};
+use case_text::{Answer, AnswerIn, AskedIn, Buffer, Bytes, MAX_BYTES, MessageIn, Text, fields};
 use codec::{DecodeError, EncodeError};
 use path::Path;
 use text::Writer;
@@ -31,12 +31,12 @@ pub enum Encoding {
 
 fn decode(
     encoding: Encoding,
-    message: Message,
+    message: MessageIn,
     buffer: &[u8],
     reference: &[u8],
     out: &mut [u8; path::lent::SIZE],
 ) -> Result<usize, DecodeError>
-    ensures { Gives (path_from []) result (path_in out.new) (encoding_reader encoding (path_in reference.now) message.canonic (rest_of message buffer.now)) }
+    ensures { Gives (path_from []) result (path_in out.new) (encoding_reader encoding (path_in reference.now) message.canonic (rest_in message buffer.now)) }
 {
     let canonic = message.canonic;
     let start = message.start;
@@ -93,19 +93,19 @@ fn print(path: &[u8]) -> Bytes
 // Reads a path from a message, and prints it.
 fn read<'a>(
     encoding: Encoding,
-    message: Message,
+    message: MessageIn,
     reference: &[u8],
     buffer: &'a mut Buffer,
-) -> Answer<'a>
-    ensures { answer_text result ≡ read_text path_text_of (encoding_reader encoding (path_in reference.now) message.canonic (rest_of message buffer.old)) }
+) -> AnswerIn<'a>
+    ensures { answer_in_text result ≡ read_text path_text_of (encoding_reader encoding (path_in reference.now) message.canonic (rest_in message buffer.old)) }
 {
     let mut path = [0u8; path::lent::SIZE];
     match decode(encoding, message, buffer, reference, &mut path) {
-        Ok(consumed) => Answer::Read {
+        Ok(consumed) => AnswerIn::Read {
             consumed,
             text: print(&path).copy_to(buffer),
         },
-        Err(error) => Answer::NotRead(error),
+        Err(error) => AnswerIn::NotRead(error),
     }
 }
 
@@ -116,36 +116,54 @@ fn answer<'a>(
     i: u8,
     reference: Path,
     buffer: &'a mut Buffer,
-) -> Option<Answer<'a>>
+) -> Option<AnswerIn<'a>>
     requires { i ≤ 3 }
-    ensures { on_field result answer_text ≡ encoding_line encoding (path_in reference.flat) i line.now }
+    ensures { on_field result answer_in_text ≡ encoding_line encoding (path_in reference.flat) i line.now }
 {
-    Some(match fields::asked(line, i, i + 1, buffer)? {
-        Asked::Read(message) => read(encoding, message, &reference.flat, buffer),
-        Asked::Write(len) => {
+    Some(match fields::asked_in(line, i, i + 1, buffer)? {
+        AskedIn::Read(message) => read(encoding, message, &reference.flat, buffer),
+        AskedIn::Write(len) => {
             let path = fields::path(line, usize::from(i))?;
             let lent = &mut buffer[..len];
             let outcome = encode(encoding, lent, &path.flat, &reference.flat);
             let lent = Text::first(buffer, len);
-            Answer::Written { outcome, lent }
+            AnswerIn::Written { outcome, lent }
         }
-        Asked::Length => {
+        AskedIn::Length => {
             let path = fields::path(line, usize::from(i))?;
-            Answer::Length(len_of_encoding(encoding, &path.flat, &reference.flat))
+            AnswerIn::Length(len_of_encoding(encoding, &path.flat, &reference.flat))
         }
     })
 }
 
 // Answers a line of a plain path.
-pub fn plain<'a>(line: &[u8], buffer: &'a mut Buffer) -> Option<Answer<'a>>
+pub fn plain(line: &[u8]) -> Option<Answer>
     ensures { on_field result answer_text ≡ plain_line line.now }
+{
+    Some(plain_in(line, &mut [0; MAX_BYTES])?.into_owned())
+}
+
+// The same in a lent buffer.
+pub fn plain_in<'a>(line: &[u8], buffer: &'a mut Buffer) -> Option<AnswerIn<'a>>
+    ensures { on_field result answer_in_text ≡ plain_line line.now }
 {
     answer(line, Encoding::Plain, 2, Path::new_empty(), buffer)
 }
 
 // Answers a line of a path against a reference, which stands before the other fields.
-pub fn relative<'a>(line: &[u8], encoding: Encoding, buffer: &'a mut Buffer) -> Option<Answer<'a>>
+pub fn relative(line: &[u8], encoding: Encoding) -> Option<Answer>
     ensures { on_field result answer_text ≡ relative_line encoding line.now }
+{
+    Some(relative_in(line, encoding, &mut [0; MAX_BYTES])?.into_owned())
+}
+
+// The same in a lent buffer.
+pub fn relative_in<'a>(
+    line: &[u8],
+    encoding: Encoding,
+    buffer: &'a mut Buffer,
+) -> Option<AnswerIn<'a>>
+    ensures { on_field result answer_in_text ≡ relative_line encoding line.now }
 {
     let reference = fields::path(line, 2)?;
     answer(line, encoding, 3, reference, buffer)

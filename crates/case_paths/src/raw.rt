@@ -8,10 +8,10 @@ ghost use Rattle.path.specs.Flat.{shorts, path_in};
 ghost use Rattle.path.specs.Puts.{Puts};
 ghost use Rattle.path_codec.specs.Plain.{plain_path};
 ghost use Rattle.case_text.specs.Fields.{on_field};
-ghost use Rattle.case_text.specs.Answers.{answer_text};
+ghost use Rattle.case_text.specs.Answers.{answer_text, answer_in_text};
 ghost use Rattle.case_paths.specs.Raw.{path_of, read_lengths, read_bytes, raw_line};
 
-use case_text::{Answer, fields};
+use case_text::{Answer, AnswerIn, fields};
 use codec::EncodeError;
 use path::Path;
 
@@ -87,8 +87,15 @@ fn raw_len(
 }
 
 // Answers a line of raw parts.
-pub fn raw(line: &[u8]) -> Option<Answer<'static>>
+pub fn raw(line: &[u8]) -> Option<Answer>
     ensures { on_field result answer_text ≡ raw_line line.now }
+{
+    Some(raw_in(line)?.into_owned())
+}
+
+// The same, as the other kinds answer in a lent buffer; it needs none.
+pub fn raw_in(line: &[u8]) -> Option<AnswerIn<'static>>
+    ensures { on_field result answer_in_text ≡ raw_line line.now }
 {
     if fields::count(line) != 4 {
         return None;
@@ -96,5 +103,5 @@ pub fn raw(line: &[u8]) -> Option<Answer<'static>>
     let count = fields::number(line, 1)? as usize;
     let lengths = read_lengths(fields::part(line, 2))?;
     let bytes = read_bytes(fields::part(line, 3))?;
-    Some(Answer::Length(raw_len(&bytes, &lengths, count)))
+    Some(AnswerIn::Length(raw_len(&bytes, &lengths, count)))
 }

@@ -11,8 +11,11 @@ use Rattle.case_text.specs.Texts.{after_tab}
 use Rattle.case_text.specs.Answers.{PutsText, PutsWithin}
 
 -- ---- how long texts are at most
-pub hex_few : (t : Text) → length (hex_text (text_of t)) ≤ 2 * max_bytes
-hex_few t = rw hex_text_long (omega (arith, t.few))
+pub hex_few : (s : List ℕ) → length s ≤ max_bytes → length (hex_text s) ≤ 2 * max_bytes
+hex_few s few = rw hex_text_long (omega (arith, few))
+
+pub text_hex_few : (t : Text) → length (hex_text (text_of t)) ≤ 2 * max_bytes
+text_hex_few t = hex_few (text_of t) t.few
 
 -- ---- a put of the crate text, where there is room
 pub puts_fits : {at r : ℕ} (t : List ℕ) {l l' : List ℕ} → at + length t ≤ length l → (r ≡ place_after at t l) × (l' ≡ put_at at t l) → PutsText at t l l' r

@@ -2,7 +2,6 @@
 use Rattle.std.specs.Prelude.{List, Bool, true, false, ℕ, length, drop, Option}
 use Rattle.codec.specs.Format.{Format, write_answer, write_buffer, length_answer}
 use Rattle.codec.specs.Reader.{Reader}
-use Rattle.case_text.specs.Limits.{max_bytes}
 use Rattle.case_text.specs.Texts.{six, read_text, length_text, written_text}
 use Rattle.case_text.specs.Fields.{on_field}
 use Rattle.case_text.specs.Asking.{Request, read, write, measure, asking}
@@ -22,7 +21,7 @@ record_text print reader format value measure = measure_text format value
 
 -- start and message stand from the i-th field on; `parse` reads a value from there, and j is the field after it
 abbrev pub record_line : {A : Type 0} → (ℕ → List ℕ → Option A) → (A → List ℕ) → (Bool → Reader A) → Format A → ℕ → ℕ → List ℕ → List ℕ
-record_line parse print reader format i j line = on_field (asking max_bytes i j line) (record_text print reader format (parse i line))
+record_line parse print reader format i j line = on_field (asking i j line) (record_text print reader format (parse i line))
 
 -- the same of a record that is read leniently only
 abbrev pub lenient_text : {A : Type 0} → (A → List ℕ) → Reader A → Format A → Option A → Request → List ℕ
@@ -32,4 +31,4 @@ lenient_text print reader format value (write lent) = write_text format value le
 lenient_text print reader format value measure = measure_text format value
 
 abbrev pub lenient_line : {A : Type 0} → (ℕ → List ℕ → Option A) → (A → List ℕ) → Reader A → Format A → ℕ → ℕ → List ℕ → List ℕ
-lenient_line parse print reader format i j line = on_field (asking max_bytes i j line) (lenient_text print reader format (parse i line))
+lenient_line parse print reader format i j line = on_field (asking i j line) (lenient_text print reader format (parse i line))

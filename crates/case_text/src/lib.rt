@@ -41,15 +41,23 @@ pub fn first_bytes(array: [u8; MAX_BYTES], n: usize) -> Bytes
     }
 }
 
-// A message, the first `len` bytes of a buffer, that is read from a byte on, strictly or not.
+// A message that is read from a byte on, strictly or not.
 #[derive(Clone, Copy)]
 pub struct Message {
+    pub canonic: bool,
+    pub start: usize,
+    pub bytes: Bytes,
+}
+
+// The same that is the first `len` bytes of a lent buffer.
+#[derive(Clone, Copy)]
+pub struct MessageIn {
     pub canonic: bool,
     pub start: usize,
     pub len: usize,
 }
 
-impl Message {
+impl MessageIn {
     ghost use Rattle.std.specs.Prelude.{◌≡◌, take};
 
     // The message; all of the buffer where it has no more.
@@ -60,25 +68,54 @@ impl Message {
     }
 }
 
-// What a line asks for: a message read; a value written into a lent buffer of so many bytes, or measured.
+// What a line asks for: a message read; a value written into a lent buffer, or measured.
 #[derive(Clone, Copy)]
 pub enum Asked {
     Read(Message),
+    Write(Bytes),
+    Length,
+}
+
+// The same in a lent buffer: how many of its first bytes are the message, or the buffer to write into.
+#[derive(Clone, Copy)]
+pub enum AskedIn {
+    Read(MessageIn),
     Write(usize),
     Length,
 }
 
 // What answers a line that is in its form.
 #[derive(Clone, Copy)]
-pub enum Answer<'a> {
+pub enum Answer {
     // What was read, as it prints, and how many bytes it took.
+    Read {
+        consumed: usize,
+        text: Bytes,
+    },
+    Number(Decoded<u64>),
+    NotRead(DecodeError),
+    // What a writer answered, and the lent buffer afterwards; of a number that was written its tag too.
+    Written {
+        outcome: Result<usize, EncodeError>,
+        lent: Bytes,
+    },
+    WrittenNumber {
+        len: usize,
+        tag: u8,
+        lent: Bytes,
+    },
+    Length(Result<usize, EncodeError>),
+}
+
+// The same, its bytes in a lent buffer.
+#[derive(Clone, Copy)]
+pub enum AnswerIn<'a> {
     Read {
         consumed: usize,
         text: Text<'a>,
     },
     Number(Decoded<u64>),
     NotRead(DecodeError),
-    // What a writer answered, and the lent buffer afterwards; of a number that was written its tag too.
     Written {
         outcome: Result<usize, EncodeError>,
         lent: Text<'a>,
@@ -89,4 +126,62 @@ pub enum Answer<'a> {
         lent: Text<'a>,
     },
     Length(Result<usize, EncodeError>),
+}
+
+impl Answer {
+    ghost use Rattle.std.specs.Prelude.{◌≡◌};
+    ghost use Rattle.case_text.specs.Answers.{answer_text, answer_in_text};
+
+    // The same, its bytes lent.
+    pub fn lent(&self) -> AnswerIn<'_>
+        ensures { answer_in_text result ≡ answer_text self.now }
+    {
+        match self {
+            Answer::Read { consumed, text } => AnswerIn::Read {
+                consumed: *consumed,
+                text: text.text(),
+            },
+            Answer::Number(number) => AnswerIn::Number(*number),
+            Answer::NotRead(error) => AnswerIn::NotRead(*error),
+            Answer::Written { outcome, lent } => AnswerIn::Written {
+                outcome: *outcome,
+                lent: lent.text(),
+            },
+            Answer::WrittenNumber { len, tag, lent } => AnswerIn::WrittenNumber {
+                len: *len,
+                tag: *tag,
+                lent: lent.text(),
+            },
+            Answer::Length(outcome) => AnswerIn::Length(*outcome),
+        }
+    }
+}
+
+impl<'a> AnswerIn<'a> {
+    ghost use Rattle.std.specs.Prelude.{◌≡◌};
+    ghost use Rattle.case_text.specs.Answers.{answer_text, answer_in_text};
+
+    // The same with a copy of its bytes.
+    pub fn into_owned(self) -> Answer
+        ensures { answer_text result ≡ answer_in_text self.entry }
+    {
+        match self {
+            AnswerIn::Read { consumed, text } => Answer::Read {
+                consumed,
+                text: text.to_bytes(),
+            },
+            AnswerIn::Number(number) => Answer::Number(number),
+            AnswerIn::NotRead(error) => Answer::NotRead(error),
+            AnswerIn::Written { outcome, lent } => Answer::Written {
+                outcome,
+                lent: lent.to_bytes(),
+            },
+            AnswerIn::WrittenNumber { len, tag, lent } => Answer::WrittenNumber {
+                len,
+                tag,
+                lent: lent.to_bytes(),
+            },
+            AnswerIn::Length(outcome) => Answer::Length(outcome),
+        }
+    }
 }

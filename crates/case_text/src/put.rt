@@ -8,9 +8,9 @@ ghost use Rattle.case_text.specs.Limits.{max_bytes, max_answer};
 ghost use Rattle.case_text.specs.Bytes.{text_of};
 ghost use Rattle.case_text.specs.Texts.{ok_text, no_text, after_tab, ended, length_text};
 ghost use Rattle.case_text.specs.Fields.{on_field};
-ghost use Rattle.case_text.specs.Answers.{answer_text, Puts, Answers};
+ghost use Rattle.case_text.specs.Answers.{answer_text, answer_in_text, Puts, Answers};
 
-use crate::{Answer, MAX_ANSWER, Text};
+use crate::{Answer, AnswerIn, MAX_ANSWER, Text};
 use codec::EncodeError;
 use text::Writer;
 
@@ -75,43 +75,54 @@ fn tab_bytes(text: &mut Writer<'_>, value: &Text<'_>)
 }
 
 // An answer, without the line's end.
-fn unended(text: &mut Writer<'_>, answer: Answer<'_>)
+fn unended(text: &mut Writer<'_>, answer: AnswerIn<'_>)
     requires { text.old.at + max_answer ≤ length text.old.out.now }
-    ensures put { Puts (answer_text answer.entry) text.old text.new × (text.new.at + 1 ≤ text.old.at + max_answer) }
+    ensures put { Puts (answer_in_text answer.entry) text.old text.new × (text.new.at + 1 ≤ text.old.at + max_answer) }
     ensures same { Keeps text.old text.new }
 {
     match answer {
-        Answer::Read {
+        AnswerIn::Read {
             consumed,
             text: value,
         } => {
             ok(text, consumed);
             tab_bytes(text, &value);
         }
-        Answer::Number(number) => {
+        AnswerIn::Number(number) => {
             ok(text, number.consumed);
             worded(text, b"\t", number.value);
         }
-        Answer::NotRead(error) => no(text, u8::from(error)),
-        Answer::Written {
+        AnswerIn::NotRead(error) => no(text, u8::from(error)),
+        AnswerIn::Written {
             outcome: written,
             lent,
         } => {
             outcome(text, written);
             tab_hex(text, &lent);
         }
-        Answer::WrittenNumber { len, tag, lent } => {
+        AnswerIn::WrittenNumber { len, tag, lent } => {
             ok(text, len);
             worded(text, b"\t", u64::from(tag));
             tab_hex(text, &lent);
         }
-        Answer::Length(written) => outcome(text, written),
+        AnswerIn::Length(written) => outcome(text, written),
     }
 }
 
 // Puts the answer to a line, 6 for one that is not in its form; where fewer than MAX_ANSWER bytes are free, nothing changes.
-pub fn answer(text: &mut Writer<'_>, answer: Option<Answer<'_>>)
-    ensures put { Answers (ended (on_field answer.entry answer_text)) text.old text.new }
+pub fn answer(text: &mut Writer<'_>, answer: Option<Answer>)
+    ensures put { Answers (ended (on_field answer answer_text)) text.old text.new }
+    ensures same { Keeps text.old text.new }
+{
+    match &answer {
+        Some(answer) => answer_in(text, Some(answer.lent())),
+        None => answer_in(text, None),
+    }
+}
+
+// The same of an answer whose bytes lie in a lent buffer.
+pub fn answer_in(text: &mut Writer<'_>, answer: Option<AnswerIn<'_>>)
+    ensures put { Answers (ended (on_field answer.entry answer_in_text)) text.old text.new }
     ensures same { Keeps text.old text.new }
 {
     if text.free() < MAX_ANSWER {

@@ -22,6 +22,15 @@ impl Bytes {
         &self.bytes[..self.len]
     }
 
+    // The same as a text that is lent.
+    pub fn text(&self) -> Text<'_>
+        ensures { text_of result ≡ bytes_of self.now }
+    {
+        Text {
+            bytes: self.as_slice(),
+        }
+    }
+
     // A copy that lies in a buffer.
     pub fn copy_to<'a>(&self, buffer: &'a mut Buffer) -> Text<'a>
         ensures { text_of result ≡ bytes_of self.now }
@@ -40,7 +49,17 @@ pub struct Text<'a> {
 
 impl<'a> Text<'a> {
     ghost use Rattle.std.specs.Prelude.{◌≡◌, take};
-    ghost use Rattle.case_text.specs.Bytes.{text_of};
+    ghost use Rattle.case_text.specs.Bytes.{bytes_of, text_of};
+
+    // A copy of its own.
+    pub fn to_bytes(&self) -> Bytes
+        ensures { bytes_of result ≡ text_of self.now }
+    {
+        let len = self.bytes.len();
+        let mut bytes = [0u8; MAX_BYTES];
+        bytes[..len].copy_from_slice(self.bytes);
+        Bytes { bytes, len }
+    }
 
     // The first bytes of a buffer.
     pub fn first(buffer: &'a Buffer, len: usize) -> Text<'a>

@@ -61,12 +61,15 @@ area_stores s long b w = go (option_marked 32 s && times_marked (drop area_times
     go true e f = fields (and_left (option_marked 32 s) (times_marked (drop area_times_start s)) e) (and_right (option_marked 32 s) (times_marked (drop area_times_start s)) e)
     go false e f = absurd (unmarked (drop 33 s) f)
 
+-- the path of an area that is marked
+pub area_path : (s : List ℕ) → area_marked s ≡ true → path_in (drop 33 s) ≡ path_if (area_marked s) (drop 33 s)
+unfolding path_in
+area_path s m = rw m
+
 -- an area that is marked, by its head and the record of its path
 pub area_lent : (s p : List ℕ) → (p ≡ take path_size (drop 33 s)) × (length p ≡ path_size) → area_marked s ≡ true → area_with (head_of (area_in s)) (path_in p) ≡ area_in s
-unfolding area_in path_in
-area_lent s p e m =
-    let path : path_in p ≡ path_if (area_marked s) (drop 33 s) = path_within_lem p (drop 33 s) e ∙ rw m in
-    ap (area_with (head_of (area_in s))) path
+unfolding area_in
+area_lent s p e m = ap (area_with (head_of (area_in s))) (path_within_lem p (drop 33 s) e ∙ area_path s m)
 
 -- an area whose marks are none is not well formed
 pub area_unmarked : (s : List ℕ) → area_marked s ≡ false → well_formed_area (area_in s) ≡ false

@@ -1,6 +1,6 @@
 -- Parts that may be missing, as flat bytes: there and back.
-use Rattle.codec.proofs.Prelude.{◌≡◌, refl, sym, ap, List, [], ◌∷◌, ◌++◌, Bool, true, false, cond, ◌&&◌, ℕ, suc, ◌-◌, ◌≤◌, arith, eqb, length, take, drop, replicate, length-replicate, length-take-le, take_at, eqb-true, true≢false}
-use Rattle.std.specs.Prelude.{Option, Some, None}
+use Rattle.codec.proofs.Prelude.{◌≡◌, refl, sym, ap, List, [], ◌∷◌, ◌++◌, Bool, true, false, cond, ◌&&◌, ℕ, suc, ◌-◌, ◌≤◌, arith, eqb, get_or, length, take, drop, replicate, length-replicate, length-take-le, take_at, eqb-true, true≢false}
+use Rattle.std.specs.Prelude.{Option, Some, None, option_map}
 use Rattle.path.specs.Record.{all_at_most}
 use Rattle.path.proofs.Lists.{all_zeros, zero_rest}
 use Rattle.flat.specs.Optional.{option_flat, option_marked, option_in}
@@ -33,3 +33,12 @@ module _ {A : Type 0} (size : ℕ) (flat : A → List ℕ) (load : List ℕ → 
           let z : replicate size 0 ≡ take size s = rw long at (zero_rest 0 (take size s) n) in
           rw (eqb-true x 1 q) (ap (λ (l : List ℕ). 1 ∷ l) z)
       go false false p q n = absurd (true≢false (sym n))
+
+-- a part is what its bytes load as
+pub option_mapped : {A B : Type 0} (f : A → B) (load : List ℕ → A) (whole : List ℕ → B) (l : List ℕ) → f (load (drop 1 l)) ≡ whole (drop 1 l)
+    → option_map f (option_in load l) ≡ option_in whole l
+option_mapped f load whole l e = go (eqb (get_or l 0 0) 1)
+  where
+    go : (b : Bool) → option_map f (cond b None (Some (load (drop 1 l)))) ≡ cond b None (Some (whole (drop 1 l)))
+    go true = refl
+    go false = ap Some e

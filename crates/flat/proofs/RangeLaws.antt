@@ -134,11 +134,16 @@ range_stores s long b w = go (range_marked s) refl (and_left (well_formed (range
     go true e f = fields (marks s e)
     go false e f = absurd (unmarked (drop 65 s) f)
 
+-- the first path of a 3d range that is marked
+pub range_path : (s : List ℕ) → range_marked s ≡ true → path_in (drop 65 s) ≡ path_if (range_marked s) (drop 65 s)
+unfolding path_in
+range_path s m = rw m
+
 -- a 3d range that is marked, by its head and the records of its paths
 pub range_lent : (s p q : List ℕ) → (p ≡ take path_size (drop 65 s)) × (length p ≡ path_size) → (q ≡ take path_size (drop range_path_end s)) × (length q ≡ path_size) → range_marked s ≡ true → range_with (head_of (range_in s)) (path_in p) (path_in q) ≡ range_in s
-unfolding range_in path_in
+unfolding range_in
 range_lent s p q e f m =
-    let start : path_in p ≡ path_if (range_marked s) (drop 65 s) = path_within_lem p (drop 65 s) e ∙ rw m in
+    let start : path_in p ≡ path_if (range_marked s) (drop 65 s) = path_within_lem p (drop 65 s) e ∙ range_path s m in
     let end : path_in q ≡ path_in (drop 1 (drop range_path_open s)) = path_within_lem q (drop range_path_end s) f ∙ ap path_in (sym (drop-drop 1 range_path_open s)) in
     λ i. record { subspaces = subspaces_in s; paths = record { start = start i; end = named (eqb (get_or (drop range_path_open s) 0 0) 1) end i }; times = times_in (drop range_times_start s) }
   where

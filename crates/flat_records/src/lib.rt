@@ -11,6 +11,8 @@ ghost use Rattle.flat.specs.Optional.{option_flat, option_marked, option_in};
 pub mod area_record;
 pub mod entry_record;
 pub mod range_record;
+#[cfg(test)]
+mod tests;
 mod times;
 
 // What follows the first `n` bytes.

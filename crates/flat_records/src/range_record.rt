@@ -95,3 +95,19 @@ pub fn store(
     crate::put(&mut flat[PATH_END..], end);
     crate::times::put_times(&mut flat[TIMES..], head.times);
 }
+
+// Stores a 3d range by its head and the records of its paths, zeros beside an open end, whatever path is given there.
+pub fn store_range(
+    flat: &mut [u8; SIZE],
+    head: Range3dHead,
+    start: &[u8; path::lent::SIZE],
+    end: &[u8; path::lent::SIZE],
+)
+    ensures { flat.new ≡ range_flat (range_with head (path_in start.now) (path_in end.now)) }
+{
+    if head.end_open {
+        store(flat, head, start, &[0; path::lent::SIZE]);
+    } else {
+        store(flat, head, start, end);
+    }
+}

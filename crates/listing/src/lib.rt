@@ -5,35 +5,35 @@
 ghost use Rattle.std.specs.Prelude.{◌≡◌};
 ghost use Rattle.text.specs.Writer.{Keeps};
 ghost use Rattle.case_text.specs.Fields.{on_field};
-ghost use Rattle.case_text.specs.Answers.{answer_text, Answers};
+ghost use Rattle.case_text.specs.Answers.{answer_in_text, Answers};
 ghost use Rattle.listing.specs.Lines.{read_line, line_answer, answer_to};
 
-use case_text::{Answer, Buffer, MAX_BYTES, Message, Op, fields, put};
+use case_text::{AnswerIn, Buffer, MAX_BYTES, MessageIn, Op, fields, put};
 use text::Writer;
 
 // The longest line, its newline not counted.
 pub const MAX_LINE: usize = 4096;
 
 // Reads the area of a line in one of the modes.
-fn read_line<'a>(line: &[u8], canonic: bool, buffer: &'a mut Buffer) -> Option<Answer<'a>>
-    ensures { on_field result answer_text ≡ read_line canonic line.now }
+fn read_line<'a>(line: &[u8], canonic: bool, buffer: &'a mut Buffer) -> Option<AnswerIn<'a>>
+    ensures { on_field result answer_in_text ≡ read_line canonic line.now }
 {
     if fields::count(line) != 6 {
         return None;
     }
     let reference = area_text::read_area(line, 1)?;
-    let len = fields::hex(line, 5, buffer)?;
-    let message = Message {
+    let len = fields::hex_in(line, 5, buffer)?;
+    let message = MessageIn {
         canonic,
         start: 0,
         len,
     };
-    Some(case_areas::read(message, reference.area(), buffer))
+    Some(case_areas::read_in(message, reference.area(), buffer))
 }
 
 // What a line is answered.
-fn line_answer<'a>(line: &[u8], buffer: &'a mut Buffer) -> Option<Answer<'a>>
-    ensures { on_field result answer_text ≡ line_answer line.now }
+fn line_answer<'a>(line: &[u8], buffer: &'a mut Buffer) -> Option<AnswerIn<'a>>
+    ensures { on_field result answer_in_text ≡ line_answer line.now }
 {
     if MAX_LINE < line.len() {
         return None;
@@ -52,5 +52,5 @@ pub fn answer(line: &[u8], text: &mut Writer<'_>)
     ensures same { Keeps text.old text.new }
 {
     let mut buffer = [0u8; MAX_BYTES];
-    put::answer(text, line_answer(line, &mut buffer));
+    put::answer_in(text, line_answer(line, &mut buffer));
 }

@@ -1,6 +1,6 @@
 use Rattle.std.proofs.Common.{◌≡◌, length, arith}
 use Rattle.case_text.proofs.HexFields.{hex_taken, hex_inside}
-use Rattle.case_text.proofs.fields.hex.Goals as goal
+use Rattle.case_text.proofs.fields.hex_in.Goals as goal
 
 pub returns-clause-said : goal.returns-clause-said
 returns-clause-said c =

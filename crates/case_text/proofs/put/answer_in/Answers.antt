@@ -1,6 +1,6 @@
 use Rattle.std.proofs.Common.{[], ◌∷◌, arith}
 use Rattle.case_text.proofs.Puts.{puts_fits, puts_then, within_fits}
-use Rattle.case_text.proofs.put.answer.Goals as goal
+use Rattle.case_text.proofs.put.answer_in.Goals as goal
 
 pub returns-in-Some-clause-put : goal.returns-in-Some-clause-put
 returns-in-Some-clause-put c = rw c.in-Some.is (within_fits (puts_then (omega arith) c.unended.ensures.put.0 (puts_fits (10 ∷ []) (omega arith) c.put_bytes.ensures.put)) (omega arith))
